@@ -1,0 +1,4 @@
+pub mod Formulas
+pub mod Kept
+pub mod Literals
+pub mod Same

@@ -1,0 +1,17 @@
+// Logs of derived clauses, and the check that a log refutes a formula.
+#![tactic(auto)]
+
+mod assumptions;
+mod lifting;
+mod log;
+mod marks;
+mod part;
+mod refutation;
+#[cfg(test)]
+mod tests;
+
+pub use lifting::lift;
+pub use log::{Hints, Log, Step};
+pub use marks::{Sight, look};
+pub use part::Part;
+pub use refutation::{Scratch, Verdict, accepted_is_entailed, check};

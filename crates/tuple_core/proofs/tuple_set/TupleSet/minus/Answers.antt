@@ -1,0 +1,22 @@
+use Rattle.std.proofs.Common.{not, sym, ◌∙◌, Contains, arith}
+use Rattle.tuple_core.specs.Operators.{Pred}
+use Rattle.tuple_core.proofs.Steps.{row_arity, kept_more, kept_set, not_says}
+use Rattle.tuple_core.proofs.tuple_set.TupleSet.minus.Goals as goal
+
+pub insert_if-requires : goal.insert_if-requires
+insert_if-requires c =
+    row_arity c.rows-row-items.result.now c.args.self.now c.loop-row.row-index c.row-item.result c.rows-row-items.ensures.value c.rows-row-items.ensures.well c.loop-row-test.true c.row-item.is
+    ∙ sym (c.loop-row.invariant.arity ∙ c.new-out.ensures.arity ∙ c.arity.ensures.value)
+
+pub loop-row-preserved : goal.loop-row-preserved
+loop-row-preserved c =
+    let K : Pred = λ t. Contains c.args.other.now.rows t → ⊥ in
+    kept_more c.rows-row-items.result.now c.loop-row.row-index c.row-item.result K (not c.contains.result) c.new-out.result c.loop-row.out c.insert_if.new.self c.loop-row-test.true c.row-item.is
+    (not_says c.contains.result (Contains c.args.other.now.rows c.row-item.result) c.contains.ensures)
+    c.loop-row.invariant c.in_ok-insert_if.ensures
+
+pub returns : goal.returns
+returns c =
+    let K : Pred = λ t. Contains c.args.other.now.rows t → ⊥ in
+    kept_set c.rows-row-items.result.now c.args.self.now.rows c.loop-row.row-index K c.new-out.result c.loop-row.out c.args.self.now.arity (omega arith) c.rows-row-items.ensures.value c.new-out.ensures.rows
+    (c.new-out.ensures.arity ∙ c.arity.ensures.value) c.loop-row.invariant

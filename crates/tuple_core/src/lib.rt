@@ -1,0 +1,16 @@
+//! Atoms, tuples of one to three atoms, sorted sets of tuples with the relational operators, and names.
+#![tactic(auto)]
+
+pub mod atom;
+pub mod laws;
+pub mod name;
+#[cfg(test)]
+mod tests;
+pub mod tuple;
+pub mod tuple_set;
+
+pub use crate::atom::Atom;
+pub use crate::name::Name;
+pub use crate::tuple::Tuple;
+pub use crate::tuple_set::TupleSet;
+pub use std::alloc::AllocError as NoMemory;
