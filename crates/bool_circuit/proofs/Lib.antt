@@ -1,0 +1,4 @@
+pub mod Values
+pub mod Made
+pub mod Sizes
+pub mod CallerLemmas

@@ -1,0 +1,4 @@
+pub mod Fold
+pub mod Folding
+pub mod Network
+pub mod Value

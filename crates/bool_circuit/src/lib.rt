@@ -1,0 +1,14 @@
+//! Circuits of boolean gates over numbered inputs, which share equal gates and fold trivial ones.
+#![tactic(auto)]
+
+mod circuit;
+mod eval;
+mod fold;
+mod shape;
+
+pub use circuit::{Circuit, MOST_NODES};
+pub use shape::{Node, Shape};
+pub use std::alloc::AllocError as NoMemory;
+
+#[cfg(test)]
+mod tests;
