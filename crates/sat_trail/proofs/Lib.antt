@@ -1,0 +1,3 @@
+pub mod Learned
+pub mod Limits
+pub mod Trails

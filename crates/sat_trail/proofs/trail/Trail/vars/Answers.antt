@@ -1,0 +1,4 @@
+use Rattle.sat_trail.proofs.trail.Trail.vars.Goals as goal
+
+pub returns-clause-clauses : goal.returns-clause-clauses
+returns-clause-clauses c = rw (← c.self.view_is) c.self.invariant.each

@@ -1,0 +1,6 @@
+pub mod Trailed
+pub mod Closed
+pub mod Found
+pub mod Kept
+pub mod Learnt
+pub mod Learning
