@@ -1,0 +1,267 @@
+-- What a descent comes to.
+use Rattle.std.proofs.Common.{◌≡◌, ◌<◌, ◌≤◌, ◌+◌, ◌-◌, ◌++◌, [], ◌∷◌, ◌⊎◌, ℕ, zero, suc, Bool, true, false, not, cond, Option, Some, None, List, length, get_or, take, All, arith, sym, ◌∙◌, ap, inl, inr, refl, subst, length-append}
+use Rattle.std.proofs.lemmas.Bool.{cases_lt, cases_eq, cases_Bool}
+use Rattle.std.proofs.lemmas.List.{get_or_default, take_all, take-append-le, get_or_append_left}
+use Rattle.std.proofs.Math.Seq.{get_or-append_seam, get_or-append_right}
+use Rattle.std.proofs.lemmas.List.Elements.{Contains-get_or, Contains-push_cases}
+use Rattle.std.specs.List.{Contains}
+use Rattle.std.specs.Option.{IsSome, is_some, unwrap_or}
+use Rattle.cnf_core.specs.declared.literal.Lit.{Lit}
+use Rattle.cnf_core.specs.Literal.{negation_of, IsClause, HasVarsUpTo}
+use Rattle.cnf_core.specs.Valuation.{literal_value, clause_value, value_of}
+use Rattle.refutation_check.specs.Chain.{IsFalsified, IsUnit, Refutes, Forces, Reaches, IsChain}
+use Rattle.refutation_check.specs.Assumed.{IsOpen}
+use Rattle.refutation_check.proofs.Chains.{names_all, names_one}
+use Rattle.refutation_check.proofs.Entailment.{lit_equal_or_not, false_clause}
+use Rattle.refutation_check.proofs.Sights.{lit_equal}
+use Rattle.sat_trail.specs.declared.trail.Assigned.{Assigned}
+use Rattle.sat_trail.specs.Trailed.{Trailed, IsTrail, IsValue, ForcesMore, falses_of, level_of}
+use Rattle.sat_trail.specs.Closed.{IsClosed, IsClosedBelow}
+use Rattle.sat_trail.specs.Learnt.{IsFlat, IsAbove}
+use Rattle.sat_trail.proofs.Learned.{level_before, decided_first, from_front, vars_differ}
+use Rattle.sat_core.specs.Answers.{IsModel}
+use Rattle.sat_core.specs.Search.{HasAllValues, AreValues, IsFull, IsStuck}
+
+not_cons : (y : Lit) (ys : List Lit) (x : Lit) → (y ≡ x → ⊥) → (Contains ys x → ⊥) → Contains (y ∷ ys) x → ⊥
+not_cons y ys x first rest (zero, h, e) = first e
+not_cons y ys x first rest (suc k, h, e) = rest (k, omega arith, e)
+
+-- a literal stands in a list or not
+pub contains_or_not : (xs : List Lit) (x : Lit) → Contains xs x ⊎ (Contains xs x → ⊥)
+contains_or_not [] x = inr (λ c. absurd (omega (arith, c.1)))
+contains_or_not (y ∷ ys) x =
+    elim (lit_equal_or_not y x) [
+      | inl e ↦ inl (0, omega arith, e)
+      | inr first ↦ elim (contains_or_not ys x) [
+        | inl c ↦ inl (suc c.0, omega (arith, c.1), c.2)
+        | inr rest ↦ inr (λ c. not_cons y ys x first rest c)
+      ]
+    ]
+
+module _ (clauses : List (List Lit)) (falses : List Lit) (closed : IsClosed clauses falses) where
+  -- what fewer false literals force is true already
+  forced_within : (fewer : List Lit) (hint : ℕ) (l : Lit) → ((k : Lit) → Contains fewer k → Contains falses k) → Forces clauses fewer hint l → Contains falses (negation_of l)
+  forced_within fewer hint l within f =
+      let here = names_all (λ c. (¬ IsFalsified (Contains falses) c) × ((l : Lit) → ¬ IsUnit (Contains falses) c l)) clauses hint f.clause closed f.named in
+      elim (contains_or_not falses (negation_of l)) [
+        | inl is_true ↦ is_true
+        | inr not_true ↦ elim (contains_or_not falses l) [
+          | inl is_false ↦ absurd (here.0 (λ k d h.
+              elim (lit_equal_or_not (get_or f.clause k d) l) [
+                | inl e ↦ subst (Contains falses) (sym e) is_false
+                | inr differ ↦ within _ (f.unit.others _ (Contains-get_or f.clause k d h) differ)
+              ]))
+          | inr not_false ↦ absurd (here.1 l (record { member = f.unit.member; not_false = not_false; not_true = not_true; others = λ other c differ. within other (f.unit.others other c differ) }))
+        ]
+      ]
+
+  reaches_within : (fewer : List Lit) (hints : List ℕ) (after : List Lit) → ((k : Lit) → Contains fewer k → Contains falses k) → Reaches clauses fewer hints after → (k : Lit) → Contains after k → Contains falses k
+  reaches_within fewer [] after within same = λ k c. within k (subst (λ (fs : List Lit). Contains fs k) same c)
+  reaches_within fewer (hint ∷ hints) after within (l, forces, rest) =
+      reaches_within (fewer ++ negation_of l ∷ []) hints after
+      (λ k c. elim (Contains-push_cases fewer (negation_of l) k c) [ inl old ↦ within k old | inr one ↦ subst (Contains falses) one (forced_within fewer hint l within forces) ]) rest
+
+  -- where nothing is left for propagation, no hints make the empty clause a chain
+  pub closed_no_chain : (hints : List ℕ) → IsChain clauses [] hints → ⊥
+  closed_no_chain hints chain =
+      let within = reaches_within [] chain.before chain.after (λ k c. absurd (omega (arith, c.1))) chain.reached in
+      let here = names_all (λ c. (¬ IsFalsified (Contains falses) c) × ((l : Lit) → ¬ IsUnit (Contains falses) c l)) clauses chain.last chain.refuted.clause closed chain.refuted.named in
+      here.0 (λ k d h. within _ (chain.refuted.falsified k d h))
+
+module _ (clauses : List (List Lit)) (xs : List Assigned) where
+  low_levels : IsTrail clauses xs → level_of xs ≡ 0 → (i : ℕ) (d : Assigned) → i < length xs → (get_or xs i d).level ≡ 0
+  low_levels trail zero_level i d h =
+      let up : (get_or xs i d).level ≤ level_of (take (length xs) xs) = level_before clauses xs trail (length xs) i d h (omega arith) in
+      let same : level_of (take (length xs) xs) ≡ level_of xs = ap level_of (take_all (length xs) xs (omega arith)) in
+      omega (arith, up, same, zero_level)
+
+  -- at level 0 nothing is decided
+  pub closed_below_none : IsTrail clauses xs → level_of xs ≡ 0 → IsClosedBelow clauses xs
+  closed_below_none trail zero_level i d h decided =
+      let low : (get_or xs i d).level ≡ 0 = low_levels trail zero_level i d h in
+      let up = (decided_first clauses xs trail i d [] [] h decided refl).0 in
+      absurd (omega (arith, low, up))
+
+  -- what is forced is no decision
+  pub closed_below_forced : (ys : List Assigned) → IsClosedBelow clauses xs → ForcesMore xs ys → IsClosedBelow clauses ys
+  closed_below_forced ys was forces =
+      subst (λ (zs : List Assigned). IsClosedBelow clauses zs) (sym forces.added) (λ i d h decided.
+      elim (cases_lt i (length xs)) [
+        | inl lt ↦
+            let front : take i (xs ++ forces.more) ≡ take i xs = take-append-le i xs forces.more (omega arith) in
+            let at : get_or (xs ++ forces.more) i d ≡ get_or xs i d = get_or_append_left xs forces.more d i lt in
+            subst (λ (zs : List Assigned). IsClosed clauses (falses_of zs)) (sym front) (was i d lt (ap (λ (a : Assigned). a.reason) (sym at) ∙ decided))
+        | inr ge ↦
+            let at : get_or (xs ++ forces.more) i d ≡ get_or forces.more (i - length xs) d = get_or-append_right xs forces.more i d ge in
+            let some = forces.forced (i - length xs) d (omega (arith, length-append xs forces.more)) in
+            absurd (some_not_none (get_or forces.more (i - length xs) d).reason some (ap (λ (a : Assigned). a.reason) (sym at) ∙ decided))
+      ])
+    where
+      some_not_none : (o : Option ℕ) → IsSome o → o ≡ None → ⊥
+      some_not_none None some none = cc
+      some_not_none (Some n) some none = cc
+
+  -- one more decision, where nothing is left for propagation
+  pub closed_below_decided : (a : Assigned) → IsClosedBelow clauses xs → IsClosed clauses (falses_of xs) → IsClosedBelow clauses (xs ++ a ∷ [])
+  closed_below_decided a was closed i d h decided =
+      elim (cases_lt i (length xs)) [
+        | inl lt ↦
+            let front : take i (xs ++ a ∷ []) ≡ take i xs = take-append-le i xs (a ∷ []) (omega arith) in
+            let at : get_or (xs ++ a ∷ []) i d ≡ get_or xs i d = get_or_append_left xs (a ∷ []) d i lt in
+            subst (λ (zs : List Assigned). IsClosed clauses (falses_of zs)) (sym front) (was i d lt (ap (λ (a : Assigned). a.reason) (sym at) ∙ decided))
+        | inr ge ↦
+            let front : take i (xs ++ a ∷ []) ≡ xs = take-append-le i xs (a ∷ []) (omega (arith, length-append xs (a ∷ []))) ∙ take_all i xs ge in
+            subst (λ (zs : List Assigned). IsClosed clauses (falses_of zs)) (sym front) closed
+      ]
+
+  module _ (trail : IsTrail clauses xs) (conflict : ℕ) (refuted : Refutes clauses (falses_of xs) conflict) where
+    -- a conflict at level 0
+    pub flat_at_zero : level_of xs ≡ 0 → IsFlat clauses xs conflict
+    flat_at_zero zero_level clause l j d named c h v = low_levels trail zero_level j d h
+
+    -- the literals of the clause before this one are of level 0
+    abbrev AreLow : ℕ → Type 0
+    AreLow n = (j : ℕ) (e : Lit) → j < n → (k : ℕ) × (k < length xs) × ((d : Assigned) → negation_of (get_or xs k d).lit ≡ get_or refuted.clause j e) × ((d : Assigned) → (get_or xs k d).level ≡ 0)
+
+    low_or_above : (n : ℕ) → n ≤ length refuted.clause → AreLow n ⊎ IsAbove clauses xs conflict
+    low_or_above zero h = inl (λ j e m. absurd (omega arith))
+    low_or_above (suc n) h =
+        let dl : Lit = record { var = 0; positive = false } in
+        let da : Assigned = record { lit = dl; level = 0; reason = None } in
+        elim (low_or_above n (omega arith)) [
+          | inr above ↦ inr above
+          | inl low ↦
+              let l : Lit = get_or refuted.clause n dl in
+              let c : Contains (falses_of xs) l = refuted.falsified n dl (omega arith) in
+              let r = from_front xs (length xs) l (subst (λ (zs : List Assigned). Contains (falses_of zs) l) (sym (take_all (length xs) xs (omega arith))) c) in
+              elim (cases_eq (get_or xs r.0 da).level 0) [
+                | inl zero_level ↦ inl (λ j e m. elim (cases_lt j n) [
+                  | inl lt ↦ low j e lt
+                  | inr ge ↦
+                      let is : j ≡ n = omega arith in
+                      let at : get_or refuted.clause n dl ≡ get_or refuted.clause j e = get_or_default refuted.clause n dl e (omega arith) ∙ ap (λ (i : ℕ). get_or refuted.clause i e) (sym is) in
+                      (r.0, r.2, λ d. r.3 d ∙ at, λ d. ap (λ (a : Assigned). a.level) (get_or_default xs r.0 d da r.2) ∙ zero_level)
+                ])
+                | inr above ↦ inr (record {
+                  clause = refuted.clause;
+                  named = refuted.named;
+                  place = r.0;
+                  in_range = r.2;
+                  member = λ d. subst (Contains refuted.clause) (sym (r.3 d)) (Contains-get_or refuted.clause n dl (omega arith));
+                  above = λ d. let same : (get_or xs r.0 d).level ≡ (get_or xs r.0 da).level = ap (λ (a : Assigned). a.level) (get_or_default xs r.0 d da r.2) in omega (arith, same, above);
+                })
+              ]
+        ]
+
+    same_place : (j k : ℕ) (d : Assigned) → j < length xs → k < length xs → (get_or xs j d).lit.var ≡ (get_or xs k d).lit.var → j ≡ k
+    same_place j k d in_j in_k same =
+        elim (cases_lt j k) [
+          | inl less ↦ absurd (vars_differ clauses xs trail j k d d less in_k same)
+          | inr not_less ↦ elim (cases_lt k j) [
+            | inl more ↦ absurd (vars_differ clauses xs trail k j d d more in_j (sym same))
+            | inr not_more ↦ omega arith
+          ]
+        ]
+
+    -- a conflict is at level 0, or has a literal above
+    pub flat_or_above : IsFlat clauses xs conflict ⊎ IsAbove clauses xs conflict
+    flat_or_above =
+        elim (low_or_above (length refuted.clause) (omega arith)) [
+          | inr above ↦ inr above
+          | inl low ↦ inl (λ clause l j d named c h v.
+              let one : clause ≡ refuted.clause = names_one clauses conflict clause refuted.clause named refuted.named in
+              let there : Contains refuted.clause l = subst (λ (ls : List Lit). Contains ls l) one c in
+              let r = low there.0 l there.1 in
+              let w : (get_or xs r.0 d).lit.var ≡ l.var = ap (λ (x : Lit). x.var) (r.2 d ∙ there.2) in
+              let is : r.0 ≡ j = same_place r.0 j d r.1 h (w ∙ v) in
+              ap (λ (i : ℕ). (get_or xs i d).level) (sym is) ∙ r.3 d)
+        ]
+
+-- what the value of a variable says
+pub valued : (falses : List Lit) (var : ℕ) (o : Option Bool) (none : Bool) → IsValue falses var o → is_some o ≡ not none → none ≡ false → (value : Bool) × Contains falses (record { var = var; positive = not value })
+valued falses var None none is some unset = let e : false ≡ true = some ∙ ap not unset in cc
+valued falses var (Some value) none is some unset = (value, is)
+
+pub unvalued : (falses : List Lit) (var : ℕ) (o : Option Bool) (none : Bool) → IsValue falses var o → is_some o ≡ not none → none ≡ true → IsOpen falses (record { var = var; positive = false })
+unvalued falses var None none is some yes' = (is false, is true)
+unvalued falses var (Some value) none is some yes' = let e : true ≡ false = some ∙ ap not yes' in cc
+
+-- one more variable has a value
+pub all_values_more : (vars : ℕ) (falses : List Lit) → HasAllValues vars falses → (value : Bool) × Contains falses (record { var = vars + 1; positive = not value }) → HasAllValues (vars + 1) falses
+all_values_more vars falses was here var low high =
+    elim (cases_lt var (vars + 1)) [
+      | inl lt ↦ was var low (omega arith)
+      | inr ge ↦
+          let is : vars + 1 ≡ var = omega arith in
+          subst (λ (n : ℕ). (value : Bool) × Contains falses (record { var = n; positive = not value })) is here
+    ]
+
+pub value_false : (falses : List Lit) (var : ℕ) (o : Option Bool) → IsValue falses var o → (value : Bool) × Contains falses (record { var = var; positive = not value }) → Contains falses (record { var = var; positive = not (unwrap_or o false) })
+value_false falses var None is (value, there) = absurd (is (not value) there)
+value_false falses var (Some value) is has = is
+
+module _ (falses : List Lit) (values : List Bool) (are : AreValues falses values) where
+  value_not : (p b : Bool) → cond p b (not b) ≡ false → not b ≡ p
+  value_not true true h = cc
+  value_not true false h = refl
+  value_not false true h = refl
+  value_not false false h = cc
+
+  -- a literal that the values make false is false
+  false_literal : (l : Lit) → 1 ≤ l.var → l.var ≤ length values → literal_value (value_of values) l ≡ false → Contains falses l
+  false_literal l low high is =
+      let k : ℕ = l.var - 1 in
+      let there : Contains falses (record { var = k + 1; positive = not (get_or values k false) }) = are k false (omega arith) in
+      let sign : not (get_or values k false) ≡ l.positive = value_not l.positive (get_or values k false) is in
+      let var : k + 1 ≡ l.var = omega arith in
+      subst (Contains falses) (lit_equal (record { var = k + 1; positive = not (get_or values k false) }) l var sign) there
+
+  -- a clause that is not falsified is true
+  pub clause_true : (clause : List Lit) → IsClause clause → HasVarsUpTo (length values) clause → (¬ IsFalsified (Contains falses) clause) → clause_value (value_of values) clause ≡ true
+  clause_true clause variables within not_false =
+      elim (cases_Bool (clause_value (value_of values) clause)) [
+        | inl t ↦ t
+        | inr f ↦ absurd (not_false (λ k d h.
+            let l : Lit = get_or clause k d in
+            let var = variables.variables k d h in
+            false_literal l var.0 (within k d h) (false_clause (value_of values) clause f l (Contains-get_or clause k d h))))
+      ]
+
+-- where propagation finds a falsified clause
+pub stuck_after : (old new : Trailed) (conflict : ℕ) → IsClosedBelow old.clauses old.assigned → ((hints : List ℕ) → IsChain old.clauses [] hints → level_of old.assigned ≡ 0) →
+    new.clauses ≡ old.clauses → ForcesMore old.assigned new.assigned → level_of new.assigned ≡ level_of old.assigned → Refutes new.clauses (falses_of new.assigned) conflict → IsStuck new conflict
+stuck_after old new conflict closed direct same more level refuted =
+    record {
+      refuted = refuted;
+      closed_below = subst (λ (cs : List (List Lit)). IsClosedBelow cs new.assigned) (sym same) (closed_below_forced old.clauses old.assigned new.assigned closed more);
+      direct = λ hints chain. level ∙ direct hints (subst (λ (cs : List (List Lit)). IsChain cs [] hints) same chain);
+    }
+
+-- where propagation leaves nothing, and a variable is open
+pub decided_after : (old new : Trailed) (a : Assigned) → IsClosedBelow old.clauses old.assigned → new.clauses ≡ old.clauses → ForcesMore old.assigned new.assigned → IsClosed new.clauses (falses_of new.assigned) →
+    IsClosedBelow new.clauses (new.assigned ++ a ∷ []) × ((hints : List ℕ) → IsChain new.clauses [] hints → level_of (new.assigned ++ a ∷ []) ≡ 0)
+decided_after old new a closed_below same more closed = (
+  closed_below_decided new.clauses new.assigned a (subst (λ (cs : List (List Lit)). IsClosedBelow cs new.assigned) (sym same) (closed_below_forced old.clauses old.assigned new.assigned closed_below more)) closed,
+  λ hints chain. absurd (closed_no_chain new.clauses (falses_of new.assigned) closed hints chain),
+)
+
+-- the values of a full trail satisfy its clauses
+pub full_model : (trail : Trailed) (values : List Bool) → IsFull trail → All IsClause trail.clauses → All (HasVarsUpTo trail.vars) trail.clauses → length values ≡ trail.vars → AreValues (falses_of trail.assigned) values → IsModel trail.vars trail.clauses values
+full_model trail values full each within long are =
+    let within' : All (HasVarsUpTo (length values)) trail.clauses = subst (λ (n : ℕ). All (HasVarsUpTo n) trail.clauses) (sym long) within in
+    record {
+      enough = omega arith;
+      within = within';
+      satisfied = λ k d h. clause_true (falses_of trail.assigned) values are (get_or trail.clauses k d) (each k d h) (within' k d h) (full.closed k d h).0;
+    }
+
+-- one more value
+pub values_more : (falses : List Lit) (values : List Bool) (v : Bool) → AreValues falses values → Contains falses (record { var = length values + 1; positive = not v }) → AreValues falses (values ++ v ∷ [])
+values_more falses values v was here k d h =
+    elim (cases_lt k (length values)) [
+      | inl lt ↦ subst (λ (b : Bool). Contains falses (record { var = k + 1; positive = not b })) (sym (get_or_append_left values (v ∷ []) d k lt)) (was k d lt)
+      | inr ge ↦
+          let is : length values ≡ k = omega (arith, length-append values (v ∷ [])) in
+          let at : get_or (values ++ v ∷ []) k d ≡ v = ap (λ (i : ℕ). get_or (values ++ v ∷ []) i d) (sym is) ∙ get_or-append_seam values v [] d in
+          subst (λ (b : Bool). Contains falses (record { var = k + 1; positive = not b })) (sym at) (subst (λ (n : ℕ). Contains falses (record { var = n + 1; positive = not v })) is here)
+    ]

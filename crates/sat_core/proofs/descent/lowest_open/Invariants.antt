@@ -1,0 +1,6 @@
+use Rattle.sat_trail.specs.Trailed.{falses_of}
+use Rattle.sat_core.specs.Search.{HasAllValues}
+use Rattle.sat_core.proofs.descent.lowest_open.Given as goal
+
+abbrev pub invariant-loop-var : goal.invariant-loop-var
+invariant-loop-var l = HasAllValues l.var (falses_of l.trail.assigned)

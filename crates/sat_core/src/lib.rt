@@ -1,0 +1,9 @@
+// The search for a valuation, with a log of what was learnt on the way.
+#![tactic(auto)]
+
+mod descent;
+mod search;
+#[cfg(test)]
+mod tests;
+
+pub use search::{Answer, solve};
