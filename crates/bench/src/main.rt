@@ -1,0 +1,38 @@
+//! What the crates do in a second: each pair of words is the name of a measure and a count, and the line that is printed
+//! says what was made or found. Time it from outside; `docs/BENCHMARKS.md` says how.
+#![tactic(auto)]
+
+mod gates;
+mod refutations;
+
+use std::alloc::{AllocError, Global};
+use std::{env, io};
+
+fn main(rt: HostRuntime) -> io::Result<()> {
+    let mut words = Vec::new(rt.alloc());
+    for word in env::args(&rt)?.skip(1) {
+        words.push(word)?;
+    }
+    for pair in words.chunks_exact(2) {
+        let found = measured(rt.alloc(), pair[0].as_str(), pair[1].as_str())?;
+        match found {
+            Some(number) => println!(rt; "{} {} {number}", pair[0], pair[1])?,
+            None => println!(rt; "{} {} is no measure", pair[0], pair[1])?,
+        }
+    }
+    Ok(())
+}
+
+// The number that a measure gives at a count.
+fn measured(alloc: Global, name: &str, count: &str) -> Result<Option<u32>, AllocError> {
+    let Ok(count) = count.parse::<u32>() else {
+        return Ok(None);
+    };
+    if name == "gates" {
+        return Ok(Some(gates::made(alloc, count)?));
+    }
+    if name == "hints" {
+        return Ok(refutations::failing_step(alloc, count)?);
+    }
+    Ok(None)
+}

@@ -1,0 +1,2 @@
+pub mod SubsetLemmas
+pub mod Sifted

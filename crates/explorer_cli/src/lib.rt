@@ -1,0 +1,13 @@
+//! The top call of the program: it reads a script, runs its session and writes the replies.
+#![tactic(auto)]
+
+mod answer;
+mod lines;
+mod model_text;
+mod model_words;
+mod script;
+#[cfg(test)]
+mod tests;
+mod top_call;
+
+pub use crate::top_call::explore;

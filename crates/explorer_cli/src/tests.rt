@@ -1,0 +1,186 @@
+// The program over sources and sinks in memory: the expected lines were worked out by hand from what models mean.
+use crate::explore;
+use outside_io::{MemSink, MemSource};
+use std::alloc::{AllocError, Global};
+use std::test::Fail;
+
+// The status and the output for these words and this script, where the calls of these numbers fail.
+fn explored(
+    alloc: Global,
+    words: &[&str],
+    script: &[u8],
+    failing_reads: &[u32],
+    failing_writes: &[u32],
+) -> Result<(u8, String), AllocError> {
+    let mut owned = Vec::new(alloc);
+    for word in words {
+        owned.push(String::from_str(alloc, word)?)?;
+    }
+    let mut source = MemSource::new(
+        Vec::from_slice(alloc, script)?,
+        4,
+        Vec::from_slice(alloc, failing_reads)?,
+    );
+    let mut sink = MemSink::new(alloc, 10000, 10, Vec::from_slice(alloc, failing_writes)?)?;
+    let status = explore(alloc, &owned, &mut source, &mut sink);
+    Ok((status, String::from_utf8_lossy(alloc, sink.bytes())?))
+}
+
+// The status and the output for the word `run` and this script.
+fn run(alloc: Global, script: &str) -> Result<(u8, String), AllocError> {
+    explored(alloc, &["run"], script.as_bytes(), &[], &[])
+}
+
+#[test]
+fn shows_minimal_scenarios_and_then_an_end(rt: HostRuntime) -> Result<(), Fail> {
+    let rows = [
+        (
+            "sig A {} run { some A } for 2",
+            "scenario 1\nA = {A$0}\nend 1\n",
+        ),
+        ("sig A {} run {} for 2", "scenario 1\nA = {}\nend 1\n"),
+        ("sig A {} run { some A && no A } for 1", "end 0\nend 0\n"),
+        ("sig A {} run {some A} for 0", "end 0\nend 0\n"),
+        ("sig A {} run {} for 0", "scenario 1\nA = {}\nend 1\n"),
+        (
+            "sig A {} run { some A } for 12",
+            "scenario 1\nA = {A$0}\nend 1\n",
+        ),
+        (
+            "sig A {} sig B {} run { some A && one B } for 2",
+            "scenario 1\nA = {A$0}\nB = {B$0}\nend 1\n",
+        ),
+        (
+            "run { one B lone C\nno A } for 4 sig A, B, C {}",
+            "scenario 1\nA = {}\nB = {B$0}\nC = {}\nend 1\n",
+        ),
+        (
+            "sig A, B, C, D {} run { some D }",
+            "scenario 1\nA = {}\nB = {}\nC = {}\nD = {D$0}\nend 1\n",
+        ),
+        (
+            "sig A {} // one {\r\nsig B_2' -- two }\r\n{}/* three\r\n == ** */run { some\tA\r\n no B_2' } for 03",
+            "scenario 1\nA = {A$0}\nB_2' = {}\nend 1\n",
+        ),
+    ];
+    for (model, lines) in rows {
+        let script = format!(in rt.alloc(); "== model m\n{model}\n== session a m 1\nnext\nnext\n")?;
+        let (status, text) = run(rt.alloc(), &script)?;
+        let expected = format!(in rt.alloc(); "== a\n{lines}")?;
+        assert_eq!(rt; text.as_str(), expected.as_str(), "{model}");
+        assert_eq!(rt; status, 0, "{model}");
+    }
+    Ok(())
+}
+
+#[test]
+fn refuses_other_models(rt: HostRuntime) -> Result<(), Fail> {
+    let rows = [
+        "sig A {} run { some B }",
+        "sig A { f: set A } run {}",
+        "sig A {} sig A {} run {}",
+        "sig A {}",
+        "",
+        "sig A {} run {} run {}",
+        "sig A {} run {} for 13",
+        "sig A, B, C, D, E {} run {}",
+        "sig A, B {} run { some A and some B }",
+        "sig A, B {} run { some A & some B }",
+        "sig some {} run {}",
+        "sig A {} run {} /* open",
+        "sig A {} run {",
+    ];
+    for model in rows {
+        let script = format!(in rt.alloc(); "== model m\n{model}\n== session a m 1\nnext\n")?;
+        let (status, text) = run(rt.alloc(), &script)?;
+        assert_eq!(rt; text.as_str(), "fault model m not_yet\n", "{model}");
+        assert_eq!(rt; status, 4, "{model}");
+    }
+    Ok(())
+}
+
+#[test]
+fn reads_scripts(rt: HostRuntime) -> Result<(), Fail> {
+    let shown = "== s_1\nscenario 1\nA = {}\nend 1\n";
+    let refused = "fault script not_yet\n";
+    let rows = [
+        (" == model m\n", "== session s_1 m 1\n", 3, refused),
+        ("", "", 3, refused),
+        ("", "== session s_1 m 1\nnext\nnext", 0, shown),
+        (
+            "",
+            "==  session s_1 m 000001\r\nnext\r\n# all 3\n\n   \n next \n",
+            0,
+            shown,
+        ),
+        ("# m\n\n", "== session s_1 m 1\n", 0, "== s_1\n"),
+        ("", "== session s_1 m 2\nnext\n", 3, refused),
+        ("", "== session s_1 m 0000001\nnext\n", 3, refused),
+        ("", "== session s_1 n 1\nnext\n", 3, refused),
+        ("", "== session 1s m 1\nnext\n", 3, refused),
+        ("", "== session s_1 m 1\nall 3\n", 3, refused),
+        (
+            "",
+            "== session s_1 m 1\n== session s_2 m 1\nnext\n",
+            3,
+            refused,
+        ),
+        (
+            "",
+            "== model n\nsig A {} run {}\n== session s_1 m 1\nnext\n",
+            3,
+            refused,
+        ),
+        ("=== x\n", "== session s_1 m 1\nnext\n", 3, refused),
+        ("next\n", "== session s_1 m 1\nnext\n", 3, refused),
+    ];
+    for (before, after, status, expected) in rows {
+        let script = format!(in rt.alloc();
+            "{before}== model m\nsig A {{}} run {{}} for 2\n{after}"
+        )?;
+        let (found, text) = run(rt.alloc(), &script)?;
+        assert_eq!(rt; text.as_str(), expected, "{script}");
+        assert_eq!(rt; found, status, "{script}");
+    }
+    Ok(())
+}
+
+#[test]
+fn tells_what_failed(rt: HostRuntime) -> Result<(), Fail> {
+    let alloc = rt.alloc();
+    let script = b"== model m\nsig A {} run {} for 2\n== session a m 1\nnext\nnext\n";
+    let rows: [(&[&str], &[u32], &[u32], u8, &str); 7] = [
+        (&["run"], &[], &[], 0, "== a\nscenario 1\nA = {}\nend 1\n"),
+        (&["run"], &[2], &[], 5, ""),
+        (&["run"], &[], &[2], 6, "== a\nscena"),
+        (&[], &[1], &[], 2, "fault words\n"),
+        (&["run", "run"], &[1], &[], 2, "fault words\n"),
+        (&["walk"], &[1], &[], 2, "fault words\n"),
+        (&["walk"], &[1], &[2], 6, "fault word"),
+    ];
+    for (words, failing_reads, failing_writes, status, expected) in rows {
+        let (found, text) = explored(alloc, words, script, failing_reads, failing_writes)?;
+        assert_eq!(rt; text.as_str(), expected);
+        assert_eq!(rt; found, status);
+    }
+    Ok(())
+}
+
+#[test]
+fn reads_a_mebibyte(rt: HostRuntime) -> Result<(), Fail> {
+    let alloc = rt.alloc();
+    let mut script = Vec::from_slice(
+        alloc,
+        b"== model m\nsig A {} run {} for 2\n== session a m 1\nnext\n",
+    )?;
+    for (size, status, expected) in [
+        (1_048_576, 0, "== a\nscenario 1\nA = {}\n"),
+        (1_048_577, 3, "fault script not_yet\n"),
+    ] {
+        script.resize(size, b'#')?;
+        let (found, text) = explored(alloc, &["run"], &script, &[], &[])?;
+        assert_eq!(rt; text.as_str(), expected);
+        assert_eq!(rt; found, status);
+    }
+    Ok(())
+}

@@ -1,0 +1,83 @@
+// The top call.
+ghost use Rattle.std.specs.Prelude.{◌≡◌, ◌≢◌, ◌⊎◌, ◌↔◌, ◌++◌, ◌∷◌, [], ℕ, List, codes, drop, IsTrue};
+ghost use Rattle.outside_io.specs.Count.{Rose};
+ghost use Rattle.outside_io.specs.Front.{AppendsPart};
+ghost use Rattle.explorer_cli.specs.Outcome.{IsRunWord, IsStatus, IsWrittenUnder, IsPartOfAnswer};
+
+use crate::answer::answer_to;
+use crate::script::MOST_BYTES;
+use outside_io::{ReadFault, Sink, Source, read_all, write_all};
+use std::alloc::Global;
+
+/// Reads what the source has, does what the words say, writes to the sink, and gives the program's status:
+/// 0 done, 2 the words are refused, 3 the script is, 4 a model is, 5 the source failed, 6 the sink failed, 7 want of memory.
+/// The right words are the one word `run`. Where the source or the sink doesn't tell its bytes, the clauses about them
+/// say nothing.
+pub fn explore<S: Source, K: Sink>(
+    alloc: Global,
+    words: &[String],
+    source: &mut S,
+    sink: &mut K,
+) -> u8
+    ensures status { IsStatus result }
+
+    // The words are refused exactly where they aren't the one word `run`; then nothing is read.
+    ensures refused { (IsRunWord words.now → ⊥) → ((result ≡ 2) ⊎ (result ≡ 6)) × (source.new ≡ source.old) }
+    ensures taken { IsRunWord words.now → result ≢ 2 }
+    ensures words_line { K.tells sink.old → result ≡ 2 → K.written sink.new ≡ K.written sink.old ++ codes "fault words\n" }
+
+    // A fault comes only where the count of the object that was handed in rose; want of memory writes nothing.
+    ensures source_failed { result ≡ 5 → Rose (S.faults source.old) (S.faults source.new) × (sink.new ≡ sink.old) }
+    ensures sink_failed { result ≡ 6 → Rose (K.faults sink.old) (K.faults sink.new) }
+    ensures no_memory { result ≡ 7 → sink.new ≡ sink.old }
+
+    // All that the source had is read, and of more than a script may have just one byte beyond that.
+    ensures read { S.tells source.old → IsRunWord words.now → ((result ≡ 5) ⊎ (result ≡ 7)) ⊎ (S.left source.new ≡ drop 1048577 (S.left source.old)) }
+
+    // What is written is the answer, and under 6 a part of it.
+    ensures answer { K.tells sink.old → IsRunWord words.now → ((result ≡ 5) ⊎ (result ≡ 6) ⊎ (result ≡ 7)) ⊎ ((text : List ℕ) × IsWrittenUnder result text × (K.written sink.new ≡ K.written sink.old ++ text)) }
+    ensures part { K.tells sink.old → result ≡ 6 → IsPartOfAnswer (K.written sink.old) (K.written sink.new) }
+{
+    if !are_run(words) {
+        return finish(sink, 2, b"fault words\n");
+    }
+    match read_all(alloc, source, MOST_BYTES) {
+        Ok(bytes) => write_answer(alloc, &bytes, sink),
+        Err(ReadFault::Failed) => 5,
+        Err(ReadFault::Memory) => 7,
+    }
+}
+
+// Whether the words are the one word `run`.
+fn are_run(words: &[String]) -> bool
+    ensures { IsTrue result ↔ IsRunWord words.now }
+{
+    words.len() == 1 && words[0].as_str() == "run"
+}
+
+// Writes the answer to what was read.
+fn write_answer<K: Sink>(alloc: Global, bytes: &[u8], sink: &mut K) -> u8
+    ensures status { (result ≡ 0) ⊎ (result ≡ 3) ⊎ (result ≡ 4) ⊎ (result ≡ 6) ⊎ (result ≡ 7) }
+    ensures failed { result ≡ 6 → Rose (K.faults sink.old) (K.faults sink.new) }
+    ensures no_memory { result ≡ 7 → sink.new ≡ sink.old }
+    ensures answer { K.tells sink.old → ((result ≡ 6) ⊎ (result ≡ 7)) ⊎ ((text : List ℕ) × IsWrittenUnder result text × (K.written sink.new ≡ K.written sink.old ++ text)) }
+    ensures part { K.tells sink.old → result ≡ 6 → IsPartOfAnswer (K.written sink.old) (K.written sink.new) }
+{
+    match answer_to(alloc, bytes) {
+        Ok(answer) => finish(sink, answer.status, &answer.text),
+        Err(_) => 7,
+    }
+}
+
+// Writes a text, and gives its status, or 6 where that failed.
+fn finish<K: Sink>(sink: &mut K, status: u8, text: &[u8]) -> u8
+    ensures status { (result ≡ status) ⊎ (result ≡ 6) }
+    ensures failed { result ≡ 6 → (status ≡ 6) ⊎ Rose (K.faults sink.old) (K.faults sink.new) }
+    ensures all { K.tells sink.old → (result ≡ 6) ⊎ (K.written sink.new ≡ K.written sink.old ++ text.now) }
+    ensures part { K.tells sink.old → result ≡ 6 → (status ≡ 6) ⊎ AppendsPart (K.written sink.old) (K.written sink.new) text.now }
+{
+    match write_all(sink, text) {
+        Ok(()) => status,
+        Err(_) => 6,
+    }
+}

@@ -1,0 +1,17 @@
+pub mod Rising
+pub mod Lists
+pub mod Cells
+pub mod Open
+pub mod Same
+pub mod Images
+pub mod Tabled
+pub mod Valued
+pub mod Parts
+pub mod Counts
+pub mod Loops
+pub mod Congruence
+pub mod Told
+pub mod Earlier
+pub mod Moved
+pub mod Renamed
+pub mod Single

@@ -1,0 +1,8 @@
+use Rattle.std.proofs.Common.{Contains}
+use Rattle.rel_formula.specs.Instance.{structure_of}
+use Rattle.rel_formula.proofs.Moved.{value_moved}
+use Rattle.rel_formula.proofs.Renamed.{scenario_moved}
+use Rattle.rel_formula.proofs.laws.renaming_keeps_values.Goals as goal
+
+pub returns : goal.returns
+returns c = λ p f g well is keeps s t image env e row. value_moved (structure_of p (Contains s)) (structure_of p (Contains t)) f g (scenario_moved p f g is.there is.back keeps s t image) env e row

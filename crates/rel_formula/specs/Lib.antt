@@ -1,0 +1,9 @@
+pub mod Shape
+pub mod Bounds
+pub mod Kept
+pub mod Meaning
+pub mod Instance
+pub mod Order
+pub mod Renaming
+pub mod Tables
+pub mod Evaluation

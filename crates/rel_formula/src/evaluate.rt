@@ -1,0 +1,348 @@
+// The plain evaluator: the value of an expression and the truth of a formula, over the relations' sets of tuples.
+ghost use Rattle.std.specs.Prelude.{◌≡◌, ◌+◌, [], ◌∷◌, All, AllPairs, Any, Contains, List, length, map, reverse, IfOk, IsTrue, ◌↔◌};
+ghost use Rattle.rel_formula.specs.Meaning.{InValue, IsWithin, HasAtLeast, Truth};
+ghost use Rattle.rel_formula.specs.Evaluation.{IsTrueAt, AreNotBothTrue, AreEqual};
+ghost use Rattle.rel_formula.specs.Shape.{arity_of, IsWellFormed, IsProper};
+ghost use Rattle.rel_formula.specs.Tables.{arities, tabled};
+ghost use Rattle.tuple_core.specs.declared.atom.Atom.{Atom as AtomRecord};
+ghost use Rattle.tuple_core.specs.Rows.{IsSetOf};
+
+use crate::formula::{Expression, Formula};
+use std::alloc::{AllocError, Global};
+use tuple_core::{Atom, Tuple, TupleSet};
+
+/// The value of an expression, where `tables` are the relations' values, `universe` is that of the top-level signatures
+/// together, and `env` has the variables' atoms, the innermost last.
+pub fn value(
+    alloc: Global,
+    tables: &[TupleSet],
+    universe: &TupleSet,
+    env: &[Atom],
+    e: &Expression,
+) -> Result<TupleSet, AllocError>
+    requires formed { IsWellFormed (arities tables.now) (length env.now) e.now }
+    requires unary { universe.now.arity ≡ 1 }
+    ensures { IfOk result (λ v. IsSetOf v (arity_of (arities tables.now) e.now) (InValue (tabled tables.now universe.now) (reverse env.now) e.now)) }
+{
+    match e {
+        Expression::Rel(r) => Ok(tables[*r as usize].copy(alloc)?),
+        Expression::Var(i) => Ok(single(alloc, env[env.len() - 1 - *i as usize])?),
+        Expression::None => Ok(TupleSet::new(alloc, 1)),
+        Expression::Univ => Ok(universe.copy(alloc)?),
+        Expression::Iden => Ok(identity(alloc, universe)?),
+        Expression::Union(a, b) => {
+            let left = value(alloc, tables, universe, env, a)?;
+            let right = value(alloc, tables, universe, env, b)?;
+            Ok(left.union(alloc, &right)?)
+        }
+        Expression::Minus(a, b) => {
+            let left = value(alloc, tables, universe, env, a)?;
+            let right = value(alloc, tables, universe, env, b)?;
+            Ok(left.minus(alloc, &right)?)
+        }
+        Expression::Meet(a, b) => {
+            let left = value(alloc, tables, universe, env, a)?;
+            let right = value(alloc, tables, universe, env, b)?;
+            Ok(left.meet(alloc, &right)?)
+        }
+        Expression::Product(a, b) => {
+            let left = value(alloc, tables, universe, env, a)?;
+            let right = value(alloc, tables, universe, env, b)?;
+            Ok(left.product(alloc, &right)?)
+        }
+        Expression::Join(a, b) => {
+            let left = value(alloc, tables, universe, env, a)?;
+            let right = value(alloc, tables, universe, env, b)?;
+            Ok(left.join(alloc, &right)?)
+        }
+        Expression::Transpose(a) => {
+            let pairs = value(alloc, tables, universe, env, a)?;
+            Ok(pairs.transpose(alloc)?)
+        }
+        Expression::Closure(a) => {
+            let pairs = value(alloc, tables, universe, env, a)?;
+            Ok(pairs.closure(alloc)?)
+        }
+        Expression::Override(a, b) => {
+            let left = value(alloc, tables, universe, env, a)?;
+            let right = value(alloc, tables, universe, env, b)?;
+            Ok(left.over(alloc, &right)?)
+        }
+        Expression::Dom(s, a) => {
+            let atoms = value(alloc, tables, universe, env, s)?;
+            let tuples = value(alloc, tables, universe, env, a)?;
+            Ok(tuples.dom(alloc, &atoms)?)
+        }
+        Expression::Ran(a, s) => {
+            let tuples = value(alloc, tables, universe, env, a)?;
+            let atoms = value(alloc, tables, universe, env, s)?;
+            Ok(tuples.ran(alloc, &atoms)?)
+        }
+    }
+}
+
+// The set of this atom alone.
+fn single(alloc: Global, atom: Atom) -> Result<TupleSet, AllocError>
+    ensures { IfOk result (λ v. IsSetOf v 1 (λ t. t ≡ atom ∷ [])) }
+{
+    let mut set = TupleSet::new(alloc, 1);
+    set.insert(Tuple::single(atom))?;
+    Ok(set)
+}
+
+// Each atom of the universe beside itself.
+fn identity(alloc: Global, universe: &TupleSet) -> Result<TupleSet, AllocError>
+    requires { universe.now.arity ≡ 1 }
+    ensures { IfOk result (λ v. IsSetOf v 2 (λ t. (a : AtomRecord) × Contains universe.now.rows (a ∷ []) × (t ≡ a ∷ a ∷ []))) }
+{
+    let mut pairs = TupleSet::new(alloc, 2);
+    for row in universe.rows() {
+        let atom = row.first();
+        pairs.insert(Tuple::of(&[atom, atom]))?;
+    }
+    Ok(pairs)
+}
+
+/// Whether a formula is true, where `tables` are the relations' values, `universe` is that of the top-level signatures
+/// together, and `env` has the variables' atoms, the innermost last; `env` is as before in the end.
+#[cycle(truth)]
+pub fn truth(
+    alloc: Global,
+    tables: &[TupleSet],
+    universe: &TupleSet,
+    env: &mut Vec<Atom>,
+    f: &Formula,
+) -> Result<bool, AllocError>
+    requires proper { IsProper (arities tables.now) (length env.old.items) f.now }
+    requires unary { universe.now.arity ≡ 1 }
+    ensures truth { IfOk result (λ b. IsTrue b ↔ Truth (tabled tables.now universe.now) (reverse env.old.items) f.now) }
+    ensures env { IfOk result (λ _. env.new.items ≡ env.old.items) }
+{
+    match f {
+        Formula::In(a, b) => Ok(is_within(alloc, tables, universe, env.as_slice(), a, b)?),
+        Formula::Equal(a, b) => Ok(is_equal(alloc, tables, universe, env.as_slice(), a, b)?),
+        Formula::AtLeast(n, e) => Ok(has_at_least(alloc, tables, universe, env.as_slice(), *n, e)?),
+        Formula::Not(g) => {
+            let holds = truth(alloc, tables, universe, env, g)?;
+            Ok(!holds)
+        }
+        Formula::And(parts) => Ok(all_true(alloc, tables, universe, env, parts)?),
+        Formula::Or(parts) => Ok(any_true(alloc, tables, universe, env, parts)?),
+        Formula::All(e, g) => {
+            let domain = value(alloc, tables, universe, env.as_slice(), e)?;
+            Ok(true_for_all(alloc, tables, universe, env, domain.rows(), g)?)
+        }
+        Formula::Exists(e, g) => {
+            let domain = value(alloc, tables, universe, env.as_slice(), e)?;
+            Ok(true_for_some(alloc, tables, universe, env, domain.rows(), g)?)
+        }
+        Formula::Lone(e, g) => {
+            let domain = value(alloc, tables, universe, env.as_slice(), e)?;
+            Ok(true_for_at_most_one(alloc, tables, universe, env, domain.rows(), g)?)
+        }
+    }
+}
+
+// Whether each formula is true.
+#[cycle(truth)]
+fn all_true(
+    alloc: Global,
+    tables: &[TupleSet],
+    universe: &TupleSet,
+    env: &mut Vec<Atom>,
+    parts: &[Formula],
+) -> Result<bool, AllocError>
+    requires proper { All (IsProper (arities tables.now) (length env.old.items)) parts.now }
+    requires unary { universe.now.arity ≡ 1 }
+    ensures truth { IfOk result (λ b. IsTrue b ↔ All (Truth (tabled tables.now universe.now) (reverse env.old.items)) parts.now) }
+    ensures env { IfOk result (λ _. env.new.items ≡ env.old.items) }
+{
+    for part in parts {
+        let holds = truth(alloc, tables, universe, env, part)?;
+        if !holds {
+            return Ok(false);
+        }
+    }
+    Ok(true)
+}
+
+// Whether some formula is true.
+#[cycle(truth)]
+fn any_true(
+    alloc: Global,
+    tables: &[TupleSet],
+    universe: &TupleSet,
+    env: &mut Vec<Atom>,
+    parts: &[Formula],
+) -> Result<bool, AllocError>
+    requires proper { All (IsProper (arities tables.now) (length env.old.items)) parts.now }
+    requires unary { universe.now.arity ≡ 1 }
+    ensures truth { IfOk result (λ b. IsTrue b ↔ Any (Truth (tabled tables.now universe.now) (reverse env.old.items)) parts.now) }
+    ensures env { IfOk result (λ _. env.new.items ≡ env.old.items) }
+{
+    for part in parts {
+        let holds = truth(alloc, tables, universe, env, part)?;
+        if holds {
+            return Ok(true);
+        }
+    }
+    Ok(false)
+}
+
+// Whether the formula is true at the atom of each of these tuples.
+#[cycle(truth)]
+fn true_for_all(
+    alloc: Global,
+    tables: &[TupleSet],
+    universe: &TupleSet,
+    env: &mut Vec<Atom>,
+    rows: &[Tuple],
+    f: &Formula,
+) -> Result<bool, AllocError>
+    requires proper { IsProper (arities tables.now) (length env.old.items + 1) f.now }
+    requires unary { universe.now.arity ≡ 1 }
+    requires single { All (λ row. length row ≡ 1) rows.now }
+    ensures truth { IfOk result (λ b. IsTrue b ↔ All (IsTrueAt (tabled tables.now universe.now) (reverse env.old.items) f.now) rows.now) }
+    ensures env { IfOk result (λ _. env.new.items ≡ env.old.items) }
+{
+    for row in rows {
+        let holds = true_at(alloc, tables, universe, env, row, f)?;
+        if !holds {
+            return Ok(false);
+        }
+    }
+    Ok(true)
+}
+
+// Whether the formula is true at the atom of some of these tuples.
+#[cycle(truth)]
+fn true_for_some(
+    alloc: Global,
+    tables: &[TupleSet],
+    universe: &TupleSet,
+    env: &mut Vec<Atom>,
+    rows: &[Tuple],
+    f: &Formula,
+) -> Result<bool, AllocError>
+    requires proper { IsProper (arities tables.now) (length env.old.items + 1) f.now }
+    requires unary { universe.now.arity ≡ 1 }
+    requires single { All (λ row. length row ≡ 1) rows.now }
+    ensures truth { IfOk result (λ b. IsTrue b ↔ Any (IsTrueAt (tabled tables.now universe.now) (reverse env.old.items) f.now) rows.now) }
+    ensures env { IfOk result (λ _. env.new.items ≡ env.old.items) }
+{
+    for row in rows {
+        let holds = true_at(alloc, tables, universe, env, row, f)?;
+        if holds {
+            return Ok(true);
+        }
+    }
+    Ok(false)
+}
+
+// Whether the formula is true at the atoms of no two of these tuples.
+#[cycle(truth)]
+fn true_for_at_most_one(
+    alloc: Global,
+    tables: &[TupleSet],
+    universe: &TupleSet,
+    env: &mut Vec<Atom>,
+    rows: &[Tuple],
+    f: &Formula,
+) -> Result<bool, AllocError>
+    requires proper { IsProper (arities tables.now) (length env.old.items + 1) f.now }
+    requires unary { universe.now.arity ≡ 1 }
+    requires single { All (λ row. length row ≡ 1) rows.now }
+    ensures truth { IfOk result (λ b. IsTrue b ↔ AllPairs (AreNotBothTrue (tabled tables.now universe.now) (reverse env.old.items) f.now) rows.now) }
+    ensures env { IfOk result (λ _. env.new.items ≡ env.old.items) }
+{
+    let mut found = false;
+    for row in rows {
+        let holds = true_at(alloc, tables, universe, env, row, f)?;
+        if holds {
+            if found {
+                return Ok(false);
+            }
+            found = true;
+        }
+    }
+    Ok(true)
+}
+
+// Whether the formula is true where the innermost variable is the atom of this tuple.
+#[cycle(truth)]
+fn true_at(
+    alloc: Global,
+    tables: &[TupleSet],
+    universe: &TupleSet,
+    env: &mut Vec<Atom>,
+    row: &Tuple,
+    f: &Formula,
+) -> Result<bool, AllocError>
+    requires proper { IsProper (arities tables.now) (length env.old.items + 1) f.now }
+    requires unary { universe.now.arity ≡ 1 }
+    requires single { length row.now ≡ 1 }
+    ensures truth { IfOk result (λ b. IsTrue b ↔ IsTrueAt (tabled tables.now universe.now) (reverse env.old.items) f.now row.now) }
+    ensures env { IfOk result (λ _. env.new.items ≡ env.old.items) }
+{
+    env.push(row.first())?;
+    let holds = truth(alloc, tables, universe, env, f)?;
+    env.pop();
+    Ok(holds)
+}
+
+// Whether the value of the one expression is in that of the other.
+fn is_within(
+    alloc: Global,
+    tables: &[TupleSet],
+    universe: &TupleSet,
+    env: &[Atom],
+    a: &Expression,
+    b: &Expression,
+) -> Result<bool, AllocError>
+    requires left { IsWellFormed (arities tables.now) (length env.now) a.now }
+    requires right { IsWellFormed (arities tables.now) (length env.now) b.now }
+    requires unary { universe.now.arity ≡ 1 }
+    ensures { IfOk result (λ is. IsTrue is ↔ IsWithin (InValue (tabled tables.now universe.now) (reverse env.now) a.now) (InValue (tabled tables.now universe.now) (reverse env.now) b.now)) }
+{
+    let left = value(alloc, tables, universe, env, a)?;
+    let right = value(alloc, tables, universe, env, b)?;
+    Ok(left.is_subset(&right))
+}
+
+// Whether the two values have the same tuples.
+fn is_equal(
+    alloc: Global,
+    tables: &[TupleSet],
+    universe: &TupleSet,
+    env: &[Atom],
+    a: &Expression,
+    b: &Expression,
+) -> Result<bool, AllocError>
+    requires left { IsWellFormed (arities tables.now) (length env.now) a.now }
+    requires right { IsWellFormed (arities tables.now) (length env.now) b.now }
+    requires unary { universe.now.arity ≡ 1 }
+    ensures { IfOk result (λ is. IsTrue is ↔ AreEqual (InValue (tabled tables.now universe.now) (reverse env.now) a.now) (InValue (tabled tables.now universe.now) (reverse env.now) b.now)) }
+{
+    let left = value(alloc, tables, universe, env, a)?;
+    let right = value(alloc, tables, universe, env, b)?;
+    let within = left.is_subset(&right);
+    let around = right.is_subset(&left);
+    Ok(within && around)
+}
+
+// Whether the value has so many tuples or more.
+fn has_at_least(
+    alloc: Global,
+    tables: &[TupleSet],
+    universe: &TupleSet,
+    env: &[Atom],
+    n: u32,
+    e: &Expression,
+) -> Result<bool, AllocError>
+    requires formed { IsWellFormed (arities tables.now) (length env.now) e.now }
+    requires unary { universe.now.arity ≡ 1 }
+    ensures { IfOk result (λ is. IsTrue is ↔ HasAtLeast n (InValue (tabled tables.now universe.now) (reverse env.now) e.now)) }
+{
+    let set = value(alloc, tables, universe, env, e)?;
+    Ok(set.rows().len() >= n as usize)
+}

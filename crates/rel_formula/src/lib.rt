@@ -1,0 +1,19 @@
+//! Bounded relational problems: the kernel's expressions and formulas, relations between bounds, scenarios, and the
+//! evaluator that says whether a scenario is an instance.
+#![tactic(auto)]
+
+mod evaluate;
+pub mod formula;
+mod instance;
+pub mod laws;
+pub mod problem;
+pub mod scenario;
+pub mod tables;
+#[cfg(test)]
+mod tests;
+
+pub use crate::formula::{Expression, Formula};
+pub use crate::instance::holds;
+pub use crate::problem::{Cell, Problem, Relation};
+pub use crate::scenario::Scenario;
+pub use std::alloc::AllocError as NoMemory;

@@ -1,0 +1,196 @@
+// Problems: relations between bounds, their cells in order, and a formula about them.
+ghost use Rattle.std.specs.Prelude.{◌≡◌, ◌≢◌, ◌↔◌, ◌<◌, ◌≤◌, [], ◌∷◌, ◌++◌, ℕ, List, map, length, slice_get, Some, All, AllPairs, Contains, IfOk, IsTrue};
+ghost use Rattle.tuple_core.specs.Gains.{SomeGives};
+ghost use Rattle.tuple_core.specs.Rows.{IsSetOf, SetGains};
+ghost use Rattle.rel_formula.specs.Bounds.{Bounded, IsProblem, InUniverse, cells_of, cells_from, open_tuples, cell_of};
+
+use crate::formula::Formula;
+use std::alloc::{AllocError, Global};
+use std::marker::Model;
+use tuple_core::{Atom, Name, Tuple, TupleSet};
+
+/// A relation with the tuples that it has at least, and those that it has at most.
+#[derive(Drop)]
+pub struct Relation {
+    pub name: Name,
+    pub lower: TupleSet,
+    pub upper: TupleSet,
+}
+
+/// A relation, by its number, and a tuple that it may have and need not have.
+#[derive(Drop, PartialEq, Eq, PartialOrd, Ord)]
+pub struct Cell {
+    pub relation: u8,
+    pub tuple: Tuple,
+}
+
+/// Relations between bounds, those among them that are top-level signatures, and a formula.
+#[derive(Drop)]
+pub struct Problem {
+    relations: Vec<Relation>,
+    tops: Vec<u8>,
+    formula: Formula,
+    cells: Vec<Cell>,
+    atoms: TupleSet,
+}
+
+impl Model for Problem {
+    ghost use Rattle.rel_formula.specs.contracts.formula.Formula as formulas;
+    ghost use Rattle.std.specs.Coded.{codes};
+    ghost use Rattle.rel_formula.specs.Bounds.{Bounded};
+    ghost use Rattle.rel_formula.specs.Kept.{IsKept};
+
+    ghost Value = { Bounded };
+
+    ghost coded = { Prim.hlevel (codes, formulas.the_row.coded) };
+
+    ghost view = { λ p. record { relations = p.relations.items; tops = p.tops.items; formula = p.formula } };
+
+    ghost invariant = { λ p. IsKept (record { relations = p.relations.items; tops = p.tops.items; formula = p.formula }) p.cells.items p.atoms };
+}
+
+impl Problem {
+    /// The problem of these relations, the numbers of the top-level signatures among them, and this formula.
+    pub fn of(
+        alloc: Global,
+        relations: Vec<Relation>,
+        tops: Vec<u8>,
+        formula: Formula,
+    ) -> Result<Problem, AllocError>
+        requires { IsProblem (record { relations = relations.items; tops = tops.items; formula = formula }) }
+        ensures { IfOk result (λ p. p ≡ record { relations = relations.items; tops = tops.items; formula = formula }) }
+    {
+        let cells = all_cells(alloc, &relations)?;
+        let atoms = all_atoms(alloc, &relations)?;
+        Ok(Problem {
+            relations,
+            tops,
+            formula,
+            cells,
+            atoms,
+        })
+    }
+
+    /// The relations, in order.
+    pub fn relations(&self) -> &[Relation]
+        ensures value { result.now ≡ self.now.relations }
+        ensures well { IsProblem self.now }
+    {
+        self.relations.as_slice()
+    }
+
+    /// The numbers of the relations that are top-level signatures, in rising order.
+    pub fn tops(&self) -> &[u8]
+        ensures { result.now ≡ self.now.tops }
+    {
+        self.tops.as_slice()
+    }
+
+    /// The formula.
+    pub fn formula(&self) -> &Formula
+        ensures { result.now ≡ self.now.formula }
+    {
+        &self.formula
+    }
+
+    /// How many cells there are: at most 4,096.
+    pub fn cells(&self) -> u32
+        ensures value { result ≡ length (cells_of self.now) }
+        ensures few { result ≤ 4096 }
+    {
+        self.cells.len() as u32
+    }
+
+    /// All cells, in the order of their numbers.
+    pub fn all_cells(&self) -> &[Cell]
+        ensures { result.now ≡ cells_of self.now }
+    {
+        self.cells.as_slice()
+    }
+
+    /// The atoms, as a set of tuples of one atom each.
+    pub fn atoms(&self) -> &TupleSet
+        ensures value { IsSetOf result.now 1 (InUniverse self.now) }
+        ensures well { IsProblem self.now }
+    {
+        &self.atoms
+    }
+
+    /// The cell of a number, which is below `cells`.
+    pub fn cell(&self, number: u32) -> &Cell
+        requires { number < length (cells_of self.now) }
+        ensures { slice_get (cells_of self.now) number ≡ Some result.now }
+    {
+        &self.cells[number as usize]
+    }
+
+    /// The number of a cell, and `None` where the problem has no such cell.
+    pub fn number_of(&self, cell: &Cell) -> Option<u32>
+        ensures { (n : ℕ) → (result ≡ Some n) ↔ (slice_get (cells_of self.now) n ≡ Some cell.now) }
+    {
+        match self.cells.binary_search(cell) {
+            Ok(place) => Some(place as u32),
+            Err(_) => None,
+        }
+    }
+}
+
+// The cells of all relations.
+fn all_cells(alloc: Global, relations: &[Relation]) -> Result<Vec<Cell>, AllocError>
+    requires { length relations.now ≤ 128 }
+    ensures { IfOk result (λ cells. cells.items ≡ cells_from 0 relations.now) }
+{
+    let mut cells = Vec::new(alloc);
+    for (number, relation) in relations.iter().enumerate() {
+        add_cells(&mut cells, number as u8, relation)?;
+    }
+    Ok(cells)
+}
+
+// Adds the cells of one relation.
+fn add_cells(cells: &mut Vec<Cell>, number: u8, relation: &Relation) -> Result<(), AllocError>
+    ensures { IfOk result (λ _. cells.new.items ≡ cells.old.items ++ map (cell_of number) (open_tuples relation.now)) }
+{
+    for tuple in relation.upper.rows() {
+        if !relation.lower.contains(tuple) {
+            cells.push(Cell {
+                relation: number,
+                tuple: tuple.copy(),
+            })?;
+        }
+    }
+    Ok(())
+}
+
+// The atoms of all upper sets.
+fn all_atoms(alloc: Global, relations: &[Relation]) -> Result<TupleSet, AllocError>
+    ensures { IfOk result (λ atoms. IsSetOf atoms 1 (SomeGives relations.now (λ relation. SomeGives relation.upper.rows (λ row. SomeGives row (λ a t. t ≡ a ∷ []))))) }
+{
+    let mut atoms = TupleSet::new(alloc, 1);
+    for relation in relations {
+        add_atoms(&mut atoms, relation.upper.rows())?;
+    }
+    Ok(atoms)
+}
+
+// Adds the atoms of these tuples.
+fn add_atoms(atoms: &mut TupleSet, rows: &[Tuple]) -> Result<(), AllocError>
+    requires { atoms.old.arity ≡ 1 }
+    ensures { IfOk result (λ _. SetGains atoms.old atoms.new (SomeGives rows.now (λ row. SomeGives row (λ a t. t ≡ a ∷ [])))) }
+{
+    for row in rows {
+        add_row(atoms, row.atoms())?;
+    }
+    Ok(())
+}
+
+// Adds the atoms of one tuple.
+fn add_row(atoms: &mut TupleSet, row: &[Atom]) -> Result<(), AllocError>
+    requires { atoms.old.arity ≡ 1 }
+    ensures { IfOk result (λ _. SetGains atoms.old atoms.new (SomeGives row.now (λ a t. t ≡ a ∷ []))) }
+{
+    for atom in row {
+        atoms.insert(Tuple::single(*atom))?;
+    }
+    Ok(())
+}

@@ -1,0 +1,6 @@
+use Rattle.std.proofs.Common.{◌≡◌, ◌++◌, take, map, codes}
+use Rattle.script_text.specs.Lines.{tuple_text, separated}
+use Rattle.script_text.proofs.relation_lines.push_rows.Given as goal
+
+abbrev pub invariant-loop-place : goal.invariant-loop-place
+invariant-loop-place l = l.out.items ≡ l.fn.out.items ++ separated (codes ", ") (map (tuple_text l.fn.problem) (take l.place l.fn.rows))

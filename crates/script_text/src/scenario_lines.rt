@@ -1,0 +1,45 @@
+// The lines of a scenario.
+ghost use Rattle.std.specs.Prelude.{◌≡◌, ◌<◌, ◌++◌, ℕ, List, length, All, IfOk};
+ghost use Rattle.tuple_core.specs.Rows.{IsRows};
+ghost use Rattle.rel_formula.specs.Instance.{AreCells};
+ghost use Rattle.script_text.specs.Lines.{relation_lines};
+ghost use Rattle.script_text.specs.Replies.{IsScenarioText};
+
+use crate::relation_lines::push_relation;
+use rel_formula::tables::all_tables;
+use rel_formula::{Problem, Relation, Scenario};
+use std::alloc::{AllocError, Global};
+use tuple_core::TupleSet;
+
+/// Adds a line for each relation, with its value in the scenario, which is one of the problem's.
+pub fn push_scenario(
+    alloc: Global,
+    out: &mut Vec<u8>,
+    problem: &Problem,
+    scenario: &Scenario,
+) -> Result<(), AllocError>
+    requires { AreCells problem.now scenario.now }
+    ensures { IfOk result (λ _. (text : List ℕ) × IsScenarioText problem.now scenario.now text × (out.new.items ≡ out.old.items ++ text)) }
+{
+    let tables = all_tables(alloc, problem, scenario)?;
+    push_tables(out, problem, problem.relations(), &tables)?;
+    Ok(())
+}
+
+// Adds a line for each relation, with the tuples of the table of its place.
+fn push_tables(
+    out: &mut Vec<u8>,
+    problem: &Problem,
+    relations: &[Relation],
+    tables: &[TupleSet],
+) -> Result<(), AllocError>
+    requires count { length tables.now ≡ length relations.now }
+    requires tops { All (λ v. All (λ t. All (λ a. a.top < length problem.now.tops) t) v.rows) tables.now }
+    ensures lines { IfOk result (λ _. out.new.items ≡ out.old.items ++ relation_lines problem.now relations.now tables.now) }
+    ensures well { IfOk result (λ _. All IsRows tables.now) }
+{
+    for (number, relation) in relations.iter().enumerate() {
+        push_relation(out, problem, relation, tables[number].rows())?;
+    }
+    Ok(())
+}

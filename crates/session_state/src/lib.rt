@@ -1,0 +1,6 @@
+//! A session on one problem: its state is one of the session machine, and what it is asked for is a step of it.
+#![tactic(auto)]
+
+pub mod session;
+
+pub use crate::session::Session;

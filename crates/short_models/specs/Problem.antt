@@ -1,0 +1,86 @@
+-- The problem of a short model.
+use Rattle.std.specs.Prelude.{◌≡◌, ◌≢◌, ◌+◌, ◌*◌, ◌<◌, ◌≤◌, ℕ, zero, suc, List, [], ◌∷◌, ◌++◌, length, All, AllPairs}
+use Rattle.std.specs.List.{AllZip}
+use Rattle.tuple_core.specs.declared.atom.Atom.{Atom}
+use Rattle.rel_formula.specs.declared.problem.Relation.{Relation}
+use Rattle.rel_formula.specs.declared.formula.Expression.TheVariants.{Rel}
+use Rattle.rel_formula.specs.declared.formula.Formula.{Formula, AtLeast, Not', And', items-the_row-Formula}
+use Rattle.rel_formula.specs.Bounds.{Bounded}
+use Rattle.short_models.specs.declared.model.ShortModel.{ShortModel}
+use Rattle.short_models.specs.declared.model.Count.{Count}
+use Rattle.short_models.specs.declared.model.Multiplicity.{Multiplicity}
+use Rattle.short_models.specs.declared.model.Multiplicity.TheVariants.{Some, No, Lone, One}
+
+-- the names of the signatures, the formulas of the block, and the scope
+pub record Short : Type 0 where
+  pub signatures : List (List ℕ)
+  pub counts : List Count
+  pub scope : ℕ
+
+-- what a model says
+abbrev pub short_of : ShortModel → Short
+short_of model = record { signatures = model.signatures.items; counts = model.counts.items; scope = model.scope }
+
+-- no name stands twice, each formula is about a signature, and the problem has at most 12 cells
+pub record IsShort (m : Short) : Type 0 where
+  pub once : AllPairs (λ a b. a ≢ b) m.signatures
+  pub few : length m.signatures ≤ 128
+  pub counts : All (λ c. c.signature < length m.signatures) m.counts
+  pub scope : m.scope ≤ 32
+  pub cells : length m.signatures * m.scope ≤ 12
+
+-- the first n places of a signature, each as a tuple of one atom
+abbrev pub places : ℕ → ℕ → List (List Atom)
+places top zero = []
+places top (suc n) = places top n ++ (record { top = top; place = n } ∷ []) ∷ []
+
+-- a signature may have any of its places and need have none
+abbrev pub signature_of : ℕ → ℕ → List ℕ → Relation
+signature_of scope top name = record {
+  name = name;
+  lower = record { arity = 1; rows = [] };
+  upper = record { arity = 1; rows = places top scope };
+}
+
+-- signatures that are numbered from r on
+abbrev pub signatures_from : ℕ → ℕ → List (List ℕ) → List Relation
+signatures_from scope r [] = []
+signatures_from scope r (name ∷ names) = signature_of scope r name ∷ signatures_from scope (r + 1) names
+
+-- n numbers, from r on
+abbrev pub numbers_from : ℕ → ℕ → List ℕ
+numbers_from r zero = []
+numbers_from r (suc n) = r ∷ numbers_from (r + 1) n
+
+-- f says that the relation has n or more tuples, or that it hasn't
+abbrev pub SaysAtLeast : ℕ → ℕ → Formula → Type 0
+SaysAtLeast n r f = f ≡ AtLeast n (Rel r)
+
+abbrev pub SaysFewer : ℕ → ℕ → Formula → Type 0
+SaysFewer n r (Not' _ f) = SaysAtLeast n r f
+SaysFewer n r f = ⊥
+
+-- f is the conjunction of these formulas
+abbrev pub IsAndOf : List Formula → Formula → Type 0
+IsAndOf fs (And' _ row) = items-the_row-Formula _ row ≡ fs
+IsAndOf fs f = ⊥
+
+abbrev pub SaysExactly : ℕ → Formula → Type 0
+SaysExactly r f = (g : Formula) × (h : Formula) × SaysAtLeast 1 r g × SaysFewer 2 r h × IsAndOf (g ∷ h ∷ []) f
+
+-- what a multiplicity word says of a relation
+abbrev pub Says : Multiplicity → ℕ → Formula → Type 0
+Says Some r f = SaysAtLeast 1 r f
+Says No r f = SaysFewer 1 r f
+Says Lone r f = SaysFewer 2 r f
+Says One r f = SaysExactly r f
+
+-- the conjunction of the block's formulas, in order
+abbrev pub IsBlock : List Count → Formula → Type 0
+IsBlock counts f = (fs : List Formula) × AllZip (λ c g. Says c.multiplicity c.signature g) counts fs × IsAndOf fs f
+
+-- the problem of a short model: a relation for each signature, all of them top-level, and the block
+pub record IsProblemOf (m : Short) (p : Bounded) : Type 0 where
+  pub relations : p.relations ≡ signatures_from m.scope 0 m.signatures
+  pub tops : p.tops ≡ numbers_from 0 (length m.signatures)
+  pub formula : IsBlock m.counts p.formula
