@@ -1,0 +1,3 @@
+pub mod Script
+pub mod Front
+pub mod Read
