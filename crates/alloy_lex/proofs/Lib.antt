@@ -1,0 +1,9 @@
+pub mod Lengths
+pub mod Runs
+pub mod Fronts
+pub mod Turns
+pub mod Found
+pub mod Readings
+pub mod Slices
+pub mod Characters
+pub mod Exact

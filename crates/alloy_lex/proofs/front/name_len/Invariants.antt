@@ -1,0 +1,10 @@
+use Rattle.std.proofs.Common.{◌≡◌, ◌+◌, length}
+use Rattle.std.specs.List.{prefix_len}
+use Rattle.alloy_lex.specs.Fronts.{is_name_byte}
+use Rattle.alloy_lex.proofs.front.name_len.Given as goal
+
+abbrev pub invariant-each : goal.invariant-each
+invariant-each l = record { value : l.n + prefix_len is_name_byte l.rest ≡ prefix_len is_name_byte l.bytes; within : l.n + length l.rest ≡ length l.bytes }
+
+abbrev pub decreases-each : goal.decreases-each
+decreases-each l = length l.rest

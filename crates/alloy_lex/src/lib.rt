@@ -1,0 +1,13 @@
+//! From the text of a model to its tokens.
+#![tactic(auto)]
+
+mod front;
+pub mod laws;
+mod lexing;
+mod spelling;
+#[cfg(test)]
+mod tests;
+pub mod token;
+
+pub use crate::lexing::lex;
+pub use crate::token::{LexFault, Place, Text, Token, TokenKind};
