@@ -3,6 +3,7 @@
 
 pub mod bounds;
 pub mod kernel;
+pub mod laws;
 pub mod model;
 pub mod problem;
 #[cfg(test)]

@@ -1,3 +1,4 @@
 pub mod Words
 pub mod Nexts
 pub mod Split
+pub mod Sizes

@@ -1,6 +1,7 @@
 //! Short scripts: what a script of one model, one session and no command but `next` says, read from its bytes.
 #![tactic(auto)]
 
+pub mod laws;
 mod lines;
 mod script;
 #[cfg(test)]

@@ -1,5 +1,5 @@
 // Short scripts: one model, one session on its first command, and no command but `next`.
-ghost use Rattle.std.specs.Prelude.{◌≡◌, ◌↔◌, ◌∷◌, [], codes, IsTrue, ◌<◌, ◌≤◌, ℕ, List, map, length, take, slice_index_or, string_bytes, All, IfOk, MatchOption};
+ghost use Rattle.std.specs.Prelude.{◌≡◌, ◌↔◌, ◌∷◌, [], codes, IsTrue, ◌<◌, ◌≤◌, ℕ, List, map, length, take, slice_index_or, string_bytes, All, IfOk, IfSome, MatchOption};
 ghost use Rattle.short_scripts.specs.Script.{Script, IsDirective, HasNoEffect, IsModelLine, IsSessionLine, IsNext, Asks, AreNexts, IsAfterModel, AreLinesOf, IsShortScript, IsName, IsOne, text_of, words_in};
 ghost use Rattle.short_scripts.specs.Front.{IsFront};
 ghost use Rattle.short_scripts.specs.Read.{script_of, after_of};
@@ -36,7 +36,8 @@ struct AfterModel {
 
 /// Reads a short script; `None` where the bytes aren't one. At most 1,048,576 bytes and 4,096 `next` are one.
 pub fn read_script(alloc: Global, bytes: &[u8]) -> Result<Option<ShortScript>, AllocError>
-    ensures { IfOk result (λ found. MatchOption found ((s : Script) → IsShortScript bytes.now s → ⊥) (λ script. IsShortScript bytes.now (script_of script))) }
+    ensures script { IfOk result (λ found. MatchOption found ((s : Script) → IsShortScript bytes.now s → ⊥) (λ script. IsShortScript bytes.now (script_of script))) }
+    ensures small { IfOk result (λ found. IfSome found (λ script. length (string_bytes script.text) ≤ 1048576)) }
 {
     if bytes.len() > MOST_BYTES {
         return Ok(None);

@@ -1,3 +1,6 @@
 pub mod First
 pub mod Neighbours
 pub mod SwapLemmas
+pub mod Weights
+pub mod Tried
+pub mod Descent

@@ -1,1 +1,2 @@
 pub mod Swaps
+pub mod DueRenamings
