@@ -1,0 +1,430 @@
+// Which token may begin or go on with what.
+ghost use Rattle.std.specs.Prelude.{◌≡◌, ◌<◌, ◌≤◌, length, IfOk};
+ghost use Rattle.alloy_syntax.specs.Nodes.{in_braces, in_brackets_too, begins_primary, is_tightening, begins_tight, begins_sum, is_counting, begins_node, begins, may_be_block, is_comprehension, is_listing, is_inner, stop_at, is_constant, constant_of, tightening_of, begins_step, begins_link, operator_of, begins_arrow, counting_of, is_plain_comparison, begins_comparison, comparison_of, comparing_at, negated_comparing, begins_declaration, quantifier_of, is_single, after_disj};
+ghost use Rattle.alloy_syntax.specs.View.{view};
+ghost use Rattle.alloy_cursor.specs.Gives.{Gives};
+
+use alloy_cursor::cursor::{after, colon_after_names, is_mark, next_is, place_at};
+use alloy_cursor::halt::{Halt, Tokens};
+use alloy_syntax::Class;
+use alloy_syntax::reading::{Around, Form, Inside, Level};
+use alloy_syntax::tree::{Comparing, Comparison, Constant, Node, Operator, Prefix, Quantifier};
+
+#[tactic(auto, unfolding(alloy_syntax::specs::Nodes::in_braces))]
+fn in_braces(around: Around) -> bool
+    ensures { result ≡ in_braces around }
+{
+    match around {
+        Around::Braces => true,
+        Around::Brackets => false,
+        Around::Parens => false,
+    }
+}
+
+#[tactic(auto, unfolding(alloy_syntax::specs::Nodes::in_brackets_too))]
+fn in_brackets(around: Around) -> bool
+    ensures { result ≡ in_brackets_too around }
+{
+    match around {
+        Around::Braces => false,
+        Around::Brackets => true,
+        Around::Parens => false,
+    }
+}
+
+#[tactic(auto, unfolding(alloy_syntax::specs::Nodes::begins_primary))]
+fn begins_primary(tokens: Tokens) -> bool
+    ensures { result ≡ begins_primary tokens.now }
+{
+    next_is(tokens, Class::Name)
+        || next_is(tokens, Class::Number)
+        || next_is(tokens, Class::None)
+        || next_is(tokens, Class::Univ)
+        || next_is(tokens, Class::Iden)
+        || next_is(tokens, Class::LeftParen)
+        || next_is(tokens, Class::LeftBrace)
+}
+
+/// `~`, `^` or `*`.
+#[tactic(auto, unfolding(alloy_syntax::specs::Nodes::is_tightening))]
+pub fn is_tightening(tokens: Tokens) -> bool
+    ensures { result ≡ is_tightening tokens.now }
+{
+    next_is(tokens, Class::Tilde) || next_is(tokens, Class::Caret) || next_is(tokens, Class::Star)
+}
+
+#[tactic(auto, unfolding(alloy_syntax::specs::Nodes::begins_tight))]
+fn begins_tight(tokens: Tokens) -> bool
+    ensures { result ≡ begins_tight tokens.now }
+{
+    is_tightening(tokens) || begins_primary(tokens)
+}
+
+#[tactic(auto, unfolding(alloy_syntax::specs::Nodes::begins_sum))]
+fn begins_sum(tokens: Tokens) -> bool
+    ensures { result ≡ begins_sum tokens.now }
+{
+    next_is(tokens, Class::Hash) || begins_tight(tokens)
+}
+
+/// `some`, `no`, `lone` or `one`.
+#[tactic(auto, unfolding(alloy_syntax::specs::Nodes::is_counting))]
+pub fn is_counting(tokens: Tokens) -> bool
+    ensures { result ≡ is_counting tokens.now }
+{
+    next_is(tokens, Class::Some)
+        || next_is(tokens, Class::No)
+        || next_is(tokens, Class::Lone)
+        || next_is(tokens, Class::One)
+}
+
+#[tactic(auto, unfolding(alloy_syntax::specs::Nodes::begins_node))]
+fn begins_node(tokens: Tokens) -> bool
+    ensures { result ≡ begins_node tokens.now }
+{
+    next_is(tokens, Class::Not)
+        || next_is(tokens, Class::All)
+        || next_is(tokens, Class::Let)
+        || is_counting(tokens)
+        || begins_sum(tokens)
+}
+
+#[tactic(auto, unfolding(alloy_syntax::specs::Nodes::begins))]
+fn begins(tokens: Tokens, part: Inside) -> bool
+    ensures { result ≡ begins part tokens.now }
+{
+    match part {
+        Inside::Node => begins_node(tokens),
+        Inside::Negation => begins_node(tokens),
+        Inside::Implied => begins_node(tokens),
+        Inside::Sum => begins_sum(tokens),
+        Inside::Size => begins_sum(tokens),
+        Inside::Tight => begins_tight(tokens),
+        Inside::Quantified(_, _) => next_is(tokens, Class::Disj) || next_is(tokens, Class::Name),
+        Inside::Let(_) => next_is(tokens, Class::Name),
+        Inside::Listing => next_is(tokens, Class::Name),
+    }
+}
+
+#[tactic(auto, unfolding(alloy_syntax::specs::Nodes::may_be_block))]
+fn may_be_block(part: Inside) -> bool
+    ensures { result ≡ may_be_block part }
+{
+    match part {
+        Inside::Node => true,
+        Inside::Negation => true,
+        Inside::Implied => true,
+        Inside::Sum => true,
+        Inside::Size => true,
+        Inside::Tight => true,
+        Inside::Quantified(_, _) => false,
+        Inside::Let(_) => false,
+        Inside::Listing => false,
+    }
+}
+
+/// A brace, names with commas, and a colon.
+#[tactic(auto, unfolding(alloy_syntax::specs::Nodes::is_comprehension))]
+pub fn is_comprehension(tokens: Tokens) -> bool
+    ensures { result ≡ is_comprehension tokens.now }
+{
+    next_is(tokens, Class::LeftBrace) && colon_after_names(after(tokens))
+}
+
+/// A brace, a name, and a comma.
+#[tactic(auto, unfolding(alloy_syntax::specs::Nodes::is_listing))]
+pub fn is_listing(tokens: Tokens) -> bool
+    ensures { result ≡ is_listing tokens.now }
+{
+    next_is(tokens, Class::LeftBrace)
+        && next_is(after(tokens), Class::Name)
+        && next_is(after(after(tokens)), Class::Comma)
+}
+
+/// Not the end of a block.
+#[tactic(auto, unfolding(alloy_syntax::specs::Nodes::is_inner))]
+pub fn is_inner(tokens: Tokens) -> bool
+    ensures { result ≡ is_inner tokens.now }
+{
+    !next_is(tokens, Class::RightBrace)
+}
+
+/// Where one construct more would be one too many.
+#[tactic(auto, unfolding(alloy_syntax::specs::Nodes::stop_at))]
+pub fn stop_at<'a>(tokens: Tokens<'a>, part: Inside) -> Result<(Node, Tokens<'a>), Halt<'a>>
+    ensures value { Gives (λ x. (view x.0, x.1.now)) result (stop_at part tokens.now) }
+    ensures shorter { IfOk result (λ x. length x.1.now < length tokens.now) }
+{
+    if may_be_block(part) && is_comprehension(tokens) {
+        return Err(Halt::Unsupported(Form::Comprehension, place_at(tokens)));
+    }
+    if begins(tokens, part) {
+        Err(Halt::Deep(tokens))
+    } else {
+        Err(Halt::Refused(tokens))
+    }
+}
+
+/// Whether a constant stands there.
+#[tactic(auto, unfolding(alloy_syntax::specs::Nodes::is_constant))]
+pub fn is_constant(tokens: Tokens) -> bool
+    ensures { result ≡ is_constant tokens.now }
+{
+    next_is(tokens, Class::None) || next_is(tokens, Class::Univ) || next_is(tokens, Class::Iden)
+}
+
+/// `none`, `univ`, or else `iden`.
+#[tactic(auto, unfolding(alloy_syntax::specs::Nodes::constant_of))]
+pub fn constant_of(tokens: Tokens) -> Constant
+    ensures { result ≡ constant_of tokens.now }
+{
+    if next_is(tokens, Class::None) {
+        Constant::None
+    } else if next_is(tokens, Class::Univ) {
+        Constant::Univ
+    } else {
+        Constant::Iden
+    }
+}
+
+/// What `~`, `^`, or else `*` stands for.
+#[tactic(auto, unfolding(alloy_syntax::specs::Nodes::tightening_of))]
+pub fn tightening_of(tokens: Tokens) -> Prefix
+    ensures { result ≡ tightening_of tokens.now }
+{
+    if next_is(tokens, Class::Tilde) {
+        Prefix::Transpose
+    } else if next_is(tokens, Class::Caret) {
+        Prefix::Closure
+    } else {
+        Prefix::ReflexiveClosure
+    }
+}
+
+/// `.` or `[`.
+#[tactic(auto, unfolding(alloy_syntax::specs::Nodes::begins_step))]
+pub fn begins_step(tokens: Tokens) -> bool
+    ensures { result ≡ begins_step tokens.now }
+{
+    next_is(tokens, Class::Dot) || next_is(tokens, Class::LeftBracket)
+}
+
+/// An operator of that level.
+#[tactic(auto, unfolding(alloy_syntax::specs::Nodes::begins_link))]
+pub fn begins_link(tokens: Tokens, level: Level) -> bool
+    ensures { result ≡ begins_link level tokens.now }
+{
+    match level {
+        Level::Or => next_is(tokens, Class::Or),
+        Level::Iff => next_is(tokens, Class::Iff),
+        Level::And => next_is(tokens, Class::And),
+        Level::Sum => next_is(tokens, Class::Plus) || next_is(tokens, Class::Minus),
+        Level::Override => next_is(tokens, Class::PlusPlus),
+        Level::Meet => next_is(tokens, Class::Ampersand),
+        Level::Restrict => {
+            next_is(tokens, Class::DomainArrow) || next_is(tokens, Class::RangeArrow)
+        }
+    }
+}
+
+/// The operator of that level that stands there.
+#[tactic(auto, unfolding(alloy_syntax::specs::Nodes::operator_of))]
+pub fn operator_of(tokens: Tokens, level: Level) -> Operator
+    ensures { result ≡ operator_of level tokens.now }
+{
+    match level {
+        Level::Or => Operator::Or,
+        Level::Iff => Operator::Iff,
+        Level::And => Operator::And,
+        Level::Sum => sum_operator(tokens),
+        Level::Override => Operator::Override,
+        Level::Meet => Operator::Meet,
+        Level::Restrict => restrict_operator(tokens),
+    }
+}
+
+#[tactic(auto, unfolding(alloy_syntax::specs::Nodes::operator_of))]
+fn sum_operator(tokens: Tokens) -> Operator
+    ensures { result ≡ operator_of Level.Sum tokens.now }
+{
+    if next_is(tokens, Class::Plus) {
+        Operator::Union
+    } else {
+        Operator::Minus
+    }
+}
+
+#[tactic(auto, unfolding(alloy_syntax::specs::Nodes::operator_of))]
+fn restrict_operator(tokens: Tokens) -> Operator
+    ensures { result ≡ operator_of Level.Restrict tokens.now }
+{
+    if next_is(tokens, Class::DomainArrow) {
+        Operator::Domain
+    } else {
+        Operator::Range
+    }
+}
+
+/// An arrow, or a multiplicity word before one; in braces a word that no arrow follows begins the next node.
+#[tactic(auto, unfolding(alloy_syntax::specs::Nodes::begins_arrow))]
+pub fn begins_arrow(tokens: Tokens, around: Around) -> bool
+    ensures { result ≡ begins_arrow around tokens.now }
+{
+    next_is(tokens, Class::Arrow)
+        || (is_mark(tokens)
+            && (next_is(after(tokens), Class::Arrow)
+                || next_is(tokens, Class::Set)
+                || !in_braces(around)))
+}
+
+/// What `some`, `no`, `lone`, or else `one` stands for before an expression.
+#[tactic(auto, unfolding(alloy_syntax::specs::Nodes::counting_of))]
+pub fn counting_of(tokens: Tokens) -> Prefix
+    ensures { result ≡ counting_of tokens.now }
+{
+    if next_is(tokens, Class::Some) {
+        Prefix::Some
+    } else if next_is(tokens, Class::No) {
+        Prefix::No
+    } else if next_is(tokens, Class::Lone) {
+        Prefix::Lone
+    } else {
+        Prefix::One
+    }
+}
+
+#[tactic(auto, unfolding(alloy_syntax::specs::Nodes::is_plain_comparison))]
+fn is_plain_comparison(tokens: Tokens) -> bool
+    ensures { result ≡ is_plain_comparison tokens.now }
+{
+    next_is(tokens, Class::In)
+        || next_is(tokens, Class::Equal)
+        || next_is(tokens, Class::NotEqual)
+        || next_is(tokens, Class::Less)
+        || next_is(tokens, Class::Greater)
+        || next_is(tokens, Class::AtMost)
+        || next_is(tokens, Class::AtLeast)
+}
+
+/// A comparison; in braces a `!` that neither `in` nor `=` follows begins the next node.
+#[tactic(auto, unfolding(alloy_syntax::specs::Nodes::begins_comparison))]
+pub fn begins_comparison(tokens: Tokens, around: Around) -> bool
+    ensures { result ≡ begins_comparison around tokens.now }
+{
+    is_plain_comparison(tokens)
+        || (next_is(tokens, Class::Not)
+            && (next_is(after(tokens), Class::In)
+                || next_is(after(tokens), Class::Equal)
+                || !in_braces(around)))
+}
+
+#[tactic(auto, unfolding(alloy_syntax::specs::Nodes::comparison_of))]
+fn comparison_of(tokens: Tokens) -> Comparison
+    ensures { result ≡ comparison_of tokens.now }
+{
+    if next_is(tokens, Class::In) {
+        Comparison::In
+    } else if next_is(tokens, Class::Less) {
+        Comparison::Less
+    } else if next_is(tokens, Class::Greater) {
+        Comparison::Greater
+    } else if next_is(tokens, Class::AtMost) {
+        Comparison::AtMost
+    } else if next_is(tokens, Class::AtLeast) {
+        Comparison::AtLeast
+    } else {
+        Comparison::Equal
+    }
+}
+
+/// A comparison that begins there.
+#[tactic(auto, unfolding(alloy_syntax::specs::Nodes::comparing_at))]
+pub fn comparing<'a>(tokens: Tokens<'a>) -> Result<(Comparing, Tokens<'a>), Halt<'a>>
+    ensures value { Gives (λ x. (x.0, x.1.now)) result (comparing_at tokens.now) }
+    ensures shorter { IfOk result (λ x. length x.1.now ≤ length tokens.now) }
+{
+    if next_is(tokens, Class::Not) {
+        return negated(tokens);
+    }
+    let comparing = Comparing {
+        comparison: comparison_of(tokens),
+        negated: next_is(tokens, Class::NotEqual),
+        place: place_at(tokens),
+    };
+    Ok((comparing, after(tokens)))
+}
+
+// A comparison that begins with `!` or `not`.
+#[tactic(auto, unfolding(alloy_syntax::specs::Nodes::negated_comparing))]
+fn negated<'a>(tokens: Tokens<'a>) -> Result<(Comparing, Tokens<'a>), Halt<'a>>
+    ensures value { Gives (λ x. (x.0, x.1.now)) result (negated_comparing tokens.now) }
+    ensures shorter { IfOk result (λ x. length x.1.now ≤ length tokens.now) }
+{
+    let rest = after(tokens);
+    if next_is(rest, Class::In) || next_is(rest, Class::Equal) {
+        let comparing = Comparing {
+            comparison: comparison_of(rest),
+            negated: true,
+            place: place_at(tokens),
+        };
+        return Ok((comparing, after(rest)));
+    }
+    Err(Halt::Refused(rest))
+}
+
+/// What follows a word that may begin a quantifier: `disj`, or names with commas and then a colon.
+#[tactic(auto, unfolding(alloy_syntax::specs::Nodes::begins_declaration))]
+pub fn begins_declaration(tokens: Tokens, around: Around) -> bool
+    ensures { result ≡ begins_declaration around tokens.now }
+{
+    if next_is(tokens, Class::Disj) {
+        return true;
+    }
+    if in_brackets(around) {
+        return colon_after_names(tokens);
+    }
+    next_is(tokens, Class::Name)
+        && (next_is(after(tokens), Class::Comma) || next_is(after(tokens), Class::Colon))
+}
+
+/// Which quantifier `some`, `no`, `lone`, or else `one` is.
+#[tactic(auto, unfolding(alloy_syntax::specs::Nodes::quantifier_of))]
+pub fn quantifier_of(tokens: Tokens) -> Quantifier
+    ensures { result ≡ quantifier_of tokens.now }
+{
+    if next_is(tokens, Class::Some) {
+        Quantifier::Some
+    } else if next_is(tokens, Class::No) {
+        Quantifier::No
+    } else if next_is(tokens, Class::Lone) {
+        Quantifier::Lone
+    } else {
+        Quantifier::One
+    }
+}
+
+/// Whether a quantifier binds one variable.
+#[tactic(auto, unfolding(alloy_syntax::specs::Nodes::is_single))]
+pub fn is_single(quantifier: Quantifier) -> bool
+    ensures { result ≡ is_single quantifier }
+{
+    match quantifier {
+        Quantifier::All => false,
+        Quantifier::Some => false,
+        Quantifier::No => false,
+        Quantifier::Lone => true,
+        Quantifier::One => true,
+    }
+}
+
+/// The tokens behind `disj`, if it stands there.
+pub fn after_disj<'a>(tokens: Tokens<'a>) -> Tokens<'a>
+    ensures value { result.now ≡ after_disj tokens.now }
+    ensures shorter { length result.now ≤ length tokens.now }
+{
+    if next_is(tokens, Class::Disj) {
+        after(tokens)
+    } else {
+        tokens
+    }
+}

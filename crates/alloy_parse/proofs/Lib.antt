@@ -1,0 +1,3 @@
+pub mod Depth
+pub mod Operands
+pub mod Sizes

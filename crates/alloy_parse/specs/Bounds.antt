@@ -1,0 +1,31 @@
+-- What contracts see of a bound that was read, and of its operands.
+use Rattle.std.specs.Prelude.{List, Bool, map, Ok}
+use Rattle.std.specs.List.{list_any}
+use Rattle.alloy_lex.specs.declared.token.Place.{Place}
+use Rattle.alloy_syntax.specs.declared.class.Class.TheVariants as class
+use Rattle.alloy_syntax.specs.declared.reading.Standing.{Standing}
+use Rattle.alloy_syntax.specs.declared.tree.Bound.{Bound}
+use Rattle.alloy_syntax.specs.Tree.{BoundTree}
+use Rattle.alloy_syntax.specs.View.{bound_view}
+use Rattle.alloy_syntax.specs.Readers.{Parser, ◌>>=◌, next_is, many}
+use Rattle.alloy_syntax.specs.Bounds.{Bounded, BoundReader, operand_over}
+use Rattle.alloy_parse.specs.declared.bounds.ReadBound.{ReadBound}
+
+-- a bound that was read
+abbrev pub bounded : ReadBound → Bounded
+bounded b = record { bound = bound_view b.bound; marked = b.marked; has_arrow = b.has_arrow }
+
+-- an operand, with the place of the `+` before it
+abbrev pub operand_view : Place × Bound → Place × BoundTree
+operand_view x = (x.0, bound_view x.1)
+
+-- the trees of operands, with the places of the `+` before them
+abbrev pub trees_at : List (Place × Bounded) → List (Place × BoundTree)
+trees_at = map (λ x. (x.0, x.1.bound))
+
+abbrev pub any_arrow : List (Place × Bounded) → Bool
+any_arrow = list_any (λ x. x.1.has_arrow)
+
+-- the operands behind the first, and whether one of them has an arrow
+unfoldable pub operands_over : BoundReader → Standing → Parser (List (Place × BoundTree) × Bool)
+operands_over j standing ts = many (next_is class.Plus) (operand_over j standing) ts >>= λ xs. Ok ((trees_at xs.0, any_arrow xs.0), xs.1)

@@ -1,0 +1,126 @@
+// A model's tree, or the fault with the earliest place.
+ghost use Rattle.std.specs.Prelude.{◌≡◌, Some, Result, IfOk, IfErr, Ok};
+ghost use Rattle.alloy_syntax.specs.Seen.{seen, seen_all};
+ghost use Rattle.alloy_syntax.specs.Readers.{Stop, refused, too_deep};
+ghost use Rattle.alloy_syntax.specs.Tree.{ModelTree};
+ghost use Rattle.alloy_syntax.specs.Paragraphs.{model_of};
+ghost use Rattle.alloy_syntax.specs.View.{model_view};
+ghost use Rattle.alloy_cursor.specs.Gives.{Fails};
+ghost use Rattle.alloy_parse.specs.declared.fault.ParseFault.TheVariants.{Unsupported};
+ghost use Rattle.alloy_lex.specs.Reading.{AreSized, IsSized};
+ghost use Rattle.alloy_parse.specs.Faults.{place_behind, end_of, word_of, refusal_of, fault_of, Refuses};
+
+use crate::fault::ParseFault;
+use crate::paragraphs::model;
+use alloy_cursor::halt::{Halt, Tokens, seen_tokens};
+use alloy_lex::{Place, Text, Token};
+use alloy_syntax::reading::Form;
+use alloy_syntax::tree::Model;
+use alloy_syntax::{Class, Seen, is_class};
+use std::alloc::{AllocError, Global};
+
+// Just behind a token.
+fn place_behind(token: &Token) -> Place
+    requires { IsSized token.now }
+    ensures { result ≡ place_behind (Some token.now) }
+{
+    Place {
+        line: token.place.line,
+        column: token.place.column + (token.end - token.start) as u32,
+    }
+}
+
+// Just behind the last token, or the first place of a text.
+fn end_of(tokens: &[Token]) -> Place
+    requires { AreSized tokens.now }
+    ensures { result ≡ end_of tokens.now }
+{
+    match tokens.last() {
+        None => Place { line: 1, column: 1 },
+        Some(token) => place_behind(token),
+    }
+}
+
+fn word_of(form: Form) -> &'static str
+    ensures { result.now ≡ word_of form }
+{
+    match form {
+        Form::Comprehension => "comprehension",
+        Form::Appended => "appended",
+        Form::ArrowMultiplicity => "arrow_multiplicity",
+        Form::Several => "several",
+    }
+}
+
+// A refused form.
+fn unsupported(alloc: Global, form: Form, place: Place) -> Result<ParseFault, AllocError>
+    ensures { IfOk result (λ f. f ≡ Unsupported place (word_of form)) }
+{
+    let word = Text::of(alloc, word_of(form))?;
+    Ok(ParseFault::Unsupported { place, word })
+}
+
+// A token that can't stand there.
+fn refusal(alloc: Global, token: &Seen) -> Result<ParseFault, AllocError>
+    ensures { IfOk result (λ f. f ≡ refusal_of token.now) }
+{
+    let place = token.place;
+    if is_class(token.class, Class::Refused) {
+        let word = token.text.copy(alloc)?;
+        return Ok(ParseFault::Unsupported { place, word });
+    }
+    Ok(ParseFault::Unexpected { place })
+}
+
+// The fault where the tokens that are left can't go on.
+fn refused_at(alloc: Global, all: &[Token], rest: Tokens) -> Result<ParseFault, AllocError>
+    requires { AreSized all.now }
+    ensures { IfOk result (λ f. f ≡ fault_of all.now (refused rest.now)) }
+{
+    match rest {
+        [] => Ok(ParseFault::EndOfText { place: end_of(all) }),
+        [token, ..] => refusal(alloc, token),
+    }
+}
+
+// The fault where the tokens that are left lie too deep.
+fn deep_at(all: &[Token], rest: Tokens) -> ParseFault
+    requires { AreSized all.now }
+    ensures { result ≡ fault_of all.now (too_deep rest.now) }
+{
+    match rest {
+        [] => ParseFault::TooDeep { place: end_of(all) },
+        [token, ..] => ParseFault::TooDeep { place: token.place },
+    }
+}
+
+// Why no tree is answered, as a fault of all the tokens.
+fn fault_at(alloc: Global, all: &[Token], halt: Halt) -> ParseFault
+    requires { AreSized all.now }
+    ensures { (read : Result ModelTree Stop) → Fails halt.entry read → Refuses all.now result read }
+{
+    match halt {
+        Halt::Memory => ParseFault::Memory,
+        Halt::Refused(rest) => refused_at(alloc, all, rest).unwrap_or(ParseFault::Memory),
+        Halt::Deep(rest) => deep_at(all, rest),
+        Halt::Unsupported(form, place) => unsupported(alloc, form, place).unwrap_or(
+            ParseFault::Memory,
+        ),
+    }
+}
+
+/// The tree of the model that the tokens are, or the first fault. The tokens are of a text of at most 1,048,576 bytes.
+/// A token under more than 200 constructs is a fault.
+pub fn parse(alloc: Global, tokens: &[Token]) -> Result<Model, ParseFault>
+    requires { AreSized tokens.now }
+    // The tree of the model that the tokens are.
+    ensures ok { IfOk result (λ m. model_of (seen_all tokens.now) ≡ Ok (model_view m)) }
+    // No memory, or where reading stops.
+    ensures fault { IfErr result (λ f. Refuses tokens.now f (model_of (seen_all tokens.now))) }
+{
+    let seen = seen_tokens(alloc, tokens)?;
+    match model(alloc, seen.as_slice()) {
+        Ok(model) => Ok(model),
+        Err(halt) => Err(fault_at(alloc, tokens, halt)),
+    }
+}

@@ -1,0 +1,326 @@
+// Readers of a field's bound. Each takes how many brackets more may nest (`room`) and where the bound stands.
+ghost use Rattle.std.specs.Prelude.{◌≡◌, ◌<◌, ◌≤◌, length, map, IfOk, if◌then◌else◌, Ok};
+ghost use Rattle.alloy_syntax.specs.Readers.{place_at};
+ghost use Rattle.alloy_syntax.specs.Bounds.{is_whole, word_round, operand_in, standing_beside, first_place, refuse_word, side_over, begins_bound_arrow, bound_arrow_over, more_bound_arrows, bound_arrows_over, operand_over, bound_over, begins_bound, bound_within};
+ghost use Rattle.alloy_syntax.specs.View.{arrow_view};
+ghost use Rattle.alloy_cursor.specs.Gives.{Gives};
+ghost use Rattle.alloy_parse.specs.Bounds.{bounded, operand_view, operands_over};
+
+use alloy_cursor::cursor::{after, after_mark, expect, is_mark, mark_at, name, next_is, place_at};
+use alloy_cursor::halt::{Halt, Tokens};
+use alloy_lex::Place;
+use alloy_syntax::Class;
+use alloy_syntax::reading::{Form, Standing};
+use alloy_syntax::tree::{Bound, BoundArrow, Mark};
+use std::alloc::Global;
+
+/// A bound that was read: its tree, the place of its first multiplicity word, and whether it has an arrow.
+#[derive(Drop)]
+pub struct ReadBound {
+    pub bound: Bound,
+    pub marked: Option<Place>,
+    pub has_arrow: bool,
+}
+
+// What stands before an arrow: where its bound stands, the place of a word on the left, and whether an arrow is there.
+#[derive(Clone, Copy)]
+struct Before {
+    standing: Standing,
+    marked: Option<Place>,
+    has_arrow: bool,
+}
+
+#[tactic(auto, unfolding(alloy_syntax::specs::Bounds::is_whole))]
+fn is_whole(standing: Standing) -> bool
+    ensures { result ≡ is_whole standing }
+{
+    match standing {
+        Standing::Whole => true,
+        Standing::Part | Standing::Beside(_) => false,
+    }
+}
+
+// The word of the arrow round a bound.
+#[tactic(auto, unfolding(alloy_syntax::specs::Bounds::word_round))]
+fn word_round(standing: Standing) -> Option<Place>
+    ensures { result ≡ word_round standing }
+{
+    match standing {
+        Standing::Whole | Standing::Part => None,
+        Standing::Beside(place) => Some(place),
+    }
+}
+
+// Where an operand of `+` stands.
+#[tactic(auto, unfolding(alloy_syntax::specs::Bounds::operand_in))]
+fn operand_in(standing: Standing) -> Standing
+    ensures { result ≡ operand_in standing }
+{
+    match standing {
+        Standing::Whole | Standing::Part => Standing::Part,
+        Standing::Beside(place) => Standing::Beside(place),
+    }
+}
+
+// Where the right side of an arrow stands, the first of whose words is at that place.
+#[tactic(auto, unfolding(alloy_syntax::specs::Bounds::standing_beside))]
+fn standing_beside(marked: Option<Place>) -> Standing
+    ensures { result ≡ standing_beside marked }
+{
+    match marked {
+        None => Standing::Part,
+        Some(place) => Standing::Beside(place),
+    }
+}
+
+// The place of the first of two words.
+#[tactic(auto, unfolding(alloy_syntax::specs::Bounds::first_place))]
+fn first_place(left: Option<Mark>, right: Option<Mark>) -> Option<Place>
+    ensures { result ≡ first_place left right }
+{
+    match (left, right) {
+        (Some(mark), _) => Some(mark.place),
+        (None, Some(mark)) => Some(mark.place),
+        (None, None) => None,
+    }
+}
+
+// A word that may not stand there.
+fn refuse_word<'a>(marked: Option<Place>) -> Result<(), Halt<'a>>
+    ensures { Gives (λ x. tt) result (refuse_word marked) }
+{
+    match marked {
+        None => Ok(()),
+        Some(place) => Err(Halt::Unsupported(Form::ArrowMultiplicity, place)),
+    }
+}
+
+// A word that may stand there only where that is said.
+fn refuse_unless<'a>(allowed: bool, marked: Option<Place>) -> Result<(), Halt<'a>>
+    ensures { Gives (λ x. tt) result (if allowed then Ok tt else refuse_word marked) }
+{
+    if allowed { Ok(()) } else { refuse_word(marked) }
+}
+
+// An arrow, or a multiplicity word before one.
+#[tactic(auto, unfolding(alloy_syntax::specs::Bounds::begins_bound_arrow))]
+fn begins_bound_arrow(tokens: Tokens) -> bool
+    ensures { result ≡ begins_bound_arrow tokens.now }
+{
+    next_is(tokens, Class::Arrow) || is_mark(tokens)
+}
+
+#[tactic(auto, unfolding(alloy_syntax::specs::Bounds::begins_bound))]
+fn begins_bound(tokens: Tokens) -> bool
+    ensures { result ≡ begins_bound tokens.now }
+{
+    next_is(tokens, Class::LeftParen) || next_is(tokens, Class::Name)
+}
+
+// A name, or a bound in brackets.
+#[cycle(bounds)]
+#[tactic(auto, unfolding(alloy_syntax::specs::Bounds::side_over))]
+fn side<'a>(
+    alloc: Global,
+    tokens: Tokens<'a>,
+    room: u32,
+    standing: Standing,
+) -> Result<(ReadBound, Tokens<'a>), Halt<'a>>
+    ensures value { Gives (λ x. (bounded x.0, x.1.now)) result (side_over (bound_within room) standing tokens.now) }
+    ensures shorter { IfOk result (λ x. length x.1.now < length tokens.now) }
+{
+    if !next_is(tokens, Class::LeftParen) {
+        let (name, rest) = name(alloc, tokens)?;
+        let read = ReadBound {
+            bound: Bound::Named(name),
+            marked: None,
+            has_arrow: false,
+        };
+        return Ok((read, rest));
+    }
+    let (inner, rest) = bound_within(alloc, after(tokens), room, standing)?;
+    let (_, rest) = expect(rest, Class::RightParen)?;
+    let read = ReadBound {
+        bound: Bound::Bracketed(place_at(tokens), Box::new(alloc, inner.bound)?),
+        marked: inner.marked,
+        has_arrow: inner.has_arrow,
+    };
+    Ok((read, rest))
+}
+
+// An arrow with its right side.
+#[cycle(bounds)]
+#[tactic(auto, unfolding(alloy_syntax::specs::Bounds::bound_arrow_over))]
+fn bound_arrow<'a>(
+    alloc: Global,
+    tokens: Tokens<'a>,
+    room: u32,
+    before: Before,
+) -> Result<(BoundArrow, Tokens<'a>), Halt<'a>>
+    ensures value { Gives (λ x. (arrow_view x.0, x.1.now)) result (bound_arrow_over (bound_within room) before.standing before.marked before.has_arrow tokens.now) }
+    ensures shorter { IfOk result (λ x. length x.1.now < length tokens.now) }
+{
+    let (place, rest) = expect(after_mark(tokens), Class::Arrow)?;
+    refuse_word(word_round(before.standing))?;
+    refuse_word(before.marked)?;
+    let left = mark_at(tokens);
+    let right = mark_at(rest);
+    let marked = first_place(left, right);
+    refuse_unless(is_whole(before.standing) && !before.has_arrow, marked)?;
+    let (side, rest) = side(alloc, after_mark(rest), room, standing_beside(marked))?;
+    let arrow = BoundArrow {
+        left,
+        place,
+        right,
+        side: side.bound,
+    };
+    Ok((arrow, rest))
+}
+
+// The first arrow and the others.
+#[cycle(bounds)]
+#[tactic(auto, unfolding(alloy_syntax::specs::Bounds::more_bound_arrows))]
+fn more_bound_arrows<'a>(
+    alloc: Global,
+    first: BoundArrow,
+    tokens: Tokens<'a>,
+    room: u32,
+    standing: Standing,
+) -> Result<(Vec<BoundArrow>, Tokens<'a>), Halt<'a>>
+    ensures value { Gives (λ x. (map arrow_view x.0.items, x.1.now)) result (more_bound_arrows (bound_within room) standing (arrow_view first) tokens.now) }
+    ensures shorter { IfOk result (λ x. length x.1.now ≤ length tokens.now) }
+{
+    let before = Before {
+        standing,
+        marked: first_place(first.left, first.right),
+        has_arrow: true,
+    };
+    let mut all = Vec::new(alloc);
+    all.push(first)?;
+    let mut rest = tokens;
+    'each: while begins_bound_arrow(rest) {
+        let (another, behind) = bound_arrow(alloc, rest, room, before)?;
+        all.push(another)?;
+        rest = behind;
+    }
+    Ok((all, rest))
+}
+
+// Sides with arrows between them.
+#[cycle(bounds)]
+#[tactic(auto, unfolding(alloy_syntax::specs::Bounds::bound_arrows_over))]
+fn bound_arrows<'a>(
+    alloc: Global,
+    tokens: Tokens<'a>,
+    room: u32,
+    standing: Standing,
+) -> Result<(ReadBound, Tokens<'a>), Halt<'a>>
+    ensures value { Gives (λ x. (bounded x.0, x.1.now)) result (bound_arrows_over (bound_within room) standing tokens.now) }
+    ensures shorter { IfOk result (λ x. length x.1.now < length tokens.now) }
+{
+    let (first, rest) = side(alloc, tokens, room, standing)?;
+    if !begins_bound_arrow(rest) {
+        return Ok((first, rest));
+    }
+    let before = Before {
+        standing,
+        marked: first.marked,
+        has_arrow: first.has_arrow,
+    };
+    let (arrow, rest) = bound_arrow(alloc, rest, room, before)?;
+    let marked = first_place(arrow.left, arrow.right);
+    let (arrows, rest) = more_bound_arrows(alloc, arrow, rest, room, standing)?;
+    let read = ReadBound {
+        bound: Bound::Arrows(Box::new(alloc, first.bound)?, arrows),
+        marked,
+        has_arrow: true,
+    };
+    Ok((read, rest))
+}
+
+// An operand behind its `+`.
+#[cycle(bounds)]
+#[tactic(auto, unfolding(alloy_syntax::specs::Bounds::operand_over))]
+fn operand<'a>(
+    alloc: Global,
+    tokens: Tokens<'a>,
+    room: u32,
+    standing: Standing,
+) -> Result<(ReadBound, Tokens<'a>), Halt<'a>>
+    ensures value { Gives (λ x. ((place_at tokens.now, bounded x.0), x.1.now)) result (operand_over (bound_within room) standing tokens.now) }
+    ensures shorter { IfOk result (λ x. length x.1.now < length tokens.now) }
+{
+    bound_arrows(alloc, after(tokens), room, operand_in(standing))
+}
+
+// The operands behind the first, with the places of the `+` before them, and whether one of them has an arrow.
+#[cycle(bounds)]
+#[tactic(auto, unfolding(crate::specs::Bounds::operands_over))]
+fn operands<'a>(
+    alloc: Global,
+    tokens: Tokens<'a>,
+    room: u32,
+    standing: Standing,
+) -> Result<(Vec<(Place, Bound)>, bool, Tokens<'a>), Halt<'a>>
+    ensures value { Gives (λ x. ((map operand_view x.0.items, x.1), x.2.now)) result (operands_over (bound_within room) standing tokens.now) }
+    ensures shorter { IfOk result (λ x. length x.2.now ≤ length tokens.now) }
+{
+    let mut all = Vec::new(alloc);
+    let mut has_arrow = false;
+    let mut rest = tokens;
+    'each: while next_is(rest, Class::Plus) {
+        let (another, behind) = operand(alloc, rest, room, standing)?;
+        all.push((place_at(rest), another.bound))?;
+        has_arrow |= another.has_arrow;
+        rest = behind;
+    }
+    Ok((all, has_arrow, rest))
+}
+
+// Operands with `+` between them.
+#[cycle(bounds)]
+#[tactic(auto, unfolding(alloy_syntax::specs::Bounds::bound_over, crate::specs::Bounds::operands_over))]
+fn bound<'a>(
+    alloc: Global,
+    tokens: Tokens<'a>,
+    room: u32,
+    standing: Standing,
+) -> Result<(ReadBound, Tokens<'a>), Halt<'a>>
+    ensures value { Gives (λ x. (bounded x.0, x.1.now)) result (bound_over (bound_within room) standing tokens.now) }
+    ensures shorter { IfOk result (λ x. length x.1.now < length tokens.now) }
+{
+    let (first, rest) = bound_arrows(alloc, tokens, room, standing)?;
+    if !next_is(rest, Class::Plus) {
+        return Ok((first, rest));
+    }
+    refuse_word(first.marked)?;
+    let (others, has_arrow, rest) = operands(alloc, rest, room, standing)?;
+    let read = ReadBound {
+        bound: Bound::Union(Box::new(alloc, first.bound)?, others),
+        marked: None,
+        has_arrow: first.has_arrow || has_arrow,
+    };
+    Ok((read, rest))
+}
+
+/// A bound, under which so many brackets more may nest.
+#[cycle(bounds)]
+#[tactic(auto, using(crate::proofs::Depth::bound_at_zero, crate::proofs::Depth::bound_above))]
+pub fn bound_within<'a>(
+    alloc: Global,
+    tokens: Tokens<'a>,
+    room: u32,
+    standing: Standing,
+) -> Result<(ReadBound, Tokens<'a>), Halt<'a>>
+    ensures value { Gives (λ x. (bounded x.0, x.1.now)) result (bound_within room standing tokens.now) }
+    ensures shorter { IfOk result (λ x. length x.1.now < length tokens.now) }
+{
+    if room > 0 {
+        return bound(alloc, tokens, room - 1, standing);
+    }
+    if begins_bound(tokens) {
+        Err(Halt::Deep(tokens))
+    } else {
+        Err(Halt::Refused(tokens))
+    }
+}

@@ -1,0 +1,12 @@
+//! From tokens to the tree of a model.
+#![tactic(auto)]
+
+mod answer;
+mod bounds;
+mod fault;
+mod paragraphs;
+#[cfg(test)]
+mod tests;
+
+pub use answer::parse;
+pub use fault::ParseFault;

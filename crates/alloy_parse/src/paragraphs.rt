@@ -1,0 +1,505 @@
+// Readers of paragraphs, from signatures to commands, and of the whole model.
+ghost use Rattle.std.specs.Prelude.{◌≡◌, ◌<◌, ◌≤◌, length, map, option_map, IfOk};
+ghost use Rattle.alloy_syntax.specs.Readers.{many, others};
+ghost use Rattle.alloy_syntax.specs.Paragraphs.{own_block, field_at, fields_at, parent_at, is_qualifier, qualifier_at, after_qualifier, after_abstract, qualified, signatures_at, fact_at, parameters_to, parameter_list, predicate_at, assertion_at, entry_at, entries_at, exceptions_at, has_default, scope_at, expected_at, label_at, target_at, command_at, item_at, is_left, heading_at, model_of};
+ghost use Rattle.alloy_syntax.specs.View.{declaration_view, field_view, block_view, target_view, scope_view, item_view, model_view};
+ghost use Rattle.alloy_cursor.specs.Gives.{Gives};
+
+use crate::bounds::bound_within;
+use alloy_cursor::cursor::{
+    after, after_mark, expect, is_mark, mark_at, name, names, next_is, number, place_at,
+};
+use alloy_cursor::halt::{Halt, Tokens};
+use alloy_lex::Place;
+use alloy_nodes::nodes;
+use alloy_syntax::Class;
+use alloy_syntax::reading::{Form, Standing};
+use alloy_syntax::tree::{
+    Block, Command, CommandKind, Declaration, Entry, Field, Manner, Mark, Model, Name, Number,
+    Paragraph, Parent, Scope, Signatures, Target,
+};
+use std::alloc::Global;
+
+// So many constructs may nest, from the paragraph on.
+const DEPTH_LIMIT: u32 = 200;
+
+// A paragraph's own brackets don't count.
+const OWN_DEPTH: u32 = DEPTH_LIMIT + 1;
+
+// A paragraph's own block.
+fn own_block<'a>(alloc: Global, tokens: Tokens<'a>) -> Result<(Block, Tokens<'a>), Halt<'a>>
+    ensures value { Gives (λ x. (block_view x.0, x.1.now)) result (own_block tokens.now) }
+    ensures shorter { IfOk result (λ x. length x.1.now < length tokens.now) }
+{
+    nodes::block(alloc, tokens, OWN_DEPTH)
+}
+
+// ---- signatures
+
+// Names with one bound.
+#[tactic(auto, unfolding(alloy_syntax::specs::Paragraphs::field_at))]
+fn field<'a>(alloc: Global, tokens: Tokens<'a>) -> Result<(Field, Tokens<'a>), Halt<'a>>
+    ensures value { Gives (λ x. (field_view x.0, x.1.now)) result (field_at tokens.now) }
+    ensures shorter { IfOk result (λ x. length x.1.now < length tokens.now) }
+{
+    let (names, rest) = names(alloc, tokens)?;
+    let (_, rest) = expect(rest, Class::Colon)?;
+    let mark = mark_at(rest);
+    let (read, rest) = bound_within(alloc, after_mark(rest), OWN_DEPTH, Standing::Whole)?;
+    let field = Field {
+        names,
+        mark,
+        bound: read.bound,
+    };
+    Ok((field, rest))
+}
+
+#[tactic(auto, unfolding(alloy_syntax::specs::Readers::others))]
+fn more_fields<'a>(
+    alloc: Global,
+    first: Field,
+    tokens: Tokens<'a>,
+) -> Result<(Vec<Field>, Tokens<'a>), Halt<'a>>
+    ensures value { Gives (λ x. (map field_view x.0.items, x.1.now)) result (others field_at (field_view first) tokens.now) }
+    ensures shorter { IfOk result (λ x. length x.1.now ≤ length tokens.now) }
+{
+    let mut all = Vec::new(alloc);
+    all.push(first)?;
+    let mut rest = tokens;
+    'each: while next_is(rest, Class::Comma) {
+        let (another, behind) = field(alloc, after(rest))?;
+        all.push(another)?;
+        rest = behind;
+    }
+    Ok((all, rest))
+}
+
+// The fields of a signature, if it has any.
+#[tactic(auto, unfolding(alloy_syntax::specs::Paragraphs::fields_at, alloy_syntax::specs::Readers::listed))]
+fn fields<'a>(alloc: Global, tokens: Tokens<'a>) -> Result<(Vec<Field>, Tokens<'a>), Halt<'a>>
+    ensures value { Gives (λ x. (map field_view x.0.items, x.1.now)) result (fields_at tokens.now) }
+    ensures shorter { IfOk result (λ x. length x.1.now ≤ length tokens.now) }
+{
+    if next_is(tokens, Class::RightBrace) {
+        return Ok((Vec::new(alloc), tokens));
+    }
+    let (first, rest) = field(alloc, tokens)?;
+    more_fields(alloc, first, rest)
+}
+
+// A parent behind `extends` or `in`, if there is one.
+#[tactic(auto, unfolding(alloy_syntax::specs::Paragraphs::parent_at))]
+fn parent<'a>(alloc: Global, tokens: Tokens<'a>) -> Result<(Option<Parent>, Tokens<'a>), Halt<'a>>
+    ensures value { Gives (λ x. (x.0, x.1.now)) result (parent_at tokens.now) }
+    ensures shorter { IfOk result (λ x. length x.1.now ≤ length tokens.now) }
+{
+    if next_is(tokens, Class::Extends) {
+        let (name, rest) = name(alloc, after(tokens))?;
+        let manner = Manner::Extends;
+        return Ok((Some(Parent { manner, name }), rest));
+    }
+    if next_is(tokens, Class::In) {
+        let (name, rest) = name(alloc, after(tokens))?;
+        let manner = Manner::In;
+        return Ok((Some(Parent { manner, name }), rest));
+    }
+    Ok((None, tokens))
+}
+
+// What stands before `sig`: whether `abstract` does, which of `one`, `lone` and `some` does, and what is behind them.
+#[derive(Clone, Copy)]
+struct Qualifiers<'a> {
+    is_abstract: bool,
+    mark: Option<Mark>,
+    behind: Tokens<'a>,
+}
+
+// Whether `one`, `lone` or `some` stands there.
+#[tactic(auto, unfolding(alloy_syntax::specs::Paragraphs::is_qualifier))]
+fn is_qualifier(tokens: Tokens) -> bool
+    ensures { result ≡ is_qualifier tokens.now }
+{
+    is_mark(tokens) && !next_is(tokens, Class::Set)
+}
+
+#[tactic(auto, unfolding(alloy_syntax::specs::Paragraphs::qualifier_at))]
+fn qualifier_at(tokens: Tokens) -> Option<Mark>
+    ensures { result ≡ qualifier_at tokens.now }
+{
+    if is_qualifier(tokens) {
+        mark_at(tokens)
+    } else {
+        None
+    }
+}
+
+fn after_qualifier<'a>(tokens: Tokens<'a>) -> Tokens<'a>
+    ensures value { result.now ≡ after_qualifier tokens.now }
+    ensures shorter { length result.now ≤ length tokens.now }
+{
+    if is_qualifier(tokens) {
+        after(tokens)
+    } else {
+        tokens
+    }
+}
+
+fn after_abstract<'a>(tokens: Tokens<'a>) -> Tokens<'a>
+    ensures value { result.now ≡ after_abstract tokens.now }
+    ensures shorter { length result.now ≤ length tokens.now }
+{
+    if next_is(tokens, Class::Abstract) {
+        after(tokens)
+    } else {
+        tokens
+    }
+}
+
+// The words before `sig`, each at most once, in any order.
+#[tactic(auto, unfolding(alloy_syntax::specs::Paragraphs::qualified))]
+fn qualified<'a>(tokens: Tokens<'a>) -> Qualifiers<'a>
+    ensures is_abstract { result.is_abstract ≡ (qualified tokens.now).is_abstract }
+    ensures mark { result.mark ≡ (qualified tokens.now).mark }
+    ensures behind { result.behind.now ≡ (qualified tokens.now).behind }
+    ensures shorter { length result.behind.now ≤ length tokens.now }
+{
+    if next_is(tokens, Class::Abstract) {
+        let rest = after(tokens);
+        return Qualifiers {
+            is_abstract: true,
+            mark: qualifier_at(rest),
+            behind: after_qualifier(rest),
+        };
+    }
+    let rest = after_qualifier(tokens);
+    Qualifiers {
+        is_abstract: next_is(rest, Class::Abstract),
+        mark: qualifier_at(tokens),
+        behind: after_abstract(rest),
+    }
+}
+
+// Signatures. A block behind them is refused.
+#[tactic(auto, unfolding(alloy_syntax::specs::Paragraphs::signatures_at))]
+fn signatures<'a>(alloc: Global, tokens: Tokens<'a>) -> Result<(Paragraph, Tokens<'a>), Halt<'a>>
+    ensures value { Gives (λ x. (item_view x.0, x.1.now)) result (signatures_at tokens.now) }
+    ensures shorter { IfOk result (λ x. length x.1.now < length tokens.now) }
+{
+    let front = qualified(tokens);
+    let (_, rest) = expect(front.behind, Class::Sig)?;
+    let (names, rest) = names(alloc, rest)?;
+    let (parent, rest) = parent(alloc, rest)?;
+    let (_, rest) = expect(rest, Class::LeftBrace)?;
+    let (fields, rest) = fields(alloc, rest)?;
+    let (_, rest) = expect(rest, Class::RightBrace)?;
+    if next_is(rest, Class::LeftBrace) {
+        return Err(Halt::Unsupported(Form::Appended, place_at(rest)));
+    }
+    let declared = Signatures {
+        is_abstract: front.is_abstract,
+        mark: front.mark,
+        names,
+        parent,
+        fields,
+    };
+    Ok((Paragraph::Signatures(declared), rest))
+}
+
+// ---- facts, predicates and assertions, behind their first word
+
+#[tactic(auto, unfolding(alloy_syntax::specs::Paragraphs::fact_at))]
+fn fact<'a>(alloc: Global, tokens: Tokens<'a>) -> Result<(Paragraph, Tokens<'a>), Halt<'a>>
+    ensures value { Gives (λ x. (item_view x.0, x.1.now)) result (fact_at tokens.now) }
+    ensures shorter { IfOk result (λ x. length x.1.now < length tokens.now) }
+{
+    let rest = if next_is(tokens, Class::Name) {
+        after(tokens)
+    } else {
+        tokens
+    };
+    let (body, rest) = own_block(alloc, rest)?;
+    Ok((Paragraph::Fact(body), rest))
+}
+
+// Parameters, and the bracket that closes them.
+#[tactic(auto, unfolding(alloy_syntax::specs::Paragraphs::parameters_at))]
+fn parameters_to<'a>(
+    alloc: Global,
+    tokens: Tokens<'a>,
+    closing: Class,
+) -> Result<(Vec<Declaration>, Tokens<'a>), Halt<'a>>
+    ensures value { Gives (λ x. (map declaration_view x.0.items, x.1.now)) result (parameters_to closing tokens.now) }
+    ensures shorter { IfOk result (λ x. length x.1.now ≤ length tokens.now) }
+{
+    if next_is(tokens, closing) {
+        return Ok((Vec::new(alloc), after(tokens)));
+    }
+    let (all, rest) = nodes::declarations(alloc, tokens, DEPTH_LIMIT, false)?;
+    let (_, rest) = expect(rest, closing)?;
+    Ok((all, rest))
+}
+
+// Parameters in square or in round brackets, if there are any.
+#[tactic(auto, unfolding(alloy_syntax::specs::Paragraphs::parameter_list))]
+fn parameters<'a>(
+    alloc: Global,
+    tokens: Tokens<'a>,
+) -> Result<(Vec<Declaration>, Tokens<'a>), Halt<'a>>
+    ensures value { Gives (λ x. (map declaration_view x.0.items, x.1.now)) result (parameter_list tokens.now) }
+    ensures shorter { IfOk result (λ x. length x.1.now ≤ length tokens.now) }
+{
+    if next_is(tokens, Class::LeftBracket) {
+        return parameters_to(alloc, after(tokens), Class::RightBracket);
+    }
+    if next_is(tokens, Class::LeftParen) {
+        return parameters_to(alloc, after(tokens), Class::RightParen);
+    }
+    Ok((Vec::new(alloc), tokens))
+}
+
+#[tactic(auto, unfolding(alloy_syntax::specs::Paragraphs::predicate_at))]
+fn predicate<'a>(alloc: Global, tokens: Tokens<'a>) -> Result<(Paragraph, Tokens<'a>), Halt<'a>>
+    ensures value { Gives (λ x. (item_view x.0, x.1.now)) result (predicate_at tokens.now) }
+    ensures shorter { IfOk result (λ x. length x.1.now < length tokens.now) }
+{
+    let (name, rest) = name(alloc, tokens)?;
+    let (parameters, rest) = parameters(alloc, rest)?;
+    let (body, rest) = own_block(alloc, rest)?;
+    Ok((Paragraph::Predicate(name, parameters, body), rest))
+}
+
+#[tactic(auto, unfolding(alloy_syntax::specs::Paragraphs::assertion_at))]
+fn assertion<'a>(alloc: Global, tokens: Tokens<'a>) -> Result<(Paragraph, Tokens<'a>), Halt<'a>>
+    ensures value { Gives (λ x. (item_view x.0, x.1.now)) result (assertion_at tokens.now) }
+    ensures shorter { IfOk result (λ x. length x.1.now < length tokens.now) }
+{
+    let (name, rest) = name(alloc, tokens)?;
+    let (body, rest) = own_block(alloc, rest)?;
+    Ok((Paragraph::Assertion(name, body), rest))
+}
+
+// ---- commands, behind their first word
+
+// The size that a scope gives to a signature.
+#[tactic(auto, unfolding(alloy_syntax::specs::Paragraphs::entry_at))]
+fn entry<'a>(alloc: Global, tokens: Tokens<'a>) -> Result<(Entry, Tokens<'a>), Halt<'a>>
+    ensures value { Gives (λ x. (x.0, x.1.now)) result (entry_at tokens.now) }
+    ensures shorter { IfOk result (λ x. length x.1.now < length tokens.now) }
+{
+    let exactly = next_is(tokens, Class::Exactly);
+    let rest = if exactly { after(tokens) } else { tokens };
+    let (number, rest) = number(rest)?;
+    let (name, rest) = name(alloc, rest)?;
+    let entry = Entry {
+        exactly,
+        number,
+        name,
+    };
+    Ok((entry, rest))
+}
+
+#[tactic(auto, unfolding(alloy_syntax::specs::Readers::others))]
+fn more_entries<'a>(
+    alloc: Global,
+    first: Entry,
+    tokens: Tokens<'a>,
+) -> Result<(Vec<Entry>, Tokens<'a>), Halt<'a>>
+    ensures value { Gives (λ x. (x.0.items, x.1.now)) result (others entry_at first tokens.now) }
+    ensures shorter { IfOk result (λ x. length x.1.now ≤ length tokens.now) }
+{
+    let mut all = Vec::new(alloc);
+    all.push(first)?;
+    let mut rest = tokens;
+    'each: while next_is(rest, Class::Comma) {
+        let (another, behind) = entry(alloc, after(rest))?;
+        all.push(another)?;
+        rest = behind;
+    }
+    Ok((all, rest))
+}
+
+#[tactic(auto, unfolding(alloy_syntax::specs::Paragraphs::entries_at, alloy_syntax::specs::Readers::listed))]
+fn entries<'a>(alloc: Global, tokens: Tokens<'a>) -> Result<(Vec<Entry>, Tokens<'a>), Halt<'a>>
+    ensures value { Gives (λ x. (x.0.items, x.1.now)) result (entries_at tokens.now) }
+    ensures shorter { IfOk result (λ x. length x.1.now < length tokens.now) }
+{
+    let (first, rest) = entry(alloc, tokens)?;
+    more_entries(alloc, first, rest)
+}
+
+// The entries behind `but`, if it is there.
+#[tactic(auto, unfolding(alloy_syntax::specs::Paragraphs::exceptions_at))]
+fn exceptions<'a>(alloc: Global, tokens: Tokens<'a>) -> Result<(Vec<Entry>, Tokens<'a>), Halt<'a>>
+    ensures value { Gives (λ x. (x.0.items, x.1.now)) result (exceptions_at tokens.now) }
+    ensures shorter { IfOk result (λ x. length x.1.now ≤ length tokens.now) }
+{
+    if next_is(tokens, Class::But) {
+        return entries(alloc, after(tokens));
+    }
+    Ok((Vec::new(alloc), tokens))
+}
+
+// Whether a number stands there that no name follows.
+#[tactic(auto, unfolding(alloy_syntax::specs::Paragraphs::has_default))]
+fn has_default(tokens: Tokens) -> bool
+    ensures { result ≡ has_default tokens.now }
+{
+    next_is(tokens, Class::Number) && !next_is(after(tokens), Class::Name)
+}
+
+// A command's scope, if it has one.
+#[tactic(auto, unfolding(alloy_syntax::specs::Paragraphs::scope_at))]
+fn scope<'a>(alloc: Global, tokens: Tokens<'a>) -> Result<(Option<Scope>, Tokens<'a>), Halt<'a>>
+    ensures value { Gives (λ x. (option_map scope_view x.0, x.1.now)) result (scope_at tokens.now) }
+    ensures shorter { IfOk result (λ x. length x.1.now ≤ length tokens.now) }
+{
+    if !next_is(tokens, Class::For) {
+        return Ok((None, tokens));
+    }
+    if !has_default(after(tokens)) {
+        let (entries, rest) = entries(alloc, after(tokens))?;
+        let default = None;
+        return Ok((Some(Scope { default, entries }), rest));
+    }
+    let (number, rest) = number(after(tokens))?;
+    let (entries, rest) = exceptions(alloc, rest)?;
+    let default = Some(number);
+    Ok((Some(Scope { default, entries }), rest))
+}
+
+// The number behind `expect`, if it is there.
+#[tactic(auto, unfolding(alloy_syntax::specs::Paragraphs::expected_at))]
+fn expected<'a>(tokens: Tokens<'a>) -> Result<(Option<Number>, Tokens<'a>), Halt<'a>>
+    ensures value { Gives (λ x. (x.0, x.1.now)) result (expected_at tokens.now) }
+    ensures shorter { IfOk result (λ x. length x.1.now ≤ length tokens.now) }
+{
+    if next_is(tokens, Class::Expect) {
+        let (number, rest) = number(after(tokens))?;
+        return Ok((Some(number), rest));
+    }
+    Ok((None, tokens))
+}
+
+// A name, if there is one.
+#[tactic(auto, unfolding(alloy_syntax::specs::Paragraphs::label_at))]
+fn label<'a>(alloc: Global, tokens: Tokens<'a>) -> Result<(Option<Name>, Tokens<'a>), Halt<'a>>
+    ensures value { Gives (λ x. (x.0, x.1.now)) result (label_at tokens.now) }
+    ensures shorter { IfOk result (λ x. length x.1.now ≤ length tokens.now) }
+{
+    if next_is(tokens, Class::Name) {
+        let (name, rest) = name(alloc, tokens)?;
+        return Ok((Some(name), rest));
+    }
+    Ok((None, tokens))
+}
+
+// What a command runs or checks: a name, or a block, which may have a label.
+#[tactic(auto, unfolding(alloy_syntax::specs::Paragraphs::target_at))]
+fn target<'a>(alloc: Global, tokens: Tokens<'a>) -> Result<(Target, Tokens<'a>), Halt<'a>>
+    ensures value { Gives (λ x. (target_view x.0, x.1.now)) result (target_at tokens.now) }
+    ensures shorter { IfOk result (λ x. length x.1.now < length tokens.now) }
+{
+    if next_is(tokens, Class::Name) && !next_is(after(tokens), Class::LeftBrace) {
+        let (name, rest) = name(alloc, tokens)?;
+        return Ok((Target::Named(name), rest));
+    }
+    let (label, rest) = label(alloc, tokens)?;
+    let (body, rest) = own_block(alloc, rest)?;
+    Ok((Target::Block(label, body), rest))
+}
+
+#[tactic(auto, unfolding(alloy_syntax::specs::Paragraphs::command_at))]
+fn command<'a>(
+    alloc: Global,
+    tokens: Tokens<'a>,
+    kind: CommandKind,
+    place: Place,
+) -> Result<(Paragraph, Tokens<'a>), Halt<'a>>
+    ensures value { Gives (λ x. (item_view x.0, x.1.now)) result (command_at kind place tokens.now) }
+    ensures shorter { IfOk result (λ x. length x.1.now < length tokens.now) }
+{
+    let (target, rest) = target(alloc, tokens)?;
+    let (scope, rest) = scope(alloc, rest)?;
+    let (expected, rest) = expected(rest)?;
+    let command = Command {
+        kind,
+        place,
+        target,
+        scope,
+        expected,
+    };
+    Ok((Paragraph::Command(command), rest))
+}
+
+// ---- a model
+
+#[tactic(auto, unfolding(alloy_syntax::specs::Paragraphs::item_at))]
+fn paragraph<'a>(alloc: Global, tokens: Tokens<'a>) -> Result<(Paragraph, Tokens<'a>), Halt<'a>>
+    ensures value { Gives (λ x. (item_view x.0, x.1.now)) result (item_at tokens.now) }
+    ensures shorter { IfOk result (λ x. length x.1.now < length tokens.now) }
+{
+    if next_is(tokens, Class::Fact) {
+        return fact(alloc, after(tokens));
+    }
+    if next_is(tokens, Class::Pred) {
+        return predicate(alloc, after(tokens));
+    }
+    if next_is(tokens, Class::Assert) {
+        return assertion(alloc, after(tokens));
+    }
+    if next_is(tokens, Class::Run) {
+        return command(alloc, after(tokens), CommandKind::Run, place_at(tokens));
+    }
+    if next_is(tokens, Class::Check) {
+        return command(alloc, after(tokens), CommandKind::Check, place_at(tokens));
+    }
+    signatures(alloc, tokens)
+}
+
+#[tactic(auto, unfolding(alloy_syntax::specs::Paragraphs::is_left))]
+fn is_left(tokens: Tokens) -> bool
+    ensures { result ≡ is_left tokens.now }
+{
+    !tokens.is_empty()
+}
+
+fn all_paragraphs<'a>(
+    alloc: Global,
+    tokens: Tokens<'a>,
+) -> Result<(Vec<Paragraph>, Tokens<'a>), Halt<'a>>
+    ensures { Gives (λ x. (map item_view x.0.items, x.1.now)) result (many is_left item_at tokens.now) }
+{
+    let mut all = Vec::new(alloc);
+    let mut rest = tokens;
+    'each: while is_left(rest) {
+        let (another, behind) = paragraph(alloc, rest)?;
+        all.push(another)?;
+        rest = behind;
+    }
+    Ok((all, rest))
+}
+
+// The name behind `module`, if it is there.
+#[tactic(auto, unfolding(alloy_syntax::specs::Paragraphs::heading_at))]
+fn heading<'a>(alloc: Global, tokens: Tokens<'a>) -> Result<(Option<Name>, Tokens<'a>), Halt<'a>>
+    ensures { Gives (λ x. (x.0, x.1.now)) result (heading_at tokens.now) }
+{
+    if next_is(tokens, Class::Module) {
+        let (name, rest) = name(alloc, after(tokens))?;
+        return Ok((Some(name), rest));
+    }
+    Ok((None, tokens))
+}
+
+/// The model that the tokens are, or where reading stops.
+#[tactic(auto, unfolding(alloy_syntax::specs::Paragraphs::model_of))]
+pub fn model<'a>(alloc: Global, tokens: Tokens<'a>) -> Result<Model, Halt<'a>>
+    ensures { Gives model_view result (model_of tokens.now) }
+{
+    let (heading, rest) = heading(alloc, tokens)?;
+    let (paragraphs, _) = all_paragraphs(alloc, rest)?;
+    Ok(Model {
+        heading,
+        paragraphs,
+    })
+}

@@ -1,0 +1,190 @@
+-- How a model is read: its paragraphs, one after the other.
+use Rattle.std.specs.Prelude.{ℕ, suc, List, [], ◌∷◌, Bool, true, false, not, ◌&&◌, if◌then◌else◌, Option, Some, None, Result, Ok, Err}
+use Rattle.alloy_lex.specs.declared.token.Place.{Place}
+use Rattle.alloy_syntax.specs.declared.class.Class.{Class}
+use Rattle.alloy_syntax.specs.declared.class.Class.TheVariants as class
+use Rattle.alloy_syntax.specs.declared.reading.Form.TheVariants as form
+use Rattle.alloy_syntax.specs.declared.reading.Standing.TheVariants as standing
+use Rattle.alloy_syntax.specs.declared.tree.Name.{Name}
+use Rattle.alloy_syntax.specs.declared.tree.Number.{Number}
+use Rattle.alloy_syntax.specs.declared.tree.Mark.{Mark}
+use Rattle.alloy_syntax.specs.declared.tree.Parent.{Parent}
+use Rattle.alloy_syntax.specs.declared.tree.Manner.TheVariants as manner
+use Rattle.alloy_syntax.specs.declared.tree.Entry.{Entry}
+use Rattle.alloy_syntax.specs.declared.tree.CommandKind.{CommandKind}
+use Rattle.alloy_syntax.specs.declared.tree.CommandKind.TheVariants as kind
+use Rattle.alloy_syntax.specs.declared.seen.Seen.{Seen}
+use Rattle.alloy_syntax.specs.Tree.{Declared, FieldTree, Braced, Aim, at_name, at_block, Bounding, Item, signatures, fact, predicate, assertion, command, ModelTree}
+use Rattle.alloy_syntax.specs.Readers.{Stop, unsupported, Parser, ◌>>=◌, next_is, after, place_at, expect, name_at, number_at, is_mark, mark_at, after_mark, many, listed, names_at}
+use Rattle.alloy_syntax.specs.Nodes.{Reader, within, block_over, declarations_over}
+use Rattle.alloy_syntax.specs.Bounds.{bound_within}
+
+-- So many constructs may nest, from the paragraph on. The brackets of a paragraph's own don't count.
+abbrev pub depth_limit : ℕ
+depth_limit = 200
+
+abbrev pub outermost : Reader
+outermost = within depth_limit
+
+-- a paragraph's own block
+abbrev pub own_block : Parser Braced
+own_block = block_over (within (suc depth_limit))
+
+-- ---- signatures
+
+-- field = names ":" [ mult ] bound
+unfoldable pub field_at : Parser FieldTree
+field_at ts = do
+  names ← names_at ts
+  colon ← expect class.Colon names.1
+  read ← bound_within (suc depth_limit) standing.Whole (after_mark colon.1)
+  Ok (record { names = names.0; mark = mark_at colon.1; bound = read.0.bound }, read.1)
+
+unfoldable pub fields_at : Parser (List FieldTree)
+fields_at ts = if next_is class.RightBrace ts then Ok ([], ts) else listed field_at ts
+
+unfoldable pub parent_at : Parser (Option Parent)
+parent_at ts =
+    if next_is class.Extends ts then name_at (after ts) >>= (λ x. Ok (Some (record { manner = manner.Extends; name = x.0 }), x.1))
+    else (if next_is class.In ts then name_at (after ts) >>= (λ x. Ok (Some (record { manner = manner.In; name = x.0 }), x.1))
+    else Ok (None, ts))
+
+-- `one`, `lone` or `some`
+unfoldable pub is_qualifier : List Seen → Bool
+is_qualifier ts = is_mark ts && not (next_is class.Set ts)
+
+unfoldable pub qualifier_at : List Seen → Option Mark
+qualifier_at ts = if is_qualifier ts then mark_at ts else None
+
+abbrev pub after_qualifier : List Seen → List Seen
+after_qualifier ts = if is_qualifier ts then after ts else ts
+
+abbrev pub after_abstract : List Seen → List Seen
+after_abstract ts = if next_is class.Abstract ts then after ts else ts
+
+-- whether `abstract` is among the qualifiers, which of the others is, and what stands behind them: each may stand once, in any order
+pub record Qualified : Type 0 where
+  pub is_abstract : Bool
+  pub mark : Option Mark
+  pub behind : List Seen
+
+unfoldable pub qualified : List Seen → Qualified
+qualified ts =
+    if next_is class.Abstract ts then record { is_abstract = true; mark = qualifier_at (after ts); behind = after_qualifier (after ts) }
+    else record { is_abstract = next_is class.Abstract (after_qualifier ts); mark = qualifier_at ts; behind = after_abstract (after_qualifier ts) }
+
+-- a block directly behind a signature is refused
+unfoldable pub signatures_at : Parser Item
+signatures_at ts = do
+  word ← expect class.Sig (qualified ts).behind
+  names ← names_at word.1
+  parent ← parent_at names.1
+  opened ← expect class.LeftBrace parent.1
+  fields ← fields_at opened.1
+  closed ← expect class.RightBrace fields.1
+  if next_is class.LeftBrace closed.1 then Err (unsupported form.Appended (place_at closed.1)) else Ok (signatures (qualified ts).is_abstract (qualified ts).mark names.0 parent.0 fields.0, closed.1)
+
+-- ---- facts, predicates and assertions, behind their first word
+
+unfoldable pub fact_at : Parser Item
+fact_at ts = own_block (if next_is class.Name ts then after ts else ts) >>= λ b. Ok (fact b.0, b.1)
+
+unfoldable pub parameters_at : Parser (List Declared)
+parameters_at = declarations_over outermost false
+
+-- [ decls ] and the closing bracket
+abbrev pub parameters_to : Class → Parser (List Declared)
+parameters_to closing ts =
+    if next_is closing ts then Ok ([], after ts)
+    else parameters_at ts >>= (λ x. expect closing x.1 >>= λ c. Ok (x.0, c.1))
+
+unfoldable pub parameter_list : Parser (List Declared)
+parameter_list ts =
+    if next_is class.LeftBracket ts then parameters_to class.RightBracket (after ts)
+    else (if next_is class.LeftParen ts then parameters_to class.RightParen (after ts)
+    else Ok ([], ts))
+
+unfoldable pub predicate_at : Parser Item
+predicate_at ts = do
+  name ← name_at ts
+  parameters ← parameter_list name.1
+  body ← own_block parameters.1
+  Ok (predicate name.0 parameters.0 body.0, body.1)
+
+unfoldable pub assertion_at : Parser Item
+assertion_at ts = do
+  name ← name_at ts
+  body ← own_block name.1
+  Ok (assertion name.0 body.0, body.1)
+
+-- ---- commands, behind their first word
+
+-- entry = [ "exactly" ] number name
+unfoldable pub entry_at : Parser Entry
+entry_at ts = do
+  number ← number_at (if next_is class.Exactly ts then after ts else ts)
+  name ← name_at number.1
+  Ok (record { exactly = next_is class.Exactly ts; number = number.0; name = name.0 }, name.1)
+
+unfoldable pub entries_at : Parser (List Entry)
+entries_at = listed entry_at
+
+-- [ "but" entries ]
+unfoldable pub exceptions_at : Parser (List Entry)
+exceptions_at ts = if next_is class.But ts then entries_at (after ts) else Ok ([], ts)
+
+-- a number that no name follows is the default
+unfoldable pub has_default : List Seen → Bool
+has_default ts = next_is class.Number ts && not (next_is class.Name (after ts))
+
+-- scope = "for" ( number [ "but" entries ] | entries )
+unfoldable pub scope_at : Parser (Option Bounding)
+scope_at ts =
+    if next_is class.For ts then
+    (if has_default (after ts) then (number_at (after ts) >>= λ n. exceptions_at n.1 >>= λ es. Ok (Some (record { default = Some n.0; entries = es.0 }), es.1))
+    else (entries_at (after ts) >>= λ es. Ok (Some (record { default = None; entries = es.0 }), es.1)))
+    else Ok (None, ts)
+
+-- [ "expect" number ]
+unfoldable pub expected_at : Parser (Option Number)
+expected_at ts = if next_is class.Expect ts then number_at (after ts) >>= (λ n. Ok (Some n.0, n.1)) else Ok (None, ts)
+
+-- [ name ]
+unfoldable pub label_at : Parser (Option Name)
+label_at ts = if next_is class.Name ts then name_at ts >>= (λ x. Ok (Some x.0, x.1)) else Ok (None, ts)
+
+-- a name, or a block, which may have a label
+unfoldable pub target_at : Parser Aim
+target_at ts =
+    if next_is class.Name ts && not (next_is class.LeftBrace (after ts)) then name_at ts >>= (λ x. Ok (at_name x.0, x.1))
+    else label_at ts >>= (λ label. own_block label.1 >>= λ b. Ok (at_block label.0 b.0, b.1))
+
+unfoldable pub command_at : CommandKind → Place → Parser Item
+command_at k p ts = do
+  target ← target_at ts
+  scope ← scope_at target.1
+  expected ← expected_at scope.1
+  Ok (command k p target.0 scope.0 expected.0, expected.1)
+
+-- ---- a model
+
+unfoldable pub item_at : Parser Item
+item_at ts =
+    if next_is class.Fact ts then fact_at (after ts)
+    else (if next_is class.Pred ts then predicate_at (after ts)
+    else (if next_is class.Assert ts then assertion_at (after ts)
+    else (if next_is class.Run ts then command_at kind.Run (place_at ts) (after ts)
+    else (if next_is class.Check ts then command_at kind.Check (place_at ts) (after ts)
+    else signatures_at ts))))
+
+unfoldable pub is_left : List Seen → Bool
+is_left [] = false
+is_left (t ∷ ts) = true
+
+-- [ "module" name ]
+unfoldable pub heading_at : Parser (Option Name)
+heading_at ts = if next_is class.Module ts then name_at (after ts) >>= (λ x. Ok (Some x.0, x.1)) else Ok (None, ts)
+
+-- the model that the tokens are, or where reading stops
+unfoldable pub model_of : List Seen → Result ModelTree Stop
+model_of ts = heading_at ts >>= λ h. many is_left item_at h.1 >>= λ x. Ok (record { heading = h.0; items = x.0 })

@@ -1,0 +1,11 @@
+// What a reader sees of a token.
+use crate::class::Class;
+use alloy_lex::{Place, Text};
+
+/// A token as a reader sees it: its terminal, its place, and what it spells.
+#[derive(Drop)]
+pub struct Seen {
+    pub class: Class,
+    pub place: Place,
+    pub text: Text,
+}
