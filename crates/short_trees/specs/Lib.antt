@@ -1,0 +1,2 @@
+pub mod ShortTree
+pub mod Read

@@ -1,0 +1,11 @@
+//! Short models, read from the trees that say them.
+#![tactic(auto)]
+
+mod command;
+mod formula;
+mod model;
+mod signature;
+#[cfg(test)]
+mod tests;
+
+pub use crate::model::short_model;
