@@ -4,6 +4,7 @@
 
 mod gates;
 mod refutations;
+mod texts;
 
 use std::alloc::{AllocError, Global};
 use std::{env, io};
@@ -33,6 +34,9 @@ fn measured(alloc: Global, name: &str, count: &str) -> Result<Option<u32>, Alloc
     }
     if name == "hints" {
         return Ok(refutations::failing_step(alloc, count)?);
+    }
+    if name == "lex" {
+        return Ok(texts::tokens(alloc, count)?);
     }
     Ok(None)
 }

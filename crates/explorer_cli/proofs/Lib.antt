@@ -1,2 +1,5 @@
-pub mod Runs
+pub mod Fronts
+pub mod RunLemmas
+pub mod Scripts
+pub mod Shows
 pub mod Words

@@ -2,40 +2,48 @@
 use Rattle.std.specs.Prelude.{◌≡◌, ◌⊎◌, ℕ, List, [], ◌∷◌, ◌++◌, map, codes, string_bytes}
 use Rattle.std.specs.declared.string.String.{String}
 use Rattle.outside_io.specs.Front.{AppendsPart}
-use Rattle.rel_formula.specs.Bounds.{Bounded}
-use Rattle.session_rules.specs.declared.reply.Step.TheVariants.{Next}
-use Rattle.session_rules.specs.declared.reply.Reply.{Reply}
-use Rattle.session_rules.specs.Machine.{State, Start, Exchange, MachineRun}
-use Rattle.script_text.specs.Replies.{IsSessionText}
-use Rattle.short_models.specs.Problem.{Short, IsShort, IsProblemOf}
+use Rattle.short_scripts.specs.Script.{Script, IsShortScript}
+use Rattle.short_models.specs.Problem.{Short}
+use Rattle.model_texts.specs.ModelText.{SaysShort, IsOther, IsFaulty}
+use Rattle.explorer_cli.specs.Runs.{IsRunOf}
 
--- replies to a session that is always asked for the next scenario
-abbrev pub to_next : Reply → Exchange
-to_next reply = record { step = Next; reply = reply }
+-- the line that names refused words
+abbrev pub words_line : List ℕ
+words_line = codes "fault words\n"
 
--- these replies are a run of the session machine over the problem, from the start with the budget of a session that is given none
-abbrev pub AreRepliesOn : Bounded → List Reply → Type 0
-AreRepliesOn p replies = (last : State) × MachineRun p (Start 20000) (map to_next replies) last
+-- the line that refuses a script
+abbrev pub script_line : List ℕ
+script_line = codes "fault script not_yet\n"
 
--- the text of a session on the problem of some short model, whose replies are a run of the session machine
-pub record IsRun (text : List ℕ) : Type 0 where
-  pub model : Short
-  pub short : IsShort model
-  pub problem : Bounded
-  pub of : IsProblemOf model problem
-  pub session : List ℕ
-  pub replies : List Reply
-  pub run : AreRepliesOn problem replies
-  pub written : IsSessionText problem session replies text
+-- the line that refuses the model of this name, with what is wrong with it
+abbrev pub model_line : List ℕ → List ℕ → List ℕ
+model_line name words = codes "fault model " ++ name ++ codes " " ++ words ++ codes "\n"
 
--- the line that names a model which isn't a short one
-abbrev pub IsModelFault : List ℕ → Type 0
-IsModelFault text = (name : List ℕ) × (text ≡ codes "fault model " ++ name ++ codes " not_yet\n")
+-- the model's text says a short model, and under 0 the text is that of a run of the script's session on it
+abbrev pub IsRunAnswer : Script → ℕ → List ℕ → Type 0
+IsRunAnswer s status text = (status ≡ 0) × ((m : Short) × SaysShort s.text m × IsRunOf s m text)
 
--- a text may be written under the status: the text of a run under 0, the script's fault line under 3, a model's under 4
-abbrev pub IsWrittenUnder : ℕ → List ℕ → Type 0
-IsWrittenUnder status text =
-    ((status ≡ 0) × IsRun text) ⊎ ((status ≡ 3) × (text ≡ codes "fault script not_yet\n")) ⊎ ((status ≡ 4) × IsModelFault text)
+-- the model's text is a model that isn't a short one, and under 4 the text is the line that says so
+abbrev pub IsOtherAnswer : Script → ℕ → List ℕ → Type 0
+IsOtherAnswer s status text = (status ≡ 4) × IsOther s.text × (text ≡ model_line s.model (codes "not_yet"))
+
+-- the model's text is no model, and under 4 the text is the line that tells its first fault
+abbrev pub IsFaultAnswer : Script → ℕ → List ℕ → Type 0
+IsFaultAnswer s status text = (status ≡ 4) × ((words : List ℕ) × IsFaulty s.text words × (text ≡ model_line s.model words))
+
+-- a status and a text answer a short script
+abbrev pub IsAnswerToScript : Script → ℕ → List ℕ → Type 0
+IsAnswerToScript s status text = IsRunAnswer s status text ⊎ IsOtherAnswer s status text ⊎ IsFaultAnswer s status text
+
+-- a status and a text answer the bytes of the input: those of a short script as it says, and others with a line under 3
+abbrev pub IsAnswerTo : List ℕ → ℕ → List ℕ → Type 0
+IsAnswerTo bytes status text =
+    ((s : Script) × IsShortScript bytes s × IsAnswerToScript s status text)
+    ⊎ (((s : Script) → IsShortScript bytes s → ⊥) × (status ≡ 3) × (text ≡ script_line))
+
+-- some bytes of an answer to these bytes were appended, and not all of it
+abbrev pub IsPartOfAnswer : List ℕ → List ℕ → List ℕ → Type 0
+IsPartOfAnswer bytes old new = (status : ℕ) × (text : List ℕ) × IsAnswerTo bytes status text × AppendsPart old new text
 
 -- the words are the one word `run`
 abbrev pub IsRunWord : {Z : Type 0} → List (String Z) → Type 0
@@ -44,11 +52,3 @@ IsRunWord words = map string_bytes words ≡ codes "run" ∷ []
 -- done, refused words, a refused script, a refused model, a source that failed, a sink that failed, want of memory
 abbrev pub IsStatus : ℕ → Type 0
 IsStatus n = (n ≡ 0) ⊎ (n ≡ 2) ⊎ (n ≡ 3) ⊎ (n ≡ 4) ⊎ (n ≡ 5) ⊎ (n ≡ 6) ⊎ (n ≡ 7)
-
--- the line that names refused words
-abbrev pub words_line : List ℕ
-words_line = codes "fault words\n"
-
--- some bytes of a text that may be written, and not all of it, were appended
-abbrev pub IsPartOfAnswer : List ℕ → List ℕ → Type 0
-IsPartOfAnswer old new = (text : List ℕ) × ((text ≡ words_line) ⊎ ((status : ℕ) × IsWrittenUnder status text)) × AppendsPart old new text

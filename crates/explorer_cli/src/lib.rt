@@ -2,10 +2,7 @@
 #![tactic(auto)]
 
 mod answer;
-mod lines;
-mod model_text;
-mod model_words;
-mod script;
+pub mod laws;
 #[cfg(test)]
 mod tests;
 mod top_call;

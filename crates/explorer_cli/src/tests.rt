@@ -55,6 +55,10 @@ fn shows_minimal_scenarios_and_then_an_end(rt: HostRuntime) -> Result<(), Fail> 
             "scenario 1\nA = {}\nB = {B$0}\nC = {}\nend 1\n",
         ),
         (
+            "sig A, B {} run { some A and no B }",
+            "scenario 1\nA = {A$0}\nB = {}\nend 1\n",
+        ),
+        (
             "sig A, B, C, D {} run { some D }",
             "scenario 1\nA = {}\nB = {}\nC = {}\nD = {D$0}\nend 1\n",
         ),
@@ -84,16 +88,52 @@ fn refuses_other_models(rt: HostRuntime) -> Result<(), Fail> {
         "sig A {} run {} run {}",
         "sig A {} run {} for 13",
         "sig A, B, C, D, E {} run {}",
-        "sig A, B {} run { some A and some B }",
-        "sig A, B {} run { some A & some B }",
-        "sig some {} run {}",
-        "sig A {} run {} /* open",
-        "sig A {} run {",
+        "one sig A {} run {}",
+        "sig A {} fact {} run {}",
+        "sig A {} check {}",
+        "sig A {} run show {}",
+        "sig A {} run {} expect 1",
+        "module m sig A {} run {}",
+        "sig A {} run { (some A) }",
+        "sig A {} run { some A || no A }",
+        "sig A {} run {} for 2 A",
     ];
     for model in rows {
         let script = format!(in rt.alloc(); "== model m\n{model}\n== session a m 1\nnext\n")?;
         let (status, text) = run(rt.alloc(), &script)?;
         assert_eq!(rt; text.as_str(), "fault model m not_yet\n", "{model}");
+        assert_eq!(rt; status, 4, "{model}");
+    }
+    Ok(())
+}
+
+#[test]
+fn tells_the_first_fault_of_a_model(rt: HostRuntime) -> Result<(), Fail> {
+    let rows = [
+        (
+            "sig A {} run { one a, b: A | some a }",
+            "1:23 unsupported several",
+        ),
+        (
+            "sig A { f: A lone -> A -> A }",
+            "1:14 unsupported arrow_multiplicity",
+        ),
+        ("sig A {} run { always some A }", "1:16 unsupported always"),
+        ("sig A {} /*", "1:10 open_comment"),
+        ("sig A {} fact { A ? A }", "1:19 bad_character"),
+        ("sig A {} run {} for 1001", "1:21 number_too_large"),
+        ("sig A, B {} run { some A & some B }", "1:28 unexpected"),
+        ("sig A {}\n\nrun {", "3:6 end_of_text"),
+        (
+            "// \u{e9}\u{1f600}\n/* \u{e9} */ sig /",
+            "2:13 bad_character",
+        ),
+    ];
+    for (model, fault) in rows {
+        let script = format!(in rt.alloc(); "== model m_1\n{model}\n== session a m_1 1\nnext\n")?;
+        let (status, text) = run(rt.alloc(), &script)?;
+        let expected = format!(in rt.alloc(); "fault model m_1 {fault}\n")?;
+        assert_eq!(rt; text.as_str(), expected.as_str(), "{model}");
         assert_eq!(rt; status, 4, "{model}");
     }
     Ok(())

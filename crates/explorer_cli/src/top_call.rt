@@ -1,12 +1,12 @@
 // The top call.
-ghost use Rattle.std.specs.Prelude.{◌≡◌, ◌≢◌, ◌⊎◌, ◌↔◌, ◌++◌, ◌∷◌, [], ℕ, List, codes, drop, IsTrue};
+ghost use Rattle.std.specs.Prelude.{◌≡◌, ◌≢◌, ◌⊎◌, ◌↔◌, ◌++◌, ℕ, List, drop, IsTrue};
 ghost use Rattle.outside_io.specs.Count.{Rose};
 ghost use Rattle.outside_io.specs.Front.{AppendsPart};
-ghost use Rattle.explorer_cli.specs.Outcome.{IsRunWord, IsStatus, IsWrittenUnder, IsPartOfAnswer};
+ghost use Rattle.explorer_cli.specs.Outcome.{IsRunWord, IsStatus, IsAnswerTo, IsPartOfAnswer, words_line};
 
 use crate::answer::answer_to;
-use crate::script::MOST_BYTES;
 use outside_io::{ReadFault, Sink, Source, read_all, write_all};
+use short_scripts::MOST_BYTES;
 use std::alloc::Global;
 
 /// Reads what the source has, does what the words say, writes to the sink, and gives the program's status:
@@ -24,7 +24,7 @@ pub fn explore<S: Source, K: Sink>(
     // The words are refused exactly where they aren't the one word `run`; then nothing is read.
     ensures refused { (IsRunWord words.now → ⊥) → ((result ≡ 2) ⊎ (result ≡ 6)) × (source.new ≡ source.old) }
     ensures taken { IsRunWord words.now → result ≢ 2 }
-    ensures words_line { K.tells sink.old → result ≡ 2 → K.written sink.new ≡ K.written sink.old ++ codes "fault words\n" }
+    ensures words_line { K.tells sink.old → result ≡ 2 → K.written sink.new ≡ K.written sink.old ++ words_line }
 
     // A fault comes only where the count of the object that was handed in rose; want of memory writes nothing.
     ensures source_failed { result ≡ 5 → Rose (S.faults source.old) (S.faults source.new) × (sink.new ≡ sink.old) }
@@ -34,9 +34,14 @@ pub fn explore<S: Source, K: Sink>(
     // All that the source had is read, and of more than a script may have just one byte beyond that.
     ensures read { S.tells source.old → IsRunWord words.now → ((result ≡ 5) ⊎ (result ≡ 7)) ⊎ (S.left source.new ≡ drop 1048577 (S.left source.old)) }
 
-    // What is written is the answer, and under 6 a part of it.
-    ensures answer { K.tells sink.old → IsRunWord words.now → ((result ≡ 5) ⊎ (result ≡ 6) ⊎ (result ≡ 7)) ⊎ ((text : List ℕ) × IsWrittenUnder result text × (K.written sink.new ≡ K.written sink.old ++ text)) }
-    ensures part { K.tells sink.old → result ≡ 6 → IsPartOfAnswer (K.written sink.old) (K.written sink.new) }
+    // What is written is the answer to all that the source had, and under 6 a part of it.
+    ensures answer { S.tells source.old → K.tells sink.old → IsRunWord words.now → ((result ≡ 5) ⊎ (result ≡ 6) ⊎ (result ≡ 7)) ⊎ ((text : List ℕ) × IsAnswerTo (S.left source.old) result text × (K.written sink.new ≡ K.written sink.old ++ text)) }
+    ensures part { S.tells source.old → K.tells sink.old → IsRunWord words.now → result ≡ 6 → IsPartOfAnswer (S.left source.old) (K.written sink.old) (K.written sink.new) }
+    ensures words_part { K.tells sink.old → (IsRunWord words.now → ⊥) → result ≡ 6 → AppendsPart (K.written sink.old) (K.written sink.new) words_line }
+
+    // Also where the source doesn't tell its bytes, it is the answer to some bytes.
+    ensures untold { K.tells sink.old → IsRunWord words.now → ((result ≡ 5) ⊎ (result ≡ 6) ⊎ (result ≡ 7)) ⊎ ((bytes : List ℕ) × (text : List ℕ) × IsAnswerTo bytes result text × (K.written sink.new ≡ K.written sink.old ++ text)) }
+    ensures untold_part { K.tells sink.old → IsRunWord words.now → result ≡ 6 → (bytes : List ℕ) × IsPartOfAnswer bytes (K.written sink.old) (K.written sink.new) }
 {
     if !are_run(words) {
         return finish(sink, 2, b"fault words\n");
@@ -60,8 +65,8 @@ fn write_answer<K: Sink>(alloc: Global, bytes: &[u8], sink: &mut K) -> u8
     ensures status { (result ≡ 0) ⊎ (result ≡ 3) ⊎ (result ≡ 4) ⊎ (result ≡ 6) ⊎ (result ≡ 7) }
     ensures failed { result ≡ 6 → Rose (K.faults sink.old) (K.faults sink.new) }
     ensures no_memory { result ≡ 7 → sink.new ≡ sink.old }
-    ensures answer { K.tells sink.old → ((result ≡ 6) ⊎ (result ≡ 7)) ⊎ ((text : List ℕ) × IsWrittenUnder result text × (K.written sink.new ≡ K.written sink.old ++ text)) }
-    ensures part { K.tells sink.old → result ≡ 6 → IsPartOfAnswer (K.written sink.old) (K.written sink.new) }
+    ensures answer { K.tells sink.old → ((result ≡ 6) ⊎ (result ≡ 7)) ⊎ ((text : List ℕ) × IsAnswerTo bytes.now result text × (K.written sink.new ≡ K.written sink.old ++ text)) }
+    ensures part { K.tells sink.old → result ≡ 6 → IsPartOfAnswer bytes.now (K.written sink.old) (K.written sink.new) }
 {
     match answer_to(alloc, bytes) {
         Ok(answer) => finish(sink, answer.status, &answer.text),

@@ -1,10 +1,9 @@
-use Rattle.std.proofs.Common.{◌≡◌, List, map, subst, ◌∙◌}
+use Rattle.std.proofs.Common.{◌≡◌, List, ℕ, map, subst, ◌∙◌, string_bytes}
 use Rattle.rel_formula.specs.Bounds.{Bounded}
 use Rattle.session_rules.specs.declared.reply.Reply.{Reply}
 use Rattle.session_rules.specs.Machine.{State, MachineRun}
 use Rattle.script_text.specs.Replies.{IsSessionText}
-use Rattle.short_models.specs.Problem.{short_of}
-use Rattle.explorer_cli.specs.Outcome.{to_next}
+use Rattle.explorer_cli.specs.Runs.{to_next}
 use Rattle.explorer_cli.proofs.answer.run.Goals as goal
 
 pub returns : goal.returns
@@ -16,14 +15,15 @@ returns c =
     let moved = subst (λ (q : Bounded). MachineRun q s.state (map to_next replies) last) c.in_ok-session.ensures.problem c.in_ok-answered.ensures.run in
     let begun = subst (λ (t : State). MachineRun p t (map to_next replies) last) c.in_ok-session.ensures.start moved in
     let same : c.problem.result.now ≡ p = c.problem.ensures ∙ c.in_ok-answered.ensures.problem ∙ c.in_ok-session.ensures.problem in
+    let named : IsSessionText c.problem.result.now (string_bytes c.args.script.now.session) c.deref.result.now c.in_ok-session_text.field-0.items =
+    subst (λ (name : List ℕ). IsSessionText c.problem.result.now name c.deref.result.now c.in_ok-session_text.field-0.items) c.as_str.ensures.value c.in_ok-session_text.ensures in
     record {
-      model = short_of c.args.model.now;
       short = c.requires;
       problem = p;
       of = c.in_ok-problem.ensures.problem;
-      session = c.args.name.now;
       replies = replies;
+      count = c.in_ok-answered.ensures.count;
       run = (last, begun);
-      written = subst (λ (q : Bounded). IsSessionText q c.args.name.now replies c.in_ok-session_text.field-0.items) same
-          (subst (λ (rs : List Reply). IsSessionText c.problem.result.now c.args.name.now rs c.in_ok-session_text.field-0.items) c.deref.ensures.value c.in_ok-session_text.ensures);
+      written = subst (λ (q : Bounded). IsSessionText q (string_bytes c.args.script.now.session) replies c.in_ok-session_text.field-0.items) same
+          (subst (λ (rs : List Reply). IsSessionText c.problem.result.now (string_bytes c.args.script.now.session) rs c.in_ok-session_text.field-0.items) c.deref.ensures.value named);
     }

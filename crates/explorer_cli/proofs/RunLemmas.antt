@@ -7,7 +7,7 @@ use Rattle.session_rules.specs.declared.reply.Reply.{Reply}
 use Rattle.session_rules.specs.declared.reply.Reply.TheVariants.{Shown, End, Memory}
 use Rattle.session_rules.specs.Machine.{State, Exchange, MachineStep, MachineRun}
 use Rattle.script_text.specs.Replies.{FitsProblem}
-use Rattle.explorer_cli.specs.Outcome.{to_next}
+use Rattle.explorer_cli.specs.Runs.{to_next}
 
 run_push : (p : Bounded) (s : State) (xs : List Exchange) (m : State) (x : Exchange) (t : State) → MachineRun p s xs m → MachineStep p m x.step x.reply t → MachineRun p s (xs ++ x ∷ []) t
 run_push p s [] m x t e step = (t, subst (λ (u : State). MachineStep p u x.step x.reply t) e step, refl)

@@ -1,0 +1,50 @@
+-- Runs of a session that is always asked for the next scenario.
+use Rattle.std.specs.Prelude.{◌≡◌, ◌<◌, ℕ, List, [], ◌∷◌, map, length, slice_get, Some}
+use Rattle.tuple_core.specs.declared.atom.Atom.{Atom}
+use Rattle.rel_formula.specs.Bounds.{Bounded}
+use Rattle.rel_formula.specs.Renaming.{IsRenaming, IsImage}
+use Rattle.session_rules.specs.declared.reply.Step.TheVariants.{Next}
+use Rattle.session_rules.specs.declared.reply.Reply.{Reply}
+use Rattle.session_rules.specs.declared.reply.Reply.TheVariants.{Shown, End, Memory}
+use Rattle.session_rules.specs.Machine.{State, Start, Exchange, MachineRun}
+use Rattle.script_text.specs.Replies.{IsSessionText}
+use Rattle.short_scripts.specs.Script.{Script}
+use Rattle.short_models.specs.Problem.{Short, IsShort, IsProblemOf}
+
+-- replies to a session that is always asked for the next scenario
+abbrev pub to_next : Reply → Exchange
+to_next reply = record { step = Next; reply = reply }
+
+-- these replies are a run of the session machine over the problem, from the start with the budget of a session that is given none
+abbrev pub AreRepliesOn : Bounded → List Reply → Type 0
+AreRepliesOn p replies = (last : State) × MachineRun p (Start 20000) (map to_next replies) last
+
+-- the text of the script's session on the problem of a short model: the replies are a run of the session machine, one for each `next`
+pub record IsRunOf (s : Script) (m : Short) (text : List ℕ) : Type 0 where
+  pub short : IsShort m
+  pub problem : Bounded
+  pub of : IsProblemOf m problem
+  pub replies : List Reply
+  pub count : length replies ≡ s.nexts
+  pub run : AreRepliesOn problem replies
+  pub written : IsSessionText problem s.session replies text
+
+-- the scenarios that replies show, in order
+abbrev pub scenarios_in : List Reply → List (List ℕ)
+scenarios_in [] = []
+scenarios_in (Shown number scenario ∷ others) = scenario ∷ scenarios_in others
+scenarios_in (End number ∷ others) = scenarios_in others
+scenarios_in (Memory ∷ others) = scenarios_in others
+
+-- the scenario was shown at a place before this one
+abbrev pub IsShownBefore : List Reply → ℕ → List ℕ → Type 0
+IsShownBefore replies before scenario = (place : ℕ) × (number : ℕ) × (place < before) × (slice_get replies place ≡ Some (Shown number scenario))
+
+-- a renaming, there and back, takes the scenario to one that was shown before
+pub record IsRenamingOfShown (p : Bounded) (replies : List Reply) (before : ℕ) (scenario : List ℕ) : Type 0 where
+  pub there : Atom → Atom
+  pub back : Atom → Atom
+  pub image : List ℕ
+  pub renaming : IsRenaming p there back
+  pub is_image : IsImage p there scenario image
+  pub shown : IsShownBefore replies before image

@@ -1,0 +1,58 @@
+// Laws of the definitions: each is the contract of a function that does nothing.
+ghost use Rattle.std.specs.Prelude.{◌≡◌, ◌+◌, ℕ, List, [], length, take, slice_get, Some};
+ghost use Rattle.tuple_core.specs.declared.atom.Atom.{Atom};
+ghost use Rattle.rel_formula.specs.Bounds.{Bounded};
+ghost use Rattle.rel_formula.specs.Instance.{IsMinimalAbove};
+ghost use Rattle.rel_formula.specs.Order.{IsDue};
+ghost use Rattle.rel_formula.specs.Renaming.{IsRenaming, IsImage};
+ghost use Rattle.session_rules.specs.declared.reply.Reply.{Reply};
+ghost use Rattle.session_rules.specs.declared.reply.Reply.TheVariants.{Shown, End};
+ghost use Rattle.short_scripts.specs.Script.{Script, IsShortScript};
+ghost use Rattle.short_models.specs.Problem.{Short};
+ghost use Rattle.explorer_cli.specs.Runs.{AreRepliesOn, IsRunOf, scenarios_in, IsShownBefore, IsRenamingOfShown};
+
+/// Bytes are those of one short script at most.
+pub fn bytes_say_one_script()
+    ensures { (bytes : List ℕ) (s t : Script) → IsShortScript bytes s → IsShortScript bytes t → s ≡ t }
+{}
+
+/// Each scenario that is shown is due and minimal, and its number is its place, from 1, among those that are shown.
+pub fn shown_are_minimal()
+    ensures due { (p : Bounded) (replies : List Reply) → AreRepliesOn p replies
+        → (place number : ℕ) (scenario : List ℕ) → slice_get replies place ≡ Some (Shown number scenario) → IsDue p [] scenario }
+    ensures minimal { (p : Bounded) (replies : List Reply) → AreRepliesOn p replies
+        → (place number : ℕ) (scenario : List ℕ) → slice_get replies place ≡ Some (Shown number scenario) → IsMinimalAbove p [] scenario }
+    ensures number { (p : Bounded) (replies : List Reply) → AreRepliesOn p replies
+        → (place number : ℕ) (scenario : List ℕ) → slice_get replies place ≡ Some (Shown number scenario)
+        → number ≡ length (scenarios_in (take place replies)) + 1 }
+{}
+
+/// No scenario is shown twice.
+pub fn none_is_shown_twice()
+    ensures { (p : Bounded) (replies : List Reply) → AreRepliesOn p replies
+        → (first second number other : ℕ) (scenario : List ℕ)
+        → slice_get replies first ≡ Some (Shown number scenario) → slice_get replies second ≡ Some (Shown other scenario)
+        → first ≡ second }
+{}
+
+/// At an end every scenario that is due was shown before, with it whatever is a renaming of it, and the end's number is
+/// how many were shown.
+pub fn end_says_all()
+    ensures all { (p : Bounded) (replies : List Reply) → AreRepliesOn p replies
+        → (end number : ℕ) → slice_get replies end ≡ Some (End number)
+        → (scenario : List ℕ) → IsDue p [] scenario → IsShownBefore replies end scenario }
+    ensures renamings { (p : Bounded) (replies : List Reply) → AreRepliesOn p replies
+        → (end number : ℕ) → slice_get replies end ≡ Some (End number)
+        → (scenario image : List ℕ) (there back : Atom → Atom) → IsRenaming p there back → IsImage p there scenario image
+        → IsDue p [] image → IsRenamingOfShown p replies end scenario }
+    ensures number { (p : Bounded) (replies : List Reply) → AreRepliesOn p replies
+        → (end number : ℕ) → slice_get replies end ≡ Some (End number)
+        → number ≡ length (scenarios_in (take end replies)) }
+{}
+
+/// Once a session on a short model was answered by an end, every minimal scenario is a renaming of one that was shown.
+pub fn nothing_is_left_after_an_end()
+    ensures { (s : Script) (m : Short) (text : List ℕ) (run : IsRunOf s m text)
+        → (end number : ℕ) → slice_get run.replies end ≡ Some (End number)
+        → (scenario : List ℕ) → IsMinimalAbove run.problem [] scenario → IsRenamingOfShown run.problem run.replies end scenario }
+{}
