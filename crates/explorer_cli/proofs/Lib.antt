@@ -2,4 +2,5 @@ pub mod Fronts
 pub mod RunLemmas
 pub mod Scripts
 pub mod Shows
+pub mod Statuses
 pub mod Words

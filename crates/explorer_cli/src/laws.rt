@@ -9,11 +9,19 @@ ghost use Rattle.session_rules.specs.declared.reply.Reply.{Reply};
 ghost use Rattle.session_rules.specs.declared.reply.Reply.TheVariants.{Shown, End};
 ghost use Rattle.short_scripts.specs.Script.{Script, IsShortScript};
 ghost use Rattle.short_models.specs.Problem.{Short};
+ghost use Rattle.model_texts.specs.ModelText.{SaysShort};
+ghost use Rattle.explorer_cli.specs.Outcome.{IsAnswerTo};
 ghost use Rattle.explorer_cli.specs.Runs.{AreRepliesOn, IsRunOf, scenarios_in, IsShownBefore, IsRenamingOfShown};
 
 /// Bytes are those of one short script at most.
 pub fn bytes_say_one_script()
     ensures { (bytes : List ℕ) (s t : Script) → IsShortScript bytes s → IsShortScript bytes t → s ≡ t }
+{}
+
+/// A short script whose model is short is answered under 0, where nothing fails.
+pub fn short_models_are_run()
+    ensures { (bytes : List ℕ) (s : Script) (m : Short) (status : ℕ) (text : List ℕ)
+        → IsShortScript bytes s → SaysShort s.text m → IsAnswerTo bytes status text → status ≡ 0 }
 {}
 
 /// Each scenario that is shown is due and minimal, and its number is its place, from 1, among those that are shown.
