@@ -5,8 +5,11 @@
 mod gates;
 mod refutations;
 mod texts;
+mod turns;
 
 use std::alloc::{AllocError, Global};
+use std::sync::Wait;
+use std::thread::Threads;
 use std::{env, io};
 
 fn main(rt: HostRuntime) -> io::Result<()> {
@@ -15,7 +18,7 @@ fn main(rt: HostRuntime) -> io::Result<()> {
         words.push(word)?;
     }
     for pair in words.chunks_exact(2) {
-        let found = measured(rt.alloc(), pair[0].as_str(), pair[1].as_str())?;
+        let found = measured(&rt, rt.alloc(), pair[0].as_str(), pair[1].as_str())?;
         match found {
             Some(number) => println!(rt; "{} {} {number}", pair[0], pair[1])?,
             None => println!(rt; "{} {} is no measure", pair[0], pair[1])?,
@@ -25,7 +28,12 @@ fn main(rt: HostRuntime) -> io::Result<()> {
 }
 
 // The number that a measure gives at a count.
-fn measured(alloc: Global, name: &str, count: &str) -> Result<Option<u32>, AllocError> {
+fn measured<R: Threads + Wait + Sync>(
+    rt: &R,
+    alloc: Global,
+    name: &str,
+    count: &str,
+) -> Result<Option<u32>, AllocError> {
     let Ok(count) = count.parse::<u32>() else {
         return Ok(None);
     };
@@ -38,5 +46,10 @@ fn measured(alloc: Global, name: &str, count: &str) -> Result<Option<u32>, Alloc
     if name == "lex" {
         return Ok(texts::tokens(alloc, count)?);
     }
-    Ok(None)
+    match name {
+        "turns" => Ok(Some(turns::taken(rt, alloc, 1, count)?)),
+        "turns_of_two" => Ok(Some(turns::taken(rt, alloc, 2, count)?)),
+        "turns_of_four" => Ok(Some(turns::taken(rt, alloc, 4, count)?)),
+        _ => Ok(None),
+    }
 }

@@ -1,0 +1,9 @@
+pub mod Lists
+pub mod Keeps
+pub mod Taking
+pub mod Beginning
+pub mod Splitting
+pub mod Joining
+pub mod Closing
+pub mod Passing
+pub mod Rule

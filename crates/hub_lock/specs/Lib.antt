@@ -1,0 +1,3 @@
+pub mod Passes
+pub mod Between
+pub mod Orderly
