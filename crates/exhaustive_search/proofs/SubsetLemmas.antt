@@ -10,8 +10,10 @@ use Rattle.std.proofs.lemmas.List.Elements.{All-contains, All-nil, All-cons, All
 use Rattle.rel_formula.proofs.Rising.{Rises}
 use Rattle.rel_formula.proofs.Lists.{pairs_nil, pairs_head, pairs_tail, pairs_append, pairs_map}
 use Rattle.rel_formula.proofs.Open.{cons_cases, cons_first, map_has, has_map}
+use Rattle.rel_formula.specs.Instance.{with_cell}
 use Rattle.rel_formula.proofs.Same.{same_rising}
-use Rattle.exhaustive_search.specs.Subsets.{IsSubset}
+use Rattle.rel_formula.proofs.WithCell.{with_cell_has, with_cell_rises}
+use Rattle.exhaustive_search.specs.Subsets.{IsRisingBelow}
 
 abbrev pub with : ℕ → List ℕ → List ℕ
 with n s = s ++ n ∷ []
@@ -20,13 +22,13 @@ abbrev pub subsets : ℕ → List (List ℕ)
 subsets zero = [] ∷ []
 subsets (suc n) = subsets n ++ map (with n) (subsets n)
 
-pub no_numbers : (n : ℕ) → IsSubset n []
+pub no_numbers : (n : ℕ) → IsRisingBelow n []
 no_numbers n = record { below = All-nil (λ k. k < n); rising = pairs_nil (λ j k. j < k) }
 
-pub more_below : (n : ℕ) (s : List ℕ) → IsSubset n s → IsSubset (suc n) s
+pub more_below : (n : ℕ) (s : List ℕ) → IsRisingBelow n s → IsRisingBelow (suc n) s
 more_below n s is = record { below = All-weaker (λ k. k < n) (λ k. k < suc n) (λ k l. omega arith) s is.below; rising = is.rising }
 
-pub with_last : (n : ℕ) (s : List ℕ) → IsSubset n s → IsSubset (suc n) (with n s)
+pub with_last : (n : ℕ) (s : List ℕ) → IsRisingBelow n s → IsRisingBelow (suc n) (with n s)
 with_last n s is = record {
   below = All-push (λ k. k < suc n) s n (more_below n s is).below (omega arith);
   rising = all_pairs_push (λ j k. j < k) s n is.rising (λ k d l. is.below k d l);
@@ -49,15 +51,15 @@ front_up n s front is up i j d l h =
 record Last (n : ℕ) (s : List ℕ) : Type 0 where
   front : List ℕ
   is : s ≡ with n front
-  below : IsSubset n front
+  below : IsRisingBelow n front
 
-last_cases : (n : ℕ) (s : List ℕ) → IsSubset (suc n) s → IsSubset n s ⊎ Last n s
+last_cases : (n : ℕ) (s : List ℕ) → IsRisingBelow (suc n) s → IsRisingBelow n s ⊎ Last n s
 last_cases n [] is = inl (no_numbers n)
 last_cases n (x ∷ xs) is =
     let up = is.rising in
     let less = All-head (λ k. k < suc n) x xs is.below in
     let above = pairs_head (λ j k. j < k) x xs up in
-    let tail : IsSubset (suc n) xs = record { below = All-tail (λ k. k < suc n) x xs is.below; rising = pairs_tail (λ j k. j < k) x xs up } in
+    let tail : IsRisingBelow (suc n) xs = record { below = All-tail (λ k. k < suc n) x xs is.below; rising = pairs_tail (λ j k. j < k) x xs up } in
     elim (last_cases n xs tail) [
       | inl short ↦ elim (cases_lt x n) [
         | inl l ↦ inl (record { below = All-cons (λ k. k < n) x xs l short.below; rising = up })
@@ -80,14 +82,14 @@ last_cases n (x ∷ xs) is =
           })
     ]
 
-pub has_subset : (n : ℕ) (s : List ℕ) → Contains (subsets n) s → IsSubset n s
-has_subset zero s c = elim (cons_cases [] [] s c) [ inl e ↦ subst (IsSubset zero) e (no_numbers zero) | inr none ↦ absurd (let l = none.1 in omega arith) ]
+pub has_subset : (n : ℕ) (s : List ℕ) → Contains (subsets n) s → IsRisingBelow n s
+has_subset zero s c = elim (cons_cases [] [] s c) [ inl e ↦ subst (IsRisingBelow zero) e (no_numbers zero) | inr none ↦ absurd (let l = none.1 in omega arith) ]
 has_subset (suc n) s c = elim (Contains-append_cases (subsets n) (map (with n) (subsets n)) s c) [
   | inl old ↦ more_below n s (has_subset n s old)
-  | inr new ↦ let h = map_has (with n) (subsets n) s new in subst (IsSubset (suc n)) (sym h.2) (with_last n h.0 (has_subset n h.0 h.1))
+  | inr new ↦ let h = map_has (with n) (subsets n) s new in subst (IsRisingBelow (suc n)) (sym h.2) (with_last n h.0 (has_subset n h.0 h.1))
 ]
 
-pub subset_has : (n : ℕ) (s : List ℕ) → IsSubset n s → Contains (subsets n) s
+pub subset_has : (n : ℕ) (s : List ℕ) → IsRisingBelow n s → Contains (subsets n) s
 subset_has zero [] is = cons_first [] []
 subset_has zero (x ∷ xs) is = absurd (let l = All-head (λ k. k < zero) x xs is.below in omega arith)
 subset_has (suc n) s is = elim (last_cases n s is) [
@@ -108,16 +110,17 @@ subsets_once (suc n) =
     let f = All-contains (λ k. k < n) s n old.below n_in in
     omega arith)
 
-pub subsets_are : (n : ℕ) (s : List ℕ) → Contains (subsets n) s ↔ IsSubset n s
+pub subsets_are : (n : ℕ) (s : List ℕ) → Contains (subsets n) s ↔ IsRisingBelow n s
 subsets_are n s = (has_subset n s, subset_has n s)
 
 pub subsets_more : (n : ℕ) → subsets (n + 1) ≡ subsets n ++ map (with n) (subsets n)
 subsets_more n = ap subsets (add-one n)
 
 -- a set with one number more, which comes after its own
-pub with_is : (n : ℕ) (s t : List ℕ) → IsSubset n s → Rises t → ((k : ℕ) → Contains t k ↔ (Contains s k ⊎ (k ≡ n))) → t ≡ with n s
-with_is n s t is up has =
-    same_rising t (with n s) up (with_last n s is).rising (λ k. (
+pub with_is : (n : ℕ) (s : List ℕ) → IsRisingBelow n s → with_cell n s ≡ with n s
+with_is n s is =
+    let has = with_cell_has n s in
+    same_rising (with_cell n s) (with n s) (with_cell_rises n s is.rising) (with_last n s is).rising (λ k. (
       λ c. elim ((has k).0 c) [ inl d ↦ Contains-append_left s (n ∷ []) k d | inr e ↦ subst (Contains (with n s)) (sym e) (Contains-push s n) ],
       λ c. (has k).1 (elim (Contains-push_cases s n k c) [ inl d ↦ inl d | inr e ↦ inr (sym e) ]),
     ))

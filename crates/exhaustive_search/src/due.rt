@@ -1,9 +1,8 @@
 // The scenarios that are due.
 ghost use Rattle.std.specs.Prelude.{◌≡◌, ◌≢◌, ◌↔◌, ◌≤◌, [], ℕ, List, length, AllPairs, Contains, IfOk, IsTrue};
 ghost use Rattle.rel_formula.specs.Bounds.{cells_of};
-ghost use Rattle.rel_formula.specs.Order.{IsDue};
-ghost use Rattle.rel_formula.specs.Renaming.{IsSymmetric};
-ghost use Rattle.exhaustive_search.specs.Subsets.{IsScenarioAndInstance};
+ghost use Rattle.rel_formula.specs.Instance.{IsInstance};
+ghost use Rattle.swap_symmetry.specs.Due.{IsDue};
 
 use crate::instances::all_instances;
 use crate::least::is_least;
@@ -11,10 +10,9 @@ use rel_formula::{Problem, Scenario};
 use std::alloc::{AllocError, Global};
 use swap_symmetry::is_settled;
 
-/// The scenarios that are due at the empty floor, each once. The problem is symmetric and has at most 12 cells.
+/// The scenarios that are due at the empty floor, each once. The problem has at most 12 cells.
 pub fn all_due(alloc: Global, problem: &Problem) -> Result<Vec<Scenario>, AllocError>
-    requires symmetric { IsSymmetric problem.now }
-    requires few { length (cells_of problem.now) ≤ 12 }
+    requires { length (cells_of problem.now) ≤ 12 }
     ensures all { IfOk result (λ due. (s : List ℕ) → Contains due.items s ↔ IsDue problem.now [] s) }
     ensures once { IfOk result (λ due. AllPairs (λ s t. s ≢ t) due.items) }
     ensures few { IfOk result (λ due. length due.items ≤ 4096) }
@@ -31,9 +29,8 @@ pub fn all_due(alloc: Global, problem: &Problem) -> Result<Vec<Scenario>, AllocE
 
 // Whether an instance is minimal and settled, where these are all instances.
 fn is_due(problem: &Problem, instances: &[Scenario], scenario: &Scenario) -> bool
-    requires symmetric { IsSymmetric problem.now }
-    requires instances { (s : List ℕ) → Contains instances.now s ↔ IsScenarioAndInstance problem.now s }
-    requires one { IsScenarioAndInstance problem.now scenario.now }
+    requires instances { (s : List ℕ) → Contains instances.now s ↔ IsInstance problem.now s }
+    requires one { IsInstance problem.now scenario.now }
     ensures { IsTrue result ↔ IsDue problem.now [] scenario.now }
 {
     is_least(instances, scenario) && is_settled(problem, scenario)

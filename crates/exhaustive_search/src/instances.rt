@@ -1,7 +1,7 @@
 // All instances of a problem with few cells.
 ghost use Rattle.std.specs.Prelude.{◌≢◌, ◌↔◌, ◌≤◌, ℕ, List, length, AllPairs, Contains, IfOk};
 ghost use Rattle.rel_formula.specs.Bounds.{cells_of};
-ghost use Rattle.exhaustive_search.specs.Subsets.{IsScenarioAndInstance};
+ghost use Rattle.rel_formula.specs.Instance.{IsInstance};
 
 use crate::subsets::all_subsets;
 use rel_formula::{Problem, Scenario, holds};
@@ -10,7 +10,7 @@ use std::alloc::{AllocError, Global};
 /// All instances, each once. The problem has at most 12 cells.
 pub fn all_instances(alloc: Global, problem: &Problem) -> Result<Vec<Scenario>, AllocError>
     requires { length (cells_of problem.now) ≤ 12 }
-    ensures all { IfOk result (λ instances. (s : List ℕ) → Contains instances.items s ↔ IsScenarioAndInstance problem.now s) }
+    ensures all { IfOk result (λ instances. (s : List ℕ) → Contains instances.items s ↔ IsInstance problem.now s) }
     ensures once { IfOk result (λ instances. AllPairs (λ s t. s ≢ t) instances.items) }
     ensures few { IfOk result (λ instances. length instances.items ≤ 4096) }
 {

@@ -12,7 +12,9 @@ use Rattle.tuple_core.specs.Operators.{Pred}
 use Rattle.tuple_core.specs.Order.{tuple_cmp, IsAscending}
 use Rattle.tuple_core.specs.Rows.{Rows, IsSetOf}
 use Rattle.tuple_core.proofs.Ascending.{tuple_order}
+use Rattle.tuple_core.specs.Gains.{Same}
 use Rattle.rel_formula.specs.Meaning.{HasAtLeast}
+use Rattle.rel_formula.specs.Sizes.{HasSize}
 
 pub leb-decides : (a b : ℕ) → (leb a b ≡ true) ↔ (a ≤ b)
 leb-decides a b = (λ e. grind (arith, nat_tests), λ l. grind (arith, nat_tests))
@@ -52,3 +54,14 @@ at_least {v} {m} {P} n distinct is = (
   ),
   λ h. let le = fewer h.0 v.rows h.2 (λ t c. (is.just t).1 (All-contains P h.0 t h.3 c)) in let e = h.1 in omega arith,
 )
+
+-- sets with the same tuples have one size
+pub size_same : {P Q : Pred} {n : ℕ} → Same P Q → HasSize P n → HasSize Q n
+size_same f h = (h.0, record { ascending = h.1.ascending; just = λ t. (λ c. f.to t ((h.1.just t).0 c), λ q. (h.1.just t).1 (f.back t q)) }, h.2)
+
+-- a set of n tuples has as many as are asked for exactly where n is that large
+pub at_least_of : {P : Pred} (n size : ℕ) → HasSize P size → (n ≤ size) ↔ HasAtLeast n P
+at_least_of {P} n size h =
+    let v : Rows = record { arity = 1; rows = h.0 } in
+    let is : IsSetOf v 1 P = record { arity_is = refl; just = h.1.just } in
+    subst (λ k. (n ≤ k) ↔ HasAtLeast n P) h.2 (at_least n (distinct h.0 h.1.ascending) is)

@@ -1,63 +1,14 @@
 -- The image of a scenario under a renaming.
-use Rattle.std.proofs.Common.{◌≡◌, ℕ, ◌<◌, ◌↔◌, ◌⊎◌, inl, inr, List, [], ◌∷◌, map, length, get_or, Contains, All, refl, sym, ◌∙◌, ap, subst, arith, Some, slice_get}
-use Rattle.std.proofs.lemmas.Bool.{cases_lt}
-use Rattle.std.proofs.lemmas.List.Elements.{All-contains, All-nil, All-cons, All-head, All-tail}
-use Rattle.std.proofs.lemmas.List.Kept.{AllPairs-cons}
+use Rattle.std.proofs.Common.{◌≡◌, ℕ, ◌<◌, inl, inr, List, [], ◌∷◌, map, length, get_or, refl, sym, ◌∙◌, ap, subst, arith, Some, slice_get}
+use Rattle.std.proofs.lemmas.List.Elements.{All-contains, All-nil, All-head, All-tail}
 use Rattle.tuple_core.specs.declared.atom.Atom.{Atom}
 use Rattle.rel_formula.specs.declared.problem.Cell.{Cell}
 use Rattle.rel_formula.specs.Bounds.{Bounded, cell_of, cells_of}
-use Rattle.rel_formula.specs.Instance.{AreCells, IsScenario}
+use Rattle.rel_formula.specs.Instance.{AreCells, IsScenario, with_cell}
 use Rattle.rel_formula.specs.Renaming.{KeepsBounds, IsImage}
-use Rattle.rel_formula.proofs.Rising.{Rises}
-use Rattle.rel_formula.proofs.Lists.{pairs_nil, pairs_head, pairs_tail, get-Some, some_at, some_below}
+use Rattle.rel_formula.proofs.Lists.{pairs_nil, get-Some, some_at, some_below}
+use Rattle.rel_formula.proofs.WithCell.{all_of, with_cell_has, with_cell_rises}
 use Rattle.rel_formula.proofs.Open.{open_cell, cell_open, cons_cases, cons_first, cons_later}
-
--- the numbers with one more, in rising order
-record Inserted (x : ℕ) (xs : List ℕ) : Type 0 where
-  list : List ℕ
-  rises : Rises list
-  has : (n : ℕ) → Contains list n ↔ (Contains xs n ⊎ (n ≡ x))
-
-all_of : (P : ℕ → Type 0) (xs : List ℕ) → ((n : ℕ) → Contains xs n → P n) → All P xs
-all_of P [] h = All-nil P
-all_of P (x ∷ xs) h = All-cons P x xs (h x (cons_first x xs)) (all_of P xs (λ n c. h n (cons_later x xs n c)))
-
-insert_rising : (x : ℕ) (xs : List ℕ) → Rises xs → Inserted x xs
-insert_rising x [] up = record {
-  list = x ∷ [];
-  rises = AllPairs-cons (λ m n. m < n) x [] (All-nil (λ n. x < n)) (pairs_nil (λ m n. m < n));
-  has = λ n. (λ c. elim (cons_cases x [] n c) [ inl e ↦ inr (sym e) | inr d ↦ inl d ], λ s. elim s [ inl d ↦ absurd (let l = d.1 in omega arith) | inr e ↦ subst (Contains (x ∷ [])) (sym e) (cons_first x []) ]);
-}
-insert_rising x (y ∷ ys) up =
-    let above = pairs_head (λ m n. m < n) y ys up in
-    elim (cases_lt x y) [
-      | inl less ↦ record {
-        list = x ∷ y ∷ ys;
-        rises = AllPairs-cons (λ m n. m < n) x (y ∷ ys) (All-cons (λ n. x < n) y ys less (all_of (λ n. x < n) ys (λ n c. let l = All-contains (λ n. y < n) ys n above c in omega arith))) up;
-        has = λ n. (λ c. elim (cons_cases x (y ∷ ys) n c) [ inl e ↦ inr (sym e) | inr d ↦ inl d ], λ s. elim s [ inl d ↦ cons_later x (y ∷ ys) n d | inr e ↦ subst (Contains (x ∷ y ∷ ys)) (sym e) (cons_first x (y ∷ ys)) ]);
-      }
-      | inr past ↦ elim (cases_lt y x) [
-        | inr back ↦ let same : y ≡ x = omega arith in record {
-          list = y ∷ ys;
-          rises = up;
-          has = λ n. (λ c. inl c, λ s. elim s [ inl d ↦ d | inr e ↦ subst (Contains (y ∷ ys)) (same ∙ sym e) (cons_first y ys) ]);
-        }
-        | inl more ↦ let rest = insert_rising x ys (pairs_tail (λ m n. m < n) y ys up) in record {
-          list = y ∷ rest.list;
-          rises = AllPairs-cons (λ m n. m < n) y rest.list (all_of (λ n. y < n) rest.list (λ n c. elim ((rest.has n).0 c) [ inl d ↦ All-contains (λ n. y < n) ys n above d | inr e ↦ subst (λ k. y < k) (sym e) more ])) rest.rises;
-          has = λ n. (
-            λ c. elim (cons_cases y rest.list n c) [
-              | inl e ↦ inl (subst (Contains (y ∷ ys)) e (cons_first y ys))
-              | inr d ↦ elim ((rest.has n).0 d) [ inl h ↦ inl (cons_later y ys n h) | inr e ↦ inr e ]
-            ],
-            λ s. elim s [
-              | inl d ↦ elim (cons_cases y ys n d) [ inl e ↦ subst (Contains (y ∷ rest.list)) e (cons_first y rest.list) | inr h ↦ cons_later y rest.list n ((rest.has n).1 (inl h)) ]
-              | inr e ↦ cons_later y rest.list n ((rest.has n).1 (inr e))
-            ],
-          );
-        }
-      ]
-    ]
 
 -- a map of the atoms, undone
 pub map_undone : (f g : Atom → Atom) → ((a : Atom) → f (g a) ≡ a) → (row : List Atom) → map f (map g row) ≡ row
@@ -95,23 +46,24 @@ module _ (p : Bounded) (f g : Atom → Atom) (back : (a : Atom) → g (f a) ≡ 
       let here : slice_get (cells_of p) n ≡ Some (cell_of c.relation c.tuple) = get-Some (cells_of p) n (cell_of 0 []) l in
       let m = image_cell n c.relation c.tuple here in
       let rest = images_of ns (All-tail (λ n. n < length (cells_of p)) n ns all) in
-      let new = insert_rising m.0 rest.list rest.scenario.rising in
+      let new = with_cell m.0 rest.list in
+      let has = with_cell_has m.0 rest.list in
       record {
-        list = new.list;
+        list = new;
         scenario = record {
-          cells = all_of (λ k. k < length (cells_of p)) new.list (λ k h. elim ((new.has k).0 h) [
+          cells = all_of (λ k. k < length (cells_of p)) new (λ k h. elim ((has k).0 h) [
             | inl d ↦ All-contains (λ k. k < length (cells_of p)) rest.list k rest.scenario.cells d
             | inr e ↦ subst (λ i. i < length (cells_of p)) (sym e) (some_below (cells_of p) m.0 (cell_of c.relation (map f c.tuple)) m.1)
           ]);
-          rising = new.rises;
+          rising = with_cell_rises m.0 rest.list rest.scenario.rising;
         };
         image = λ r row. (
           λ h. elim (cons_cases n ns h.0 h.1) [
             | inl e ↦ let parts = cell_parts n c.relation r c.tuple row (cells_of p) here (subst (λ k. slice_get (cells_of p) k ≡ Some (cell_of r row)) (sym e) h.2) in
-                (m.0, (new.has m.0).1 (inr refl), m.1 ∙ ap (λ q. Some (cell_of q (map f c.tuple))) parts.0 ∙ ap (λ t. Some (cell_of r (map f t))) parts.1)
-            | inr d ↦ let j = (rest.image r row).0 (h.0, d, h.2) in (j.0, (new.has j.0).1 (inl j.1), j.2)
+                (m.0, (has m.0).1 (inr refl), m.1 ∙ ap (λ q. Some (cell_of q (map f c.tuple))) parts.0 ∙ ap (λ t. Some (cell_of r (map f t))) parts.1)
+            | inr d ↦ let j = (rest.image r row).0 (h.0, d, h.2) in (j.0, (has j.0).1 (inl j.1), j.2)
           ],
-          λ h. elim ((new.has h.0).0 h.1) [
+          λ h. elim ((has h.0).0 h.1) [
             | inl d ↦ let j = (rest.image r row).1 (h.0, d, h.2) in (j.0, cons_later n ns j.0 j.1, j.2)
             | inr e ↦ let parts = cell_parts m.0 c.relation r (map f c.tuple) (map f row) (cells_of p) m.1 (subst (λ k. slice_get (cells_of p) k ≡ Some (cell_of r (map f row))) e h.2) in
                 (n, cons_first n ns, here ∙ ap (λ q. Some (cell_of q c.tuple)) parts.0 ∙ ap (λ t. Some (cell_of r t)) (one_row c.tuple row parts.1))

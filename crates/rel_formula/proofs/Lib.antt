@@ -3,6 +3,7 @@ pub mod Lists
 pub mod Cells
 pub mod Open
 pub mod Same
+pub mod WithCell
 pub mod Images
 pub mod Tabled
 pub mod Valued
@@ -11,7 +12,7 @@ pub mod Counts
 pub mod Loops
 pub mod Congruence
 pub mod Told
-pub mod Earlier
 pub mod Moved
 pub mod Renamed
 pub mod Single
+pub mod Copies

@@ -46,8 +46,11 @@ module _ (p : Bounded) (f g : Atom → Atom) (there : (a : Atom) → f (g a) ≡
     universe_from = λ u h. (h.0, h.1, values_from s t image h.0 u h.2);
   }
 
-  pub instance_moved : (s t : List ℕ) → IsImage p f s t → IsInstance p s → IsInstance p t
-  instance_moved s t image h = truth_moved (structure_of p (Contains s)) (structure_of p (Contains t)) f g (scenario_moved s t image) [] p.formula h
+  pub instance_moved : (s t : List ℕ) → IsScenario p t → IsImage p f s t → IsInstance p s → IsInstance p t
+  instance_moved s t is image h = record {
+    scenario = is;
+    holds = truth_moved (structure_of p (Contains s)) (structure_of p (Contains t)) f g (scenario_moved s t image) [] p.formula h.holds;
+  }
 
   covers_moved : (s t floor image : List ℕ) → IsImage p f s t → IsImage p f floor image → Covers p s floor → Covers p t image
   covers_moved s t floor image i j h r row c =
@@ -71,21 +74,20 @@ module _ (p : Bounded) (f g : Atom → Atom) (there : (a : Atom) → f (g a) ≡
   }
 
 -- the other way
-instance_back : (p : Bounded) (f g : Atom → Atom) → ((a : Atom) → f (g a) ≡ a) → ((a : Atom) → g (f a) ≡ a) → KeepsBounds p f → (u w : List ℕ) → IsImage p g u w → IsInstance p u → IsInstance p w
-instance_back p f g there back keeps u w i h = instance_moved p g f back there (keeps_back p f g there back keeps) u w i h
+instance_back : (p : Bounded) (f g : Atom → Atom) → ((a : Atom) → f (g a) ≡ a) → ((a : Atom) → g (f a) ≡ a) → KeepsBounds p f → (u w : List ℕ) → IsScenario p w → IsImage p g u w → IsInstance p u → IsInstance p w
+instance_back p f g there back keeps u w is i h = instance_moved p g f back there (keeps_back p f g there back keeps) u w is i h
 
 pub minimal_moved : (p : Bounded) (f g : Atom → Atom) → IsProblem p → ((a : Atom) → f (g a) ≡ a) → ((a : Atom) → g (f a) ≡ a) → KeepsBounds p f →
     (s t floor image : List ℕ) → IsScenario p t → IsScenario p floor → IsScenario p image → IsImage p f s t → IsImage p f floor image →
     IsMinimalAbove p floor s → IsMinimalAbove p image t
 minimal_moved p f g well there back keeps s t floor image st sf si i j h = record {
-  scenario = st;
-  instance_of = instance_moved p f g there back keeps s t i h.instance_of;
+  instance_of = instance_moved p f g there back keeps s t st i h.instance_of;
   above = includes p t image well si.cells (covers_moved p f g there back keeps s t floor image i j (covers p s floor h.above));
-  least = λ u su iu above part.
-      let w = has_image p g f there (keeps_back p f g there back keeps) u su.cells in
+  least = λ u iu above part.
+      let w = has_image p g f there (keeps_back p f g there back keeps) u iu.scenario.cells in
       let k : IsImage p f w.0 u = image_back p f g there back keeps u w.0 w.2 in
-      let iw = instance_back p f g there back keeps u w.0 w.2 iu in
+      let iw = instance_back p f g there back keeps u w.0 w.1 w.2 iu in
       let over = includes p w.0 floor well sf.cells (covers_back p f g there back keeps w.0 u floor image k j (covers p u image above)) in
       let more = includes p s w.0 well w.1.cells (covers_back p f g there back keeps s t w.0 u i k (covers p t u part)) in
-      includes p u t well st.cells (covers_moved p f g there back keeps w.0 u s t k i (covers p w.0 s (h.least w.0 w.1 iw over more)));
+      includes p u t well st.cells (covers_moved p f g there back keeps w.0 u s t k i (covers p w.0 s (h.least w.0 iw over more)));
 }

@@ -8,7 +8,7 @@ use Rattle.tuple_core.specs.declared.atom.Atom.{Atom}
 use Rattle.tuple_core.specs.Order.{tuple_cmp}
 use Rattle.tuple_core.specs.Rows.{IsRows}
 use Rattle.rel_formula.specs.declared.problem.Relation.{Relation}
-use Rattle.rel_formula.specs.declared.formula.Formula.{Formula}
+use Rattle.rel_formula.specs.Kernel.{FormulaTree}
 use Rattle.rel_formula.specs.Bounds.{Bounded, IsRelation, IsProblem, relation_at, open_tuples, cell_of, cells_of}
 use Rattle.rel_formula.specs.Shape.{IsProper}
 use Rattle.rel_formula.proofs.Open.{cons_cases}
@@ -27,7 +27,7 @@ one_pair R x i j d l h = absurd (omega arith)
 only_one : {X : Type 0} (x y : X) → Contains (x ∷ []) y → x ≡ y
 only_one x y c = elim (cons_cases x [] y c) [ inl e ↦ e | inr d ↦ absurd (let l = d.1 in omega arith) ]
 
-pub single_problem : (relation : Relation) (f : Formula) → IsRows relation.lower → IsRows relation.upper → relation.lower.arity ≡ 1 → relation.upper.arity ≡ 1 →
+pub single_problem : (relation : Relation) (f : FormulaTree) → IsRows relation.lower → IsRows relation.upper → relation.lower.arity ≡ 1 → relation.upper.arity ≡ 1 →
     All (Contains relation.upper.rows) relation.lower.rows → length relation.upper.rows ≤ 4096 → All (All (λ (a : Atom). a.top ≡ 0)) relation.upper.rows →
     IsProper (1 ∷ []) 0 f → IsProblem (record { relations = relation ∷ []; tops = 0 ∷ []; formula = f })
 single_problem relation f low high one_low one_high within few tops proper =

@@ -4,19 +4,19 @@ use Rattle.std.proofs.lemmas.Bool.{cases_lt}
 use Rattle.std.proofs.lemmas.List.{get_or-map, same_lists, length-map, get_or_past}
 use Rattle.std.proofs.lemmas.List.Elements.{All-contains}
 use Rattle.tuple_core.specs.Gains.{Same}
-use Rattle.tuple_core.specs.Rows.{Rows, IsSetOf}
-use Rattle.tuple_core.proofs.Congruence.{rows_same, same_then}
+use Rattle.tuple_core.specs.Rows.{Rows}
+use Rattle.tuple_core.proofs.Congruence.{rows_same}
 use Rattle.rel_formula.specs.declared.problem.Relation.{Relation}
 use Rattle.rel_formula.specs.Bounds.{Bounded, IsProblem, relation_at}
-use Rattle.rel_formula.specs.Instance.{InRelation, InSome, IsInstance, structure_of}
+use Rattle.rel_formula.specs.Instance.{InRelation, InSome, HoldsWhere, structure_of}
 use Rattle.rel_formula.specs.Meaning.{Truth}
-use Rattle.rel_formula.specs.Tables.{AreTables, arities, values_of, tabled}
+use Rattle.rel_formula.specs.Tables.{AreTables, AreTablesOf, Tabled, values_of, tabled}
 use Rattle.rel_formula.proofs.Open.{cell_open}
 use Rattle.rel_formula.proofs.Tabled.{no_rows, no_relation}
 use Rattle.rel_formula.proofs.Congruence.{truth_same}
 
 module _ (p : Bounded) (s : List ℕ) (vs : List Rows) (well : IsProblem p) (are : AreTables p s vs) where
-  pub arities_are : arities vs ≡ map (λ (r : Relation). r.lower.arity) p.relations
+  pub arities_are : map (λ (v : Rows). v.arity) vs ≡ map (λ (r : Relation). r.lower.arity) p.relations
   arities_are =
       let f : Rows → ℕ = λ v. v.arity in
       let g : Relation → ℕ = λ r. r.lower.arity in
@@ -47,11 +47,11 @@ module _ (p : Bounded) (s : List ℕ) (vs : List Rows) (well : IsProblem p) (are
         }
   ]
 
-  some_same : Same (InSome p.tops (values_of vs)) (InSome p.tops (InRelation p (Contains s)))
+  pub some_same : Same (InSome p.tops (values_of vs)) (InSome p.tops (InRelation p (Contains s)))
   some_same = record {
     to = λ t h. (h.0, h.1, (values_are h.0).to t h.2);
     back = λ t h. (h.0, h.1, (values_are h.0).back t h.2);
   }
 
-  pub instance_is : (u : Rows) → IsSetOf u 1 (InSome p.tops (values_of vs)) → Truth (tabled vs u) [] p.formula ↔ IsInstance p s
-  instance_is u is = truth_same (tabled vs u) (structure_of p (Contains s)) values_are (same_then (rows_same is) some_same) [] p.formula
+pub holds_is : (p : Bounded) (s : List ℕ) (tables : Tabled) → IsProblem p → AreTablesOf p s tables → Truth (tabled tables) [] p.formula ↔ HoldsWhere p (Contains s)
+holds_is p s tables well are = truth_same (tabled tables) (structure_of p (Contains s)) (values_are p s tables.values well are.values) (rows_same are.universe) [] p.formula

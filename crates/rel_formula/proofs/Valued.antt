@@ -6,7 +6,7 @@ use Rattle.tuple_core.specs.Operators.{Pred, BeginsWith, United, Without, Met, J
 use Rattle.tuple_core.specs.Gains.{Same, SomeGives}
 use Rattle.tuple_core.specs.Rows.{Rows, IsSetOf}
 use Rattle.tuple_core.proofs.Congruence.{United-same, Without-same, Met-same, Joined-same, Multiplied-same, Transposed-same, Closed-same, Overridden-same, DomainIn-same, RangeIn-same, rows_same, set_of_same}
-use Rattle.rel_formula.specs.Tables.{arities, values_of}
+use Rattle.rel_formula.specs.Tables.{Tabled, arities, values_of}
 use Rattle.rel_formula.proofs.Lists.{get-Some, some_at}
 use Rattle.rel_formula.proofs.Tabled.{no_rows}
 
@@ -40,12 +40,12 @@ dom_is f g is = set_of_same g.arity_is (DomainIn-same (rows_same f) (rows_same g
 pub ran_is : {l s v : Rows} {n m : ℕ} {P S : Pred} → IsSetOf l n P → IsSetOf s m S → IsSetOf v l.arity (RangeIn (Contains l.rows) (Contains s.rows)) → IsSetOf v n (RangeIn P S)
 ran_is f g is = set_of_same f.arity_is (RangeIn-same (rows_same f) (rows_same g)) is
 
-pub relation_is : (tables : List Rows) (r : ℕ) (x v : Rows) → r < length (arities tables) → x ≡ get_or tables r x → v ≡ x → IsSetOf v (get_or (arities tables) r 0) (values_of tables r)
+pub relation_is : (tables : Tabled) (r : ℕ) (x v : Rows) → r < length (arities tables) → x ≡ get_or tables.values r x → v ≡ x → IsSetOf v (get_or (arities tables) r 0) (values_of tables.values r)
 relation_is tables r x v m e f =
-    let l : r < length tables = let n = length-map tables (λ (s : Rows). s.arity) in omega arith in
-    let same : v ≡ get_or tables r no_rows = f ∙ e ∙ get_or_default tables r x no_rows l in
+    let l : r < length tables.values = let n = length-map tables.values (λ (s : Rows). s.arity) in omega arith in
+    let same : v ≡ get_or tables.values r no_rows = f ∙ e ∙ get_or_default tables.values r x no_rows l in
     record {
-      arity_is = ap (λ (s : Rows). s.arity) same ∙ sym (get_or-map (λ (s : Rows). s.arity) tables r no_rows 0 l);
+      arity_is = ap (λ (s : Rows). s.arity) same ∙ sym (get_or-map (λ (s : Rows). s.arity) tables.values r no_rows 0 l);
       just = λ t. (λ c. subst (λ (s : Rows). Contains s.rows t) same c, λ c. subst (λ (s : Rows). Contains s.rows t) (sym same) c);
     }
 

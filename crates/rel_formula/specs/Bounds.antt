@@ -1,5 +1,5 @@
 -- Bounded problems and their cells.
-use Rattle.std.specs.Prelude.{◌≡◌, ◌≢◌, ◌<◌, ◌≤◌, ◌+◌, ℕ, List, [], ◌∷◌, ◌++◌, map, filter, length, slice_index_or, not, All, AllPairs, Contains}
+use Rattle.std.specs.Prelude.{◌≡◌, ◌≢◌, ◌<◌, ◌≤◌, ◌+◌, ℕ, List, [], ◌∷◌, ◌++◌, map, filter, length, slice_index, slice_index_or, not, All, AllPairs, Contains}
 use Rattle.std.specs.List.{list_any}
 use Rattle.std.specs.Ordering.{eq_by_cmp}
 use Rattle.tuple_core.specs.declared.atom.Atom.{Atom}
@@ -8,14 +8,14 @@ use Rattle.tuple_core.specs.Order.{tuple_cmp}
 use Rattle.tuple_core.specs.Rows.{Rows, IsRows}
 use Rattle.rel_formula.specs.declared.problem.Relation.{Relation}
 use Rattle.rel_formula.specs.declared.problem.Cell.{Cell}
-use Rattle.rel_formula.specs.declared.formula.Formula.{Formula}
+use Rattle.rel_formula.specs.Kernel.{FormulaTree}
 use Rattle.rel_formula.specs.Shape.{IsProper}
 
 -- the relations with their bounds, the numbers of those that are top-level signatures, and the formula
 pub record Bounded : Type 0 where
   pub relations : List Relation
   pub tops : List ℕ
-  pub formula : Formula
+  pub formula : FormulaTree
 
 -- the relation of a number, and an empty one past the end
 abbrev pub relation_at : List Relation → ℕ → Relation
@@ -43,9 +43,13 @@ cells_of p = cells_from 0 p.relations
 abbrev pub IsAtomOf : Bounded → Atom → Type 0
 IsAtomOf p a = (relation : Relation) × Contains p.relations relation × ((t : List Atom) × Contains relation.upper.rows t × Contains t a)
 
+-- the name of an atom's top-level signature
+abbrev pub signature_name : Bounded → Atom → List ℕ
+signature_name p a = (relation_at p.relations (slice_index p.tops a.top)).name
+
 -- the tuples of one atom of the problem
-abbrev pub InUniverse : Bounded → Pred
-InUniverse p t = (a : Atom) × IsAtomOf p a × (t ≡ a ∷ [])
+abbrev pub InAtoms : Bounded → Pred
+InAtoms p t = (a : Atom) × IsAtomOf p a × (t ≡ a ∷ [])
 
 -- both bounds are sets of one arity, and the lower one lies in the upper one
 pub record IsRelation (relation : Relation) : Type 0 where
@@ -67,3 +71,12 @@ pub record IsProblem (p : Bounded) : Type 0 where
   -- an atom's signature is a place in that list
   pub atoms : (a : Atom) → IsAtomOf p a → a.top < length p.tops
   pub proper : IsProper (map (λ r. r.lower.arity) p.relations) 0 p.formula
+
+-- there are at most 64 atoms
+abbrev pub HasFewAtoms : Bounded → Type 0
+HasFewAtoms p = (atoms : List Atom) × (length atoms ≤ 64) × ((a : Atom) → IsAtomOf p a → Contains atoms a)
+
+-- no atom may be in two top-level signatures
+abbrev pub HasDisjointTops : Bounded → Type 0
+HasDisjointTops p = (r s : ℕ) (t : List Atom) → Contains p.tops r → Contains p.tops s →
+    Contains (relation_at p.relations r).upper.rows t → Contains (relation_at p.relations s).upper.rows t → r ≡ s

@@ -1,9 +1,12 @@
+pub mod Kernel
+pub mod View
+pub mod Code
 pub mod Shape
 pub mod Bounds
 pub mod Kept
+pub mod Sizes
 pub mod Meaning
 pub mod Instance
-pub mod Order
 pub mod Renaming
 pub mod Tables
 pub mod Evaluation

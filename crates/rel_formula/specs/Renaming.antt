@@ -2,7 +2,7 @@
 use Rattle.std.specs.Prelude.{◌≡◌, ◌↔◌, ℕ, List, map, Contains}
 use Rattle.tuple_core.specs.declared.atom.Atom.{Atom}
 use Rattle.rel_formula.specs.Bounds.{Bounded, IsAtomOf, relation_at}
-use Rattle.rel_formula.specs.Instance.{HasCell}
+use Rattle.rel_formula.specs.Instance.{HasCell, StandsIn}
 
 -- f is a permutation of the problem's atoms that keeps each one's signature, and g is the permutation back
 pub record IsRenaming (p : Bounded) (f g : Atom → Atom) : Type 0 where
@@ -24,3 +24,18 @@ IsSymmetric p = (f g : Atom → Atom) → IsRenaming p f g → KeepsBounds p f
 -- the second scenario is the first one renamed: it has a cell's image exactly where the first one has the cell
 abbrev pub IsImage : Bounded → (Atom → Atom) → List ℕ → List ℕ → Type 0
 IsImage p f s t = (r : ℕ) (row : List Atom) → HasCell p (Contains s) r row ↔ HasCell p (Contains t) r (map f row)
+
+-- some renaming takes the first scenario to the second
+pub record IsRenamingOf (p : Bounded) (s t : List ℕ) : Type 0 where
+  pub there : Atom → Atom
+  pub back : Atom → Atom
+  pub renaming : IsRenaming p there back
+  pub image : IsImage p there s t
+
+-- and keeps each atom that stands in the floor
+pub record IsRenamingBeside (p : Bounded) (floor s t : List ℕ) : Type 0 where
+  pub there : Atom → Atom
+  pub back : Atom → Atom
+  pub renaming : IsRenaming p there back
+  pub image : IsImage p there s t
+  pub keeps : (a : Atom) → StandsIn p floor a → there a ≡ a

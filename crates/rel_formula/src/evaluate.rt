@@ -1,81 +1,82 @@
 // The plain evaluator: the value of an expression and the truth of a formula, over the relations' sets of tuples.
 ghost use Rattle.std.specs.Prelude.{◌≡◌, ◌+◌, [], ◌∷◌, All, AllPairs, Any, Contains, List, length, map, reverse, IfOk, IsTrue, ◌↔◌};
-ghost use Rattle.rel_formula.specs.Meaning.{InValue, IsWithin, HasAtLeast, Truth};
-ghost use Rattle.rel_formula.specs.Evaluation.{IsTrueAt, AreNotBothTrue, AreEqual};
+ghost use Rattle.rel_formula.specs.View.{expression_tree, formula_tree};
+ghost use Rattle.rel_formula.specs.Meaning.{InValue, IsWithin, AreEqual, HasAtLeast, Truth};
+ghost use Rattle.rel_formula.specs.Evaluation.{IsTrueAt, AreNotBothTrue};
 ghost use Rattle.rel_formula.specs.Shape.{arity_of, IsWellFormed, IsProper};
 ghost use Rattle.rel_formula.specs.Tables.{arities, tabled};
+ghost use Rattle.rel_formula.specs.Sizes.{HasSize};
 ghost use Rattle.tuple_core.specs.declared.atom.Atom.{Atom as AtomRecord};
 ghost use Rattle.tuple_core.specs.Rows.{IsSetOf};
 
 use crate::formula::{Expression, Formula};
+use crate::tables::Tables;
 use std::alloc::{AllocError, Global};
 use tuple_core::{Atom, Tuple, TupleSet};
 
-/// The value of an expression, where `tables` are the relations' values, `universe` is that of the top-level signatures
-/// together, and `env` has the variables' atoms, the innermost last.
+/// The value of an expression, where `tables` are the relations' values and `env` has the variables' atoms, the innermost
+/// last.
 pub fn value(
     alloc: Global,
-    tables: &[TupleSet],
-    universe: &TupleSet,
+    tables: &Tables,
     env: &[Atom],
     e: &Expression,
 ) -> Result<TupleSet, AllocError>
-    requires formed { IsWellFormed (arities tables.now) (length env.now) e.now }
-    requires unary { universe.now.arity ≡ 1 }
-    ensures { IfOk result (λ v. IsSetOf v (arity_of (arities tables.now) e.now) (InValue (tabled tables.now universe.now) (reverse env.now) e.now)) }
+    requires { IsWellFormed (arities tables.now) (length env.now) (expression_tree e.now) }
+    ensures { IfOk result (λ v. IsSetOf v (arity_of (arities tables.now) (expression_tree e.now)) (InValue (tabled tables.now) (reverse env.now) (expression_tree e.now))) }
 {
     match e {
-        Expression::Rel(r) => Ok(tables[*r as usize].copy(alloc)?),
+        Expression::Rel(r) => Ok(tables.values()[*r as usize].copy(alloc)?),
         Expression::Var(i) => Ok(single(alloc, env[env.len() - 1 - *i as usize])?),
         Expression::None => Ok(TupleSet::new(alloc, 1)),
-        Expression::Univ => Ok(universe.copy(alloc)?),
-        Expression::Iden => Ok(identity(alloc, universe)?),
+        Expression::Univ => Ok(tables.universe().copy(alloc)?),
+        Expression::Iden => Ok(identity(alloc, tables.universe())?),
         Expression::Union(a, b) => {
-            let left = value(alloc, tables, universe, env, a)?;
-            let right = value(alloc, tables, universe, env, b)?;
+            let left = value(alloc, tables, env, a)?;
+            let right = value(alloc, tables, env, b)?;
             Ok(left.union(alloc, &right)?)
         }
         Expression::Minus(a, b) => {
-            let left = value(alloc, tables, universe, env, a)?;
-            let right = value(alloc, tables, universe, env, b)?;
+            let left = value(alloc, tables, env, a)?;
+            let right = value(alloc, tables, env, b)?;
             Ok(left.minus(alloc, &right)?)
         }
         Expression::Meet(a, b) => {
-            let left = value(alloc, tables, universe, env, a)?;
-            let right = value(alloc, tables, universe, env, b)?;
+            let left = value(alloc, tables, env, a)?;
+            let right = value(alloc, tables, env, b)?;
             Ok(left.meet(alloc, &right)?)
         }
         Expression::Product(a, b) => {
-            let left = value(alloc, tables, universe, env, a)?;
-            let right = value(alloc, tables, universe, env, b)?;
+            let left = value(alloc, tables, env, a)?;
+            let right = value(alloc, tables, env, b)?;
             Ok(left.product(alloc, &right)?)
         }
         Expression::Join(a, b) => {
-            let left = value(alloc, tables, universe, env, a)?;
-            let right = value(alloc, tables, universe, env, b)?;
+            let left = value(alloc, tables, env, a)?;
+            let right = value(alloc, tables, env, b)?;
             Ok(left.join(alloc, &right)?)
         }
         Expression::Transpose(a) => {
-            let pairs = value(alloc, tables, universe, env, a)?;
+            let pairs = value(alloc, tables, env, a)?;
             Ok(pairs.transpose(alloc)?)
         }
         Expression::Closure(a) => {
-            let pairs = value(alloc, tables, universe, env, a)?;
+            let pairs = value(alloc, tables, env, a)?;
             Ok(pairs.closure(alloc)?)
         }
         Expression::Override(a, b) => {
-            let left = value(alloc, tables, universe, env, a)?;
-            let right = value(alloc, tables, universe, env, b)?;
+            let left = value(alloc, tables, env, a)?;
+            let right = value(alloc, tables, env, b)?;
             Ok(left.over(alloc, &right)?)
         }
         Expression::Dom(s, a) => {
-            let atoms = value(alloc, tables, universe, env, s)?;
-            let tuples = value(alloc, tables, universe, env, a)?;
+            let atoms = value(alloc, tables, env, s)?;
+            let tuples = value(alloc, tables, env, a)?;
             Ok(tuples.dom(alloc, &atoms)?)
         }
         Expression::Ran(a, s) => {
-            let tuples = value(alloc, tables, universe, env, a)?;
-            let atoms = value(alloc, tables, universe, env, s)?;
+            let tuples = value(alloc, tables, env, a)?;
+            let atoms = value(alloc, tables, env, s)?;
             Ok(tuples.ran(alloc, &atoms)?)
         }
     }
@@ -103,42 +104,40 @@ fn identity(alloc: Global, universe: &TupleSet) -> Result<TupleSet, AllocError>
     Ok(pairs)
 }
 
-/// Whether a formula is true, where `tables` are the relations' values, `universe` is that of the top-level signatures
-/// together, and `env` has the variables' atoms, the innermost last; `env` is as before in the end.
+/// Whether a formula is true, where `tables` are the relations' values and `env` has the variables' atoms, the innermost
+/// last; `env` is as before in the end.
 #[cycle(truth)]
 pub fn truth(
     alloc: Global,
-    tables: &[TupleSet],
-    universe: &TupleSet,
+    tables: &Tables,
     env: &mut Vec<Atom>,
     f: &Formula,
 ) -> Result<bool, AllocError>
-    requires proper { IsProper (arities tables.now) (length env.old.items) f.now }
-    requires unary { universe.now.arity ≡ 1 }
-    ensures truth { IfOk result (λ b. IsTrue b ↔ Truth (tabled tables.now universe.now) (reverse env.old.items) f.now) }
+    requires proper { IsProper (arities tables.now) (length env.old.items) (formula_tree f.now) }
+    ensures truth { IfOk result (λ b. IsTrue b ↔ Truth (tabled tables.now) (reverse env.old.items) (formula_tree f.now)) }
     ensures env { IfOk result (λ _. env.new.items ≡ env.old.items) }
 {
     match f {
-        Formula::In(a, b) => Ok(is_within(alloc, tables, universe, env.as_slice(), a, b)?),
-        Formula::Equal(a, b) => Ok(is_equal(alloc, tables, universe, env.as_slice(), a, b)?),
-        Formula::AtLeast(n, e) => Ok(has_at_least(alloc, tables, universe, env.as_slice(), *n, e)?),
+        Formula::In(a, b) => Ok(is_within(alloc, tables, env.as_slice(), a, b)?),
+        Formula::Equal(a, b) => Ok(is_equal(alloc, tables, env.as_slice(), a, b)?),
+        Formula::AtLeast(n, e) => Ok(has_at_least(alloc, tables, env.as_slice(), *n, e)?),
         Formula::Not(g) => {
-            let holds = truth(alloc, tables, universe, env, g)?;
+            let holds = truth(alloc, tables, env, g)?;
             Ok(!holds)
         }
-        Formula::And(parts) => Ok(all_true(alloc, tables, universe, env, parts)?),
-        Formula::Or(parts) => Ok(any_true(alloc, tables, universe, env, parts)?),
+        Formula::And(parts) => Ok(all_true(alloc, tables, env, parts)?),
+        Formula::Or(parts) => Ok(any_true(alloc, tables, env, parts)?),
         Formula::All(e, g) => {
-            let domain = value(alloc, tables, universe, env.as_slice(), e)?;
-            Ok(true_for_all(alloc, tables, universe, env, domain.rows(), g)?)
+            let domain = value(alloc, tables, env.as_slice(), e)?;
+            Ok(true_for_all(alloc, tables, env, domain.rows(), g)?)
         }
         Formula::Exists(e, g) => {
-            let domain = value(alloc, tables, universe, env.as_slice(), e)?;
-            Ok(true_for_some(alloc, tables, universe, env, domain.rows(), g)?)
+            let domain = value(alloc, tables, env.as_slice(), e)?;
+            Ok(true_for_some(alloc, tables, env, domain.rows(), g)?)
         }
         Formula::Lone(e, g) => {
-            let domain = value(alloc, tables, universe, env.as_slice(), e)?;
-            Ok(true_for_at_most_one(alloc, tables, universe, env, domain.rows(), g)?)
+            let domain = value(alloc, tables, env.as_slice(), e)?;
+            Ok(true_for_at_most_one(alloc, tables, env, domain.rows(), g)?)
         }
     }
 }
@@ -147,18 +146,16 @@ pub fn truth(
 #[cycle(truth)]
 fn all_true(
     alloc: Global,
-    tables: &[TupleSet],
-    universe: &TupleSet,
+    tables: &Tables,
     env: &mut Vec<Atom>,
     parts: &[Formula],
 ) -> Result<bool, AllocError>
-    requires proper { All (IsProper (arities tables.now) (length env.old.items)) parts.now }
-    requires unary { universe.now.arity ≡ 1 }
-    ensures truth { IfOk result (λ b. IsTrue b ↔ All (Truth (tabled tables.now universe.now) (reverse env.old.items)) parts.now) }
+    requires proper { All (λ f. IsProper (arities tables.now) (length env.old.items) (formula_tree f)) parts.now }
+    ensures truth { IfOk result (λ b. IsTrue b ↔ All (λ f. Truth (tabled tables.now) (reverse env.old.items) (formula_tree f)) parts.now) }
     ensures env { IfOk result (λ _. env.new.items ≡ env.old.items) }
 {
     for part in parts {
-        let holds = truth(alloc, tables, universe, env, part)?;
+        let holds = truth(alloc, tables, env, part)?;
         if !holds {
             return Ok(false);
         }
@@ -170,18 +167,16 @@ fn all_true(
 #[cycle(truth)]
 fn any_true(
     alloc: Global,
-    tables: &[TupleSet],
-    universe: &TupleSet,
+    tables: &Tables,
     env: &mut Vec<Atom>,
     parts: &[Formula],
 ) -> Result<bool, AllocError>
-    requires proper { All (IsProper (arities tables.now) (length env.old.items)) parts.now }
-    requires unary { universe.now.arity ≡ 1 }
-    ensures truth { IfOk result (λ b. IsTrue b ↔ Any (Truth (tabled tables.now universe.now) (reverse env.old.items)) parts.now) }
+    requires proper { All (λ f. IsProper (arities tables.now) (length env.old.items) (formula_tree f)) parts.now }
+    ensures truth { IfOk result (λ b. IsTrue b ↔ Any (λ f. Truth (tabled tables.now) (reverse env.old.items) (formula_tree f)) parts.now) }
     ensures env { IfOk result (λ _. env.new.items ≡ env.old.items) }
 {
     for part in parts {
-        let holds = truth(alloc, tables, universe, env, part)?;
+        let holds = truth(alloc, tables, env, part)?;
         if holds {
             return Ok(true);
         }
@@ -193,20 +188,18 @@ fn any_true(
 #[cycle(truth)]
 fn true_for_all(
     alloc: Global,
-    tables: &[TupleSet],
-    universe: &TupleSet,
+    tables: &Tables,
     env: &mut Vec<Atom>,
     rows: &[Tuple],
     f: &Formula,
 ) -> Result<bool, AllocError>
-    requires proper { IsProper (arities tables.now) (length env.old.items + 1) f.now }
-    requires unary { universe.now.arity ≡ 1 }
+    requires proper { IsProper (arities tables.now) (length env.old.items + 1) (formula_tree f.now) }
     requires single { All (λ row. length row ≡ 1) rows.now }
-    ensures truth { IfOk result (λ b. IsTrue b ↔ All (IsTrueAt (tabled tables.now universe.now) (reverse env.old.items) f.now) rows.now) }
+    ensures truth { IfOk result (λ b. IsTrue b ↔ All (IsTrueAt (tabled tables.now) (reverse env.old.items) (formula_tree f.now)) rows.now) }
     ensures env { IfOk result (λ _. env.new.items ≡ env.old.items) }
 {
     for row in rows {
-        let holds = true_at(alloc, tables, universe, env, row, f)?;
+        let holds = true_at(alloc, tables, env, row, f)?;
         if !holds {
             return Ok(false);
         }
@@ -218,20 +211,18 @@ fn true_for_all(
 #[cycle(truth)]
 fn true_for_some(
     alloc: Global,
-    tables: &[TupleSet],
-    universe: &TupleSet,
+    tables: &Tables,
     env: &mut Vec<Atom>,
     rows: &[Tuple],
     f: &Formula,
 ) -> Result<bool, AllocError>
-    requires proper { IsProper (arities tables.now) (length env.old.items + 1) f.now }
-    requires unary { universe.now.arity ≡ 1 }
+    requires proper { IsProper (arities tables.now) (length env.old.items + 1) (formula_tree f.now) }
     requires single { All (λ row. length row ≡ 1) rows.now }
-    ensures truth { IfOk result (λ b. IsTrue b ↔ Any (IsTrueAt (tabled tables.now universe.now) (reverse env.old.items) f.now) rows.now) }
+    ensures truth { IfOk result (λ b. IsTrue b ↔ Any (IsTrueAt (tabled tables.now) (reverse env.old.items) (formula_tree f.now)) rows.now) }
     ensures env { IfOk result (λ _. env.new.items ≡ env.old.items) }
 {
     for row in rows {
-        let holds = true_at(alloc, tables, universe, env, row, f)?;
+        let holds = true_at(alloc, tables, env, row, f)?;
         if holds {
             return Ok(true);
         }
@@ -243,21 +234,19 @@ fn true_for_some(
 #[cycle(truth)]
 fn true_for_at_most_one(
     alloc: Global,
-    tables: &[TupleSet],
-    universe: &TupleSet,
+    tables: &Tables,
     env: &mut Vec<Atom>,
     rows: &[Tuple],
     f: &Formula,
 ) -> Result<bool, AllocError>
-    requires proper { IsProper (arities tables.now) (length env.old.items + 1) f.now }
-    requires unary { universe.now.arity ≡ 1 }
+    requires proper { IsProper (arities tables.now) (length env.old.items + 1) (formula_tree f.now) }
     requires single { All (λ row. length row ≡ 1) rows.now }
-    ensures truth { IfOk result (λ b. IsTrue b ↔ AllPairs (AreNotBothTrue (tabled tables.now universe.now) (reverse env.old.items) f.now) rows.now) }
+    ensures truth { IfOk result (λ b. IsTrue b ↔ AllPairs (AreNotBothTrue (tabled tables.now) (reverse env.old.items) (formula_tree f.now)) rows.now) }
     ensures env { IfOk result (λ _. env.new.items ≡ env.old.items) }
 {
     let mut found = false;
     for row in rows {
-        let holds = true_at(alloc, tables, universe, env, row, f)?;
+        let holds = true_at(alloc, tables, env, row, f)?;
         if holds {
             if found {
                 return Ok(false);
@@ -272,20 +261,18 @@ fn true_for_at_most_one(
 #[cycle(truth)]
 fn true_at(
     alloc: Global,
-    tables: &[TupleSet],
-    universe: &TupleSet,
+    tables: &Tables,
     env: &mut Vec<Atom>,
     row: &Tuple,
     f: &Formula,
 ) -> Result<bool, AllocError>
-    requires proper { IsProper (arities tables.now) (length env.old.items + 1) f.now }
-    requires unary { universe.now.arity ≡ 1 }
+    requires proper { IsProper (arities tables.now) (length env.old.items + 1) (formula_tree f.now) }
     requires single { length row.now ≡ 1 }
-    ensures truth { IfOk result (λ b. IsTrue b ↔ IsTrueAt (tabled tables.now universe.now) (reverse env.old.items) f.now row.now) }
+    ensures truth { IfOk result (λ b. IsTrue b ↔ IsTrueAt (tabled tables.now) (reverse env.old.items) (formula_tree f.now) row.now) }
     ensures env { IfOk result (λ _. env.new.items ≡ env.old.items) }
 {
     env.push(row.first())?;
-    let holds = truth(alloc, tables, universe, env, f)?;
+    let holds = truth(alloc, tables, env, f)?;
     env.pop();
     Ok(holds)
 }
@@ -293,38 +280,34 @@ fn true_at(
 // Whether the value of the one expression is in that of the other.
 fn is_within(
     alloc: Global,
-    tables: &[TupleSet],
-    universe: &TupleSet,
+    tables: &Tables,
     env: &[Atom],
     a: &Expression,
     b: &Expression,
 ) -> Result<bool, AllocError>
-    requires left { IsWellFormed (arities tables.now) (length env.now) a.now }
-    requires right { IsWellFormed (arities tables.now) (length env.now) b.now }
-    requires unary { universe.now.arity ≡ 1 }
-    ensures { IfOk result (λ is. IsTrue is ↔ IsWithin (InValue (tabled tables.now universe.now) (reverse env.now) a.now) (InValue (tabled tables.now universe.now) (reverse env.now) b.now)) }
+    requires left { IsWellFormed (arities tables.now) (length env.now) (expression_tree a.now) }
+    requires right { IsWellFormed (arities tables.now) (length env.now) (expression_tree b.now) }
+    ensures { IfOk result (λ is. IsTrue is ↔ IsWithin (InValue (tabled tables.now) (reverse env.now) (expression_tree a.now)) (InValue (tabled tables.now) (reverse env.now) (expression_tree b.now))) }
 {
-    let left = value(alloc, tables, universe, env, a)?;
-    let right = value(alloc, tables, universe, env, b)?;
+    let left = value(alloc, tables, env, a)?;
+    let right = value(alloc, tables, env, b)?;
     Ok(left.is_subset(&right))
 }
 
 // Whether the two values have the same tuples.
 fn is_equal(
     alloc: Global,
-    tables: &[TupleSet],
-    universe: &TupleSet,
+    tables: &Tables,
     env: &[Atom],
     a: &Expression,
     b: &Expression,
 ) -> Result<bool, AllocError>
-    requires left { IsWellFormed (arities tables.now) (length env.now) a.now }
-    requires right { IsWellFormed (arities tables.now) (length env.now) b.now }
-    requires unary { universe.now.arity ≡ 1 }
-    ensures { IfOk result (λ is. IsTrue is ↔ AreEqual (InValue (tabled tables.now universe.now) (reverse env.now) a.now) (InValue (tabled tables.now universe.now) (reverse env.now) b.now)) }
+    requires left { IsWellFormed (arities tables.now) (length env.now) (expression_tree a.now) }
+    requires right { IsWellFormed (arities tables.now) (length env.now) (expression_tree b.now) }
+    ensures { IfOk result (λ is. IsTrue is ↔ AreEqual (InValue (tabled tables.now) (reverse env.now) (expression_tree a.now)) (InValue (tabled tables.now) (reverse env.now) (expression_tree b.now))) }
 {
-    let left = value(alloc, tables, universe, env, a)?;
-    let right = value(alloc, tables, universe, env, b)?;
+    let left = value(alloc, tables, env, a)?;
+    let right = value(alloc, tables, env, b)?;
     let within = left.is_subset(&right);
     let around = right.is_subset(&left);
     Ok(within && around)
@@ -333,16 +316,31 @@ fn is_equal(
 // Whether the value has so many tuples or more.
 fn has_at_least(
     alloc: Global,
-    tables: &[TupleSet],
-    universe: &TupleSet,
+    tables: &Tables,
     env: &[Atom],
     n: u32,
     e: &Expression,
 ) -> Result<bool, AllocError>
-    requires formed { IsWellFormed (arities tables.now) (length env.now) e.now }
-    requires unary { universe.now.arity ≡ 1 }
-    ensures { IfOk result (λ is. IsTrue is ↔ HasAtLeast n (InValue (tabled tables.now universe.now) (reverse env.now) e.now)) }
+    requires { IsWellFormed (arities tables.now) (length env.now) (expression_tree e.now) }
+    ensures { IfOk result (λ is. IsTrue is ↔ HasAtLeast n (InValue (tabled tables.now) (reverse env.now) (expression_tree e.now))) }
 {
-    let set = value(alloc, tables, universe, env, e)?;
-    Ok(set.rows().len() >= n as usize)
+    Ok(size(alloc, tables, env, e)? >= n as usize)
+}
+
+// How many tuples the value has. The set of a relation is counted where it is.
+fn size(alloc: Global, tables: &Tables, env: &[Atom], e: &Expression) -> Result<usize, AllocError>
+    requires { IsWellFormed (arities tables.now) (length env.now) (expression_tree e.now) }
+    ensures { IfOk result (λ size. HasSize (InValue (tabled tables.now) (reverse env.now) (expression_tree e.now)) size) }
+{
+    match e {
+        Expression::Rel(r) => Ok(count(&tables.values()[*r as usize])),
+        _ => Ok(count(&value(alloc, tables, env, e)?)),
+    }
+}
+
+// How many tuples there are.
+fn count(set: &TupleSet) -> usize
+    ensures { HasSize (Contains set.now.rows) result }
+{
+    set.rows().len()
 }

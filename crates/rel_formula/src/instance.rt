@@ -5,7 +5,7 @@ ghost use Rattle.rel_formula.specs.Instance.{IsInstance, AreCells};
 use crate::evaluate::truth;
 use crate::problem::Problem;
 use crate::scenario::Scenario;
-use crate::tables::{all_tables, universe};
+use crate::tables::Tables;
 use std::alloc::{AllocError, Global};
 
 /// Whether the scenario, whose numbers are those of cells of the problem, is an instance: the problem's formula is true in it.
@@ -14,10 +14,10 @@ pub fn holds(alloc: Global, problem: &Problem, scenario: &Scenario) -> Result<bo
     requires { AreCells problem.now scenario.now }
     ensures { IfOk result (λ is. IsTrue is ↔ IsInstance problem.now scenario.now) }
 {
-    // the bounds and the formula fit each other, as in every problem
+    // the bounds and the formula of a problem fit each other, and the numbers of a scenario rise
     let _relations = problem.relations();
-    let tables = all_tables(alloc, problem, scenario)?;
-    let universe = universe(alloc, &tables, problem.tops())?;
+    let _numbers = scenario.numbers();
+    let tables = Tables::of(alloc, problem, scenario)?;
     let mut env = Vec::new(alloc);
-    Ok(truth(alloc, &tables, &universe, &mut env, problem.formula())?)
+    Ok(truth(alloc, &tables, &mut env, problem.formula())?)
 }

@@ -3,12 +3,12 @@
 #![tactic(auto)]
 
 mod evaluate;
-pub mod formula;
+mod formula;
 mod instance;
 pub mod laws;
-pub mod problem;
-pub mod scenario;
-pub mod tables;
+mod problem;
+mod scenario;
+mod tables;
 #[cfg(test)]
 mod tests;
 
@@ -16,4 +16,5 @@ pub use crate::formula::{Expression, Formula};
 pub use crate::instance::holds;
 pub use crate::problem::{Cell, Problem, Relation};
 pub use crate::scenario::Scenario;
+pub use crate::tables::Tables;
 pub use std::alloc::AllocError as NoMemory;

@@ -2,7 +2,8 @@
 ghost use Rattle.std.specs.Prelude.{◌≡◌, ◌≢◌, ◌↔◌, ◌<◌, ◌≤◌, [], ◌∷◌, ◌++◌, ℕ, List, map, length, slice_get, Some, All, AllPairs, Contains, IfOk, IsTrue};
 ghost use Rattle.tuple_core.specs.Gains.{SomeGives};
 ghost use Rattle.tuple_core.specs.Rows.{IsSetOf, SetGains};
-ghost use Rattle.rel_formula.specs.Bounds.{Bounded, IsProblem, InUniverse, cells_of, cells_from, open_tuples, cell_of};
+ghost use Rattle.rel_formula.specs.View.{formula_tree};
+ghost use Rattle.rel_formula.specs.Bounds.{IsProblem, InAtoms, cells_of, cells_from, open_tuples, cell_of};
 
 use crate::formula::Formula;
 use std::alloc::{AllocError, Global};
@@ -15,6 +16,18 @@ pub struct Relation {
     pub name: Name,
     pub lower: TupleSet,
     pub upper: TupleSet,
+}
+
+impl Relation {
+    /// An equal relation.
+    pub fn copy(&self, alloc: Global) -> Result<Relation, AllocError>
+        ensures { IfOk result (λ r. r ≡ self.now) }
+    {
+        let name = self.name.copy(alloc)?;
+        let lower = self.lower.copy(alloc)?;
+        let upper = self.upper.copy(alloc)?;
+        Ok(Relation { name, lower, upper })
+    }
 }
 
 /// A relation, by its number, and a tuple that it may have and need not have.
@@ -35,18 +48,19 @@ pub struct Problem {
 }
 
 impl Model for Problem {
-    ghost use Rattle.rel_formula.specs.contracts.formula.Formula as formulas;
     ghost use Rattle.std.specs.Coded.{codes};
+    ghost use Rattle.rel_formula.specs.Code.{formula_code};
+    ghost use Rattle.rel_formula.specs.View.{formula_tree};
     ghost use Rattle.rel_formula.specs.Bounds.{Bounded};
     ghost use Rattle.rel_formula.specs.Kept.{IsKept};
 
     ghost Value = { Bounded };
 
-    ghost coded = { Prim.hlevel (codes, formulas.the_row.coded) };
+    ghost coded = { Prim.hlevel (codes, formula_code) };
 
-    ghost view = { λ p. record { relations = p.relations.items; tops = p.tops.items; formula = p.formula } };
+    ghost view = { λ p. record { relations = p.relations.items; tops = p.tops.items; formula = formula_tree p.formula } };
 
-    ghost invariant = { λ p. IsKept (record { relations = p.relations.items; tops = p.tops.items; formula = p.formula }) p.cells.items p.atoms };
+    ghost invariant = { λ p. IsKept (record { relations = p.relations.items; tops = p.tops.items; formula = formula_tree p.formula }) p.cells.items p.atoms };
 }
 
 impl Problem {
@@ -57,8 +71,8 @@ impl Problem {
         tops: Vec<u8>,
         formula: Formula,
     ) -> Result<Problem, AllocError>
-        requires { IsProblem (record { relations = relations.items; tops = tops.items; formula = formula }) }
-        ensures { IfOk result (λ p. p ≡ record { relations = relations.items; tops = tops.items; formula = formula }) }
+        requires { IsProblem (record { relations = relations.items; tops = tops.items; formula = formula_tree formula }) }
+        ensures { IfOk result (λ p. p ≡ record { relations = relations.items; tops = tops.items; formula = formula_tree formula }) }
     {
         let cells = all_cells(alloc, &relations)?;
         let atoms = all_atoms(alloc, &relations)?;
@@ -88,7 +102,7 @@ impl Problem {
 
     /// The formula.
     pub fn formula(&self) -> &Formula
-        ensures { result.now ≡ self.now.formula }
+        ensures { formula_tree result.now ≡ self.now.formula }
     {
         &self.formula
     }
@@ -110,18 +124,22 @@ impl Problem {
 
     /// The atoms, as a set of tuples of one atom each.
     pub fn atoms(&self) -> &TupleSet
-        ensures value { IsSetOf result.now 1 (InUniverse self.now) }
+        ensures value { IsSetOf result.now 1 (InAtoms self.now) }
         ensures well { IsProblem self.now }
     {
         &self.atoms
     }
 
     /// The cell of a number, which is below `cells`.
-    pub fn cell(&self, number: u32) -> &Cell
+    pub fn cell(&self, number: u32) -> Cell
         requires { number < length (cells_of self.now) }
-        ensures { slice_get (cells_of self.now) number ≡ Some result.now }
+        ensures { slice_get (cells_of self.now) number ≡ Some result }
     {
-        &self.cells[number as usize]
+        let cell = &self.cells[number as usize];
+        Cell {
+            relation: cell.relation,
+            tuple: cell.tuple.copy(),
+        }
     }
 
     /// The number of a cell, and `None` where the problem has no such cell.
@@ -133,6 +151,27 @@ impl Problem {
             Err(_) => None,
         }
     }
+
+    /// An equal problem.
+    pub fn copy(&self, alloc: Global) -> Result<Problem, AllocError>
+        ensures { IfOk result (λ p. p ≡ self.now) }
+    {
+        let relations = relations_copy(alloc, self.relations())?;
+        let tops = self.tops().to_vec(alloc)?;
+        let formula = self.formula().copy(alloc)?;
+        Ok(Problem::of(alloc, relations, tops, formula)?)
+    }
+}
+
+// Equal relations.
+fn relations_copy(alloc: Global, relations: &[Relation]) -> Result<Vec<Relation>, AllocError>
+    ensures { IfOk result (λ copies. copies.items ≡ relations.now) }
+{
+    let mut copies = Vec::new(alloc);
+    for relation in relations {
+        copies.push(relation.copy(alloc)?)?;
+    }
+    Ok(copies)
 }
 
 // The cells of all relations.

@@ -1,5 +1,6 @@
 // Scenarios: sets of cells, by their numbers.
-ghost use Rattle.std.specs.Prelude.{◌≡◌, ◌↔◌, ◌⊎◌, ◌<◌, ℕ, [], length, false, AllPairs, Contains, IfOk, OnErr, IsTrue};
+ghost use Rattle.std.specs.Prelude.{◌≡◌, ◌↔◌, ◌<◌, [], length, AllPairs, Contains, IfOk, OnErr, IsTrue};
+ghost use Rattle.rel_formula.specs.Instance.{with_cell};
 
 use std::alloc::{AllocError, Global};
 use std::marker::Model;
@@ -32,9 +33,8 @@ impl Scenario {
 
     /// Puts the cell of this number in, and says whether it is new.
     pub fn insert(&mut self, number: u32) -> Result<bool, AllocError>
-        ensures cells { IfOk result (λ _. (n : ℕ) → Contains self.new n ↔ (Contains self.old n ⊎ (n ≡ number))) }
+        ensures value { IfOk result (λ _. self.new ≡ with_cell number self.old) }
         ensures new { IfOk result (λ is_new. IsTrue is_new ↔ (Contains self.old number → ⊥)) }
-        ensures same { IfOk result (λ is_new. is_new ≡ false → self.new ≡ self.old) }
         ensures rising { AllPairs (λ m n. m < n) self.new }
         ensures err { OnErr result (self.new ≡ self.old) }
     {
@@ -84,9 +84,8 @@ impl Scenario {
 fn insert_number(numbers: &mut Vec<u32>, number: u32) -> Result<bool, AllocError>
     requires { AllPairs (λ m n. m < n) numbers.old.items }
     ensures rising { AllPairs (λ m n. m < n) numbers.new.items }
-    ensures cells { IfOk result (λ _. (n : ℕ) → Contains numbers.new.items n ↔ (Contains numbers.old.items n ⊎ (n ≡ number))) }
+    ensures value { IfOk result (λ _. numbers.new.items ≡ with_cell number numbers.old.items) }
     ensures new { IfOk result (λ is_new. IsTrue is_new ↔ (Contains numbers.old.items number → ⊥)) }
-    ensures same { IfOk result (λ is_new. is_new ≡ false → numbers.new.items ≡ numbers.old.items) }
     ensures err { OnErr result (numbers.new.items ≡ numbers.old.items) }
 {
     match numbers.binary_search(&number) {

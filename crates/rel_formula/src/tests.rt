@@ -2,15 +2,16 @@
 ghost use Rattle.std.specs.Prelude.{◌≡◌, ◌∷◌, [], ◌<◌, ◌≤◌, ℕ, List, All, Contains, IfOk, length};
 ghost use Rattle.rel_formula.specs.Instance.{AreCells};
 ghost use Rattle.rel_formula.specs.Shape.{IsWellFormed, IsProper};
+ghost use Rattle.rel_formula.specs.Kernel.{rel, var, within};
 ghost use Rattle.rel_formula.specs.Tables.{arities};
-ghost use Rattle.rel_formula.specs.declared.formula.Expression.TheVariants.{Rel, Var};
-ghost use Rattle.rel_formula.specs.declared.formula.Formula.{In};
+ghost use Rattle.rel_formula.specs.View.{expression_tree, formula_tree};
 
 use crate::evaluate::{truth, value};
 use crate::formula::{Expression, Formula};
 use crate::instance::holds;
 use crate::problem::{Cell, Problem, Relation};
 use crate::scenario::Scenario;
+use crate::tables::Tables;
 use std::alloc::{AllocError, Global};
 use std::process::Abort;
 use std::test::Fail;
@@ -46,36 +47,35 @@ fn pairs(alloc: Global, places: &[[u16; 2]]) -> Result<TupleSet, AllocError>
     Ok(set)
 }
 
-// Two sets of atoms and two of pairs.
-fn tables(alloc: Global) -> Result<Vec<TupleSet>, AllocError>
-    ensures { IfOk result (λ vs. arities vs.items ≡ 1 ∷ 1 ∷ 2 ∷ 2 ∷ []) }
+// Two sets of atoms and two of pairs, over three atoms.
+fn tables(alloc: Global) -> Result<Tables, AllocError>
+    ensures { IfOk result (λ tables. arities tables ≡ 1 ∷ 1 ∷ 2 ∷ 2 ∷ []) }
 {
-    let tables = vec![in alloc;
+    let values = vec![in alloc;
         atoms(alloc, &[0, 1])?,
         atoms(alloc, &[1, 2])?,
         pairs(alloc, &[[0, 1], [1, 2]])?,
         pairs(alloc, &[[1, 0], [1, 1]])?,
     ]?;
-    Ok(tables)
+    let universe = atoms(alloc, &[0, 1, 2])?;
+    Ok(Tables::new(values, universe))
 }
 
-// The value over those sets, where the inner variable is the first atom and the outer one the third.
+// The value of a copy over those sets, where the inner variable is the first atom and the outer one the third.
 fn value_of(alloc: Global, e: &Expression) -> Result<TupleSet, AllocError>
-    requires { IsWellFormed (1 ∷ 1 ∷ 2 ∷ 2 ∷ []) 2 e.now }
+    requires { IsWellFormed (1 ∷ 1 ∷ 2 ∷ 2 ∷ []) 2 (expression_tree e.now) }
 {
-    let universe = atoms(alloc, &[0, 1, 2])?;
     let tables = tables(alloc)?;
-    value(alloc, &tables, &universe, &[at(2), at(0)], e)
+    value(alloc, &tables, &[at(2), at(0)], &e.copy(alloc)?)
 }
 
-// The truth over those sets.
+// The truth of a copy over those sets.
 fn truth_of(alloc: Global, f: &Formula) -> Result<bool, AllocError>
-    requires { IsProper (1 ∷ 1 ∷ 2 ∷ 2 ∷ []) 0 f.now }
+    requires { IsProper (1 ∷ 1 ∷ 2 ∷ 2 ∷ []) 0 (formula_tree f.now) }
 {
-    let universe = atoms(alloc, &[0, 1, 2])?;
     let tables = tables(alloc)?;
     let mut env = Vec::new(alloc);
-    truth(alloc, &tables, &universe, &mut env, f)
+    truth(alloc, &tables, &mut env, &f.copy(alloc)?)
 }
 
 #[test]
@@ -92,7 +92,7 @@ fn sets_of_atoms(rt: HostRuntime) -> Result<(), Fail> {
 
 // Two relations as operands.
 fn two(alloc: Global, a: u8, b: u8) -> Result<(Box<Expression>, Box<Expression>), AllocError>
-    ensures { IfOk result (λ p. (p.0.value ≡ Rel a) × (p.1.value ≡ Rel b)) }
+    ensures { IfOk result (λ p. (expression_tree p.0.value ≡ rel a) × (expression_tree p.1.value ≡ rel b)) }
 {
     Ok((
         Box::new(alloc, Expression::Rel(a))?,
@@ -140,14 +140,14 @@ fn operators_on_pairs(rt: HostRuntime) -> Result<(), Fail> {
 
 // The first set is in the second.
 fn within(alloc: Global) -> Result<Box<Formula>, AllocError>
-    ensures { IfOk result (λ f. f.value ≡ In (Rel 0) (Rel 1)) }
+    ensures { IfOk result (λ f. formula_tree f.value ≡ within (rel 0) (rel 1)) }
 {
     Ok(Box::new(alloc, Formula::In(Expression::Rel(0), Expression::Rel(1)))?)
 }
 
 // The inner variable is in the second set.
 fn inner_within(alloc: Global) -> Result<Box<Formula>, AllocError>
-    ensures { IfOk result (λ f. f.value ≡ In (Var 0) (Rel 1)) }
+    ensures { IfOk result (λ f. formula_tree f.value ≡ within (var 0) (rel 1)) }
 {
     Ok(Box::new(alloc, Formula::In(Expression::Var(0), Expression::Rel(1)))?)
 }
@@ -215,14 +215,14 @@ fn quantifiers(rt: HostRuntime) -> Result<(), Fail> {
 
 // The list without formulas.
 fn no_formulas(alloc: Global) -> Vec<Formula>
-    ensures { (ns : List ℕ) → All (IsProper ns 0) result.items }
+    ensures { (ns : List ℕ) → All (λ f. IsProper ns 0 (formula_tree f)) result.items }
 {
     Vec::new(alloc)
 }
 
 // A false formula and a true one.
 fn false_and_true(alloc: Global) -> Result<Vec<Formula>, AllocError>
-    ensures { IfOk result (λ fs. All (IsProper (1 ∷ 1 ∷ 2 ∷ 2 ∷ []) 0) fs.items) }
+    ensures { IfOk result (λ fs. All (λ f. IsProper (1 ∷ 1 ∷ 2 ∷ 2 ∷ []) 0 (formula_tree f)) fs.items) }
 {
     let some = Formula::AtLeast(1, Expression::Rel(0));
     let none = Formula::In(Expression::Rel(0), Expression::None);
@@ -232,10 +232,10 @@ fn false_and_true(alloc: Global) -> Result<Vec<Formula>, AllocError>
 #[test]
 fn lists_of_formulas(rt: HostRuntime) -> Result<(), Fail> {
     let alloc = rt.alloc();
-    assert!(rt; truth_of(alloc, &Formula::And(no_formulas(alloc)))?);
-    assert!(rt; !truth_of(alloc, &Formula::Or(no_formulas(alloc)))?);
-    assert!(rt; !truth_of(alloc, &Formula::And(false_and_true(alloc)?))?);
-    assert!(rt; truth_of(alloc, &Formula::Or(false_and_true(alloc)?))?);
+    assert!(rt; truth_of(alloc, &Formula::all_of(no_formulas(alloc)))?);
+    assert!(rt; !truth_of(alloc, &Formula::any_of(no_formulas(alloc)))?);
+    assert!(rt; !truth_of(alloc, &Formula::all_of(false_and_true(alloc)?))?);
+    assert!(rt; truth_of(alloc, &Formula::any_of(false_and_true(alloc)?))?);
     Ok(())
 }
 
@@ -247,7 +247,7 @@ fn set_between(
     upper: &[u16],
     formula: Formula,
 ) -> Result<Problem, AllocError>
-    requires { IsProper (1 ∷ []) 0 formula }
+    requires { IsProper (1 ∷ []) 0 (formula_tree formula) }
 {
     let lower = atoms(alloc, lower)?;
     let upper = atoms(alloc, upper)?;
@@ -283,7 +283,13 @@ fn instances(rt: HostRuntime) -> Result<(), Fail> {
         &[0, 1],
         Formula::AtLeast(1, Expression::Rel(0)),
     )?;
-    let free = set_between(&rt, alloc, &[], &[0, 1], Formula::And(no_formulas(alloc)))?;
+    let free = set_between(
+        &rt,
+        alloc,
+        &[],
+        &[0, 1],
+        Formula::all_of(no_formulas(alloc)),
+    )?;
     let grown = set_between(
         &rt,
         alloc,
@@ -315,7 +321,7 @@ fn cells(rt: HostRuntime) -> Result<(), Fail> {
         alloc,
         &[4],
         &[2, 3, 4],
-        Formula::And(no_formulas(alloc)),
+        Formula::all_of(no_formulas(alloc)),
     )?;
     assert_eq!(rt;
         (
@@ -335,7 +341,27 @@ fn cells(rt: HostRuntime) -> Result<(), Fail> {
         assert_eq!(rt; problem.number_of(&cell), number);
     }
     for number in 0..problem.cells() {
-        assert_eq!(rt; problem.number_of(problem.cell(number)), Some(number));
+        assert_eq!(rt; problem.number_of(&problem.cell(number)), Some(number));
+    }
+    Ok(())
+}
+
+#[test]
+fn copies(rt: HostRuntime) -> Result<(), Fail> {
+    let alloc = rt.alloc();
+    let problem = set_between(
+        &rt,
+        alloc,
+        &[4],
+        &[2, 3, 4],
+        Formula::AtLeast(2, Expression::Rel(0)),
+    )?;
+    let copy = problem.copy(alloc)?;
+    assert_eq!(rt; (copy.cells(), copy.tops().len()), (2, 1));
+    assert!(rt; copy.relations()[0].name == problem.relations()[0].name);
+    for (number, is_instance) in [(0, true), (7, false)] {
+        let scenario = chosen(alloc, &copy, &[number])?;
+        assert_eq!(rt; holds(alloc, &copy, &scenario)?, is_instance);
     }
     Ok(())
 }

@@ -1,10 +1,10 @@
 -- How atoms, tuples and relations are written.
-use Rattle.std.specs.Prelude.{ℕ, List, [], ◌∷◌, ◌++◌, map, codes, decimal, slice_index}
+use Rattle.std.specs.Prelude.{ℕ, List, [], ◌∷◌, ◌++◌, map, codes, decimal}
 use Rattle.std.specs.List.{flat_map}
 use Rattle.tuple_core.specs.declared.atom.Atom.{Atom}
 use Rattle.tuple_core.specs.Rows.{Rows}
 use Rattle.rel_formula.specs.declared.problem.Relation.{Relation}
-use Rattle.rel_formula.specs.Bounds.{Bounded, relation_at}
+use Rattle.rel_formula.specs.Bounds.{Bounded, signature_name}
 
 -- the pieces, with the separator between them
 abbrev pub separated : List ℕ → List (List ℕ) → List ℕ
@@ -13,7 +13,7 @@ separated between (first ∷ others) = first ++ flat_map (λ piece. between ++ p
 
 -- the name of its top-level signature, `$` and its place
 abbrev pub atom_text : Bounded → Atom → List ℕ
-atom_text p a = (relation_at p.relations (slice_index p.tops a.top)).name ++ codes "$" ++ decimal a.place
+atom_text p a = signature_name p a ++ codes "$" ++ decimal a.place
 
 -- the atoms with `->` between them
 abbrev pub tuple_text : Bounded → List Atom → List ℕ

@@ -1,8 +1,8 @@
 //! The text of a session: its name, and the lines of its replies.
 #![tactic(auto)]
 
-pub mod relation_lines;
-pub mod replies;
-pub mod scenario_lines;
+mod relation_lines;
+mod replies;
+mod scenario_lines;
 
-pub use crate::replies::session_text;
+pub use crate::replies::text_of_replies;

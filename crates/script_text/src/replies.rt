@@ -10,7 +10,7 @@ use session_rules::Reply;
 use std::alloc::{AllocError, Global};
 
 /// The text of a session: its name and the lines of its replies. The scenarios in these are the problem's.
-pub fn session_text(
+pub fn text_of_replies(
     alloc: Global,
     name: &str,
     problem: &Problem,

@@ -6,8 +6,7 @@ ghost use Rattle.script_text.specs.Lines.{relation_lines};
 ghost use Rattle.script_text.specs.Replies.{IsScenarioText};
 
 use crate::relation_lines::push_relation;
-use rel_formula::tables::all_tables;
-use rel_formula::{Problem, Relation, Scenario};
+use rel_formula::{Problem, Relation, Scenario, Tables};
 use std::alloc::{AllocError, Global};
 use tuple_core::TupleSet;
 
@@ -21,8 +20,8 @@ pub fn push_scenario(
     requires { AreCells problem.now scenario.now }
     ensures { IfOk result (λ _. (text : List ℕ) × IsScenarioText problem.now scenario.now text × (out.new.items ≡ out.old.items ++ text)) }
 {
-    let tables = all_tables(alloc, problem, scenario)?;
-    push_tables(out, problem, problem.relations(), &tables)?;
+    let tables = Tables::of(alloc, problem, scenario)?;
+    push_tables(out, problem, problem.relations(), tables.values())?;
     Ok(())
 }
 

@@ -1,7 +1,7 @@
 -- The session machine: which reply each step may have, and the state that it leaves.
 use Rattle.std.specs.Prelude.{◌≡◌, ◌⊎◌, ◌+◌, ℕ, List, [], ◌∷◌, ◌++◌, length, map, filter, slice_index_or, bytes_eq, Contains}
 use Rattle.rel_formula.specs.Bounds.{Bounded}
-use Rattle.rel_formula.specs.Order.{IsDue}
+use Rattle.swap_symmetry.specs.Due.{IsDue}
 use Rattle.session_rules.specs.declared.reply.Step.{Step}
 use Rattle.session_rules.specs.declared.reply.Step.TheVariants.{Next}
 use Rattle.session_rules.specs.declared.reply.Reply.{Reply}

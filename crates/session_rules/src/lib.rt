@@ -2,6 +2,6 @@
 //! step may have.
 #![tactic(auto)]
 
-pub mod reply;
+mod reply;
 
 pub use crate::reply::{Reply, Step};

@@ -1,7 +1,7 @@
 -- What contracts see of a session, and what it keeps.
 use Rattle.std.specs.Prelude.{◌≡◌, ◌≢◌, ◌↔◌, ◌≤◌, ◌<◌, ◌^◌, ℕ, List, [], ◌∷◌, Bool, true, map, take, length, AllPairs, Contains, if◌then◌else◌}
 use Rattle.rel_formula.specs.Bounds.{Bounded}
-use Rattle.rel_formula.specs.Order.{IsDue}
+use Rattle.swap_symmetry.specs.Due.{IsDue}
 use Rattle.session_rules.specs.Machine.{State}
 
 -- the problem that the session is about, and the state of the session machine

@@ -2,7 +2,6 @@
 ghost use Rattle.std.specs.Prelude.{◌≡◌, ◌≤◌, length, IfOk};
 ghost use Rattle.rel_formula.specs.Bounds.{cells_of};
 ghost use Rattle.session_rules.specs.declared.reply.Step.TheVariants.{Next};
-ghost use Rattle.rel_formula.specs.Renaming.{IsSymmetric};
 ghost use Rattle.session_rules.specs.Machine.{MachineStep, Start};
 
 use exhaustive_search::all_due;
@@ -22,13 +21,13 @@ pub struct Session {
 }
 
 impl Model for Session {
-    ghost use Rattle.rel_formula.specs.contracts.formula.Formula as formulas;
     ghost use Rattle.std.specs.Coded.{codes};
+    ghost use Rattle.rel_formula.specs.Code.{formula_code};
     ghost use Rattle.session_state.specs.Session.{OnProblem, after_showing, AreDue};
 
     ghost Value = { OnProblem };
 
-    ghost coded = { Prim.hlevel (codes, formulas.the_row.coded) };
+    ghost coded = { Prim.hlevel (codes, formula_code) };
 
     ghost view = { λ s. record { problem = s.problem; state = after_showing s.due.items s.shown s.ended s.budget } };
 
@@ -36,11 +35,10 @@ impl Model for Session {
 }
 
 impl Session {
-    /// A session at the start, with this budget. The problem is symmetric and has at most 12 cells. All sets of cells
+    /// A session at the start, with this budget. The problem has at most 12 cells. All sets of cells
     /// are tried here, once.
     pub fn new(alloc: Global, problem: Problem, budget: u32) -> Result<Session, AllocError>
-        requires symmetric { IsSymmetric problem }
-        requires few { length (cells_of problem) ≤ 12 }
+        requires { length (cells_of problem) ≤ 12 }
         ensures problem { IfOk result (λ s. s.problem ≡ problem) }
         ensures start { IfOk result (λ s. s.state ≡ Start budget) }
     {

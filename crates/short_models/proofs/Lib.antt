@@ -1,3 +1,3 @@
-pub mod Conjunctions
+pub mod Blocks
 pub mod Places
 pub mod Shorts

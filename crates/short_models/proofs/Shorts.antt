@@ -1,15 +1,15 @@
 -- The problem of a short model is one, it is symmetric, and it has few cells.
 use Rattle.std.proofs.Common.{◌≡◌, ℕ, zero, suc, ◌+◌, ◌*◌, ◌<◌, ◌≤◌, inl, inr, List, [], ◌∷◌, map, filter, not, length, get_or, Contains, All, Bool, true, false, cond, refl, sym, ◌∙◌, ap, subst, arith, zero-add, add-zero}
-use Rattle.std.specs.List.{AllZip, list_any}
+use Rattle.std.specs.List.{list_any}
 use Rattle.std.specs.Ordering.{eq_by_cmp}
 use Rattle.std.proofs.Math.Nat.{suc-mul}
 use Rattle.std.proofs.lemmas.Bool.{cases_lt}
 use Rattle.std.proofs.lemmas.List.{length-map, get_or_past, length-append, length_push, get_or_default}
-use Rattle.std.proofs.lemmas.List.Elements.{All-nil, All-cons, All-head, All-tail, Contains-push_cases, Contains-append_left, Contains-push, Contains-get_or}
+use Rattle.std.proofs.lemmas.List.Elements.{All-nil, All-head, All-tail, Contains-push_cases, Contains-append_left, Contains-push, Contains-get_or}
 use Rattle.tuple_core.specs.declared.atom.Atom.{Atom}
 use Rattle.tuple_core.specs.Order.{tuple_cmp}
 use Rattle.rel_formula.specs.declared.problem.Relation.{Relation}
-use Rattle.rel_formula.specs.declared.formula.Formula.{Formula, Not', And', items-the_row-Formula, Row_of-Formula, end_of-Formula, more_of-Formula}
+use Rattle.rel_formula.specs.Kernel.{formulas_of}
 use Rattle.rel_formula.specs.Bounds.{Bounded, IsProblem, IsRelation, IsAtomOf, relation_at, open_tuples, cell_of, cells_from, cells_of}
 use Rattle.rel_formula.specs.Shape.{IsProper, AreProper}
 use Rattle.rel_formula.specs.Renaming.{IsSymmetric}
@@ -19,7 +19,7 @@ use Rattle.rel_formula.proofs.Tabled.{no_relation}
 use Rattle.short_models.specs.declared.model.Count.{Count}
 use Rattle.short_models.specs.declared.model.Multiplicity.{Multiplicity}
 use Rattle.short_models.specs.declared.model.Multiplicity.TheVariants.{Some, No, Lone, One}
-use Rattle.short_models.specs.Problem.{Short, IsShort, places, signature_of, signatures_from, numbers_from, SaysAtLeast, SaysFewer, Says, IsAndOf, IsProblemOf}
+use Rattle.short_models.specs.Problem.{Short, IsShort, places, signature_of, signatures_from, numbers_from, count_formula, problem_of}
 use Rattle.short_models.proofs.Places.{atom, places_rows}
 
 -- the signatures, by their numbers
@@ -70,36 +70,19 @@ cells_few scope r (x ∷ xs) =
 
 -- the formula
 
-all_row : (ns : List ℕ) (d : ℕ) (n : _) (row : Row_of-Formula n) → All (IsProper ns d) (items-the_row-Formula n row) → AreProper ns d row
-all_row ns d n end_of-Formula h = tt
-all_row ns d n (more_of-Formula f rest) h = (All-head (IsProper ns d) f _ h, all_row ns d _ rest (All-tail (IsProper ns d) f _ h))
+count_proper : (ns : List ℕ) (d : ℕ) (m : Multiplicity) (r : ℕ) → r < length ns → IsProper ns d (count_formula m r)
+count_proper ns d Some r l = l
+count_proper ns d No r l = l
+count_proper ns d Lone r l = l
+count_proper ns d One r l = (l, (l, tt))
 
-and_proper : (ns : List ℕ) (d : ℕ) (fs : List Formula) (f : Formula) → IsAndOf fs f → All (IsProper ns d) fs → IsProper ns d f
-and_proper ns d fs (And' _ row) e h = all_row ns d _ row (subst (All (IsProper ns d)) (sym e) h)
-and_proper ns d fs _ e h = absurd e
-
-least_proper : (ns : List ℕ) (d n r : ℕ) (f : Formula) → r < length ns → SaysAtLeast n r f → IsProper ns d f
-least_proper ns d n r f l e = subst (IsProper ns d) (sym e) l
-
-fewer_proper : (ns : List ℕ) (d n r : ℕ) (f : Formula) → r < length ns → SaysFewer n r f → IsProper ns d f
-fewer_proper ns d n r (Not' _ f) l e = least_proper ns d n r f l e
-fewer_proper ns d n r _ l e = absurd e
-
-says_proper : (ns : List ℕ) (d : ℕ) (m : Multiplicity) (r : ℕ) (f : Formula) → r < length ns → Says m r f → IsProper ns d f
-says_proper ns d Some r f l e = least_proper ns d 1 r f l e
-says_proper ns d No r f l e = fewer_proper ns d 1 r f l e
-says_proper ns d Lone r f l e = fewer_proper ns d 2 r f l e
-says_proper ns d One r f l e =
-    and_proper ns d (e.0 ∷ e.1 ∷ []) f e.4
-    (All-cons (IsProper ns d) e.0 (e.1 ∷ []) (least_proper ns d 1 r e.0 l e.2) (All-cons (IsProper ns d) e.1 [] (fewer_proper ns d 2 r e.1 l e.3) (All-nil (IsProper ns d))))
-
-all_proper : (ns : List ℕ) (d : ℕ) (counts : List Count) (fs : List Formula) → All (λ c. c.signature < length ns) counts → AllZip (λ c g. Says c.multiplicity c.signature g) counts fs → All (IsProper ns d) fs
-all_proper ns d [] [] all h = All-nil (IsProper ns d)
-all_proper ns d [] (f ∷ fs) all h = absurd h
-all_proper ns d (c ∷ cs) [] all h = absurd h
-all_proper ns d (c ∷ cs) (f ∷ fs) all h =
-    All-cons (IsProper ns d) f fs (says_proper ns d c.multiplicity c.signature f (All-head (λ (x : Count). x.signature < length ns) c cs all) h.0)
-    (all_proper ns d cs fs (All-tail (λ (x : Count). x.signature < length ns) c cs all) h.1)
+counts_proper : (ns : List ℕ) (d : ℕ) (counts : List Count) → All (λ c. c.signature < length ns) counts
+    → AreProper ns d (formulas_of (map (λ (c : Count). count_formula c.multiplicity c.signature) counts))
+counts_proper ns d [] all = tt
+counts_proper ns d (c ∷ cs) all = (
+  count_proper ns d c.multiplicity c.signature (All-head (λ (x : Count). x.signature < length ns) c cs all),
+  counts_proper ns d cs (All-tail (λ (x : Count). x.signature < length ns) c cs all),
+)
 
 -- an atom in a tuple of a signature's places
 in_place : (top n : ℕ) (t : List Atom) (a : Atom) → Contains (places top n) t → Contains t a → (t ≡ a ∷ []) × (a.top ≡ top) × (a.place < n)
@@ -125,15 +108,18 @@ not_empty : (top n : ℕ) → Contains (places top n) [] → ⊥
 not_empty top zero c = let l = c.1 in absurd (omega arith)
 not_empty top (suc n) c = elim (Contains-push_cases (places top n) (atom top n ∷ []) [] c) [ inl d ↦ not_empty top n d | inr e ↦ absurd (cc) ]
 
-module _ (m : Short) (is : IsShort m) (p : Bounded) (of : IsProblemOf m p) where
+module _ (m : Short) (is : IsShort m) where
+  abbrev p : Bounded
+  p = problem_of m
+
   count_is : length p.relations ≡ length m.signatures
-  count_is = ap length of.relations ∙ signatures_len m.scope 0 m.signatures
+  count_is = signatures_len m.scope 0 m.signatures
 
   tops_count : length p.tops ≡ length m.signatures
-  tops_count = ap length of.tops ∙ numbers_len 0 (length m.signatures)
+  tops_count = numbers_len 0 (length m.signatures)
 
   at : (r : ℕ) (D : Relation) (d : List ℕ) → r < length m.signatures → get_or p.relations r D ≡ signature_of m.scope r (get_or m.signatures r d)
-  at r D d l = ap (λ rs. get_or rs r D) of.relations ∙ signature_at m.scope 0 m.signatures r D d l ∙ ap (λ n. signature_of m.scope n (get_or m.signatures r d)) (zero-add r)
+  at r D d l = signature_at m.scope 0 m.signatures r D d l ∙ ap (λ n. signature_of m.scope n (get_or m.signatures r d)) (zero-add r)
 
   upper_is : (r : ℕ) → r < length m.signatures → (relation_at p.relations r).upper.rows ≡ places r m.scope
   upper_is r l = ap (λ (x : Relation). x.upper.rows) (at r no_relation [] l)
@@ -188,28 +174,28 @@ module _ (m : Short) (is : IsShort m) (p : Bounded) (of : IsProblemOf m p) where
       let few = is.few in
       record {
         few = omega arith;
-        few_cells = let h = cells_few m.scope 0 m.signatures in let g = ap (λ rs. length (cells_from 0 rs)) of.relations in let c = is.cells in omega arith;
+        few_cells = let h = cells_few m.scope 0 m.signatures in let c = is.cells in omega arith;
         relations = relations_are;
         names = λ i j D l h same. is.once i j [] l (omega arith)
             (sym (ap (λ (x : Relation). x.name) (at i D [] (omega arith))) ∙ same ∙ ap (λ (x : Relation). x.name) (at j D [] (omega arith)));
-        tops = λ i d l. let n = ap (λ ns. get_or ns i d) of.tops ∙ number_at 0 (length m.signatures) i d (omega arith) in omega arith;
+        tops = λ i d l. let n = number_at 0 (length m.signatures) i d (omega arith) in omega arith;
         unary = λ i d l.
-            let n : get_or p.tops i d ≡ i = ap (λ ns. get_or ns i d) of.tops ∙ number_at 0 (length m.signatures) i d (omega arith) ∙ zero-add i in
+            let n : get_or p.tops i d ≡ i = number_at 0 (length m.signatures) i d (omega arith) ∙ zero-add i in
             ap (λ r. (relation_at p.relations r).upper.arity) n ∙ ap (λ (x : Relation). x.upper.arity) (at i no_relation [] (omega arith));
         rising = λ i j d l h.
-            let a = ap (λ ns. get_or ns i d) of.tops ∙ number_at 0 (length m.signatures) i d (omega arith) in
-            let b = ap (λ ns. get_or ns j d) of.tops ∙ number_at 0 (length m.signatures) j d (omega arith) in
+            let a = number_at 0 (length m.signatures) i d (omega arith) in
+            let b = number_at 0 (length m.signatures) j d (omega arith) in
             omega arith;
         atoms = λ a h. let g = (atom_is a h).0 in omega arith;
         proper =
             let ns = map (λ (r : Relation). r.lower.arity) p.relations in
             let long = length-map p.relations (λ (r : Relation). r.lower.arity) in
             let counts : All (λ (c : Count). c.signature < length ns) m.counts = λ i d l. let h = is.counts i d l in omega arith in
-            and_proper ns 0 of.formula.0 p.formula of.formula.2 (all_proper ns 0 m.counts of.formula.0 counts of.formula.1);
+            counts_proper ns 0 m.counts counts;
       }
 
   pub cells_are_few : length (cells_of p) ≤ 12
-  cells_are_few = let h = cells_few m.scope 0 m.signatures in let g = ap (λ rs. length (cells_from 0 rs)) of.relations in let c = is.cells in omega arith
+  cells_are_few = let h = cells_few m.scope 0 m.signatures in let c = is.cells in omega arith
 
   moves : (f : Atom → Atom) (r : ℕ) (t : List Atom) → ((a : Atom) → (f a).top ≡ a.top) → ((a : Atom) → IsAtomOf p a → IsAtomOf p (f a)) →
       Contains (relation_at p.relations r).upper.rows t → Contains (relation_at p.relations r).upper.rows (map f t)

@@ -1,10 +1,8 @@
 -- The problem of a short model.
-use Rattle.std.specs.Prelude.{◌≡◌, ◌≢◌, ◌+◌, ◌*◌, ◌<◌, ◌≤◌, ℕ, zero, suc, List, [], ◌∷◌, ◌++◌, length, All, AllPairs}
-use Rattle.std.specs.List.{AllZip}
+use Rattle.std.specs.Prelude.{◌≢◌, ◌+◌, ◌*◌, ◌<◌, ◌≤◌, ℕ, zero, suc, List, [], ◌∷◌, ◌++◌, map, length, All, AllPairs}
 use Rattle.tuple_core.specs.declared.atom.Atom.{Atom}
 use Rattle.rel_formula.specs.declared.problem.Relation.{Relation}
-use Rattle.rel_formula.specs.declared.formula.Expression.TheVariants.{Rel}
-use Rattle.rel_formula.specs.declared.formula.Formula.{Formula, AtLeast, Not', And', items-the_row-Formula}
+use Rattle.rel_formula.specs.Kernel.{rel, FormulaTree, at_least, negation, conjunction, formulas_of}
 use Rattle.rel_formula.specs.Bounds.{Bounded}
 use Rattle.short_models.specs.declared.model.ShortModel.{ShortModel}
 use Rattle.short_models.specs.declared.model.Count.{Count}
@@ -52,35 +50,21 @@ abbrev pub numbers_from : ℕ → ℕ → List ℕ
 numbers_from r zero = []
 numbers_from r (suc n) = r ∷ numbers_from (r + 1) n
 
--- f says that the relation has n or more tuples, or that it hasn't
-abbrev pub SaysAtLeast : ℕ → ℕ → Formula → Type 0
-SaysAtLeast n r f = f ≡ AtLeast n (Rel r)
-
-abbrev pub SaysFewer : ℕ → ℕ → Formula → Type 0
-SaysFewer n r (Not' _ f) = SaysAtLeast n r f
-SaysFewer n r f = ⊥
-
--- f is the conjunction of these formulas
-abbrev pub IsAndOf : List Formula → Formula → Type 0
-IsAndOf fs (And' _ row) = items-the_row-Formula _ row ≡ fs
-IsAndOf fs f = ⊥
-
-abbrev pub SaysExactly : ℕ → Formula → Type 0
-SaysExactly r f = (g : Formula) × (h : Formula) × SaysAtLeast 1 r g × SaysFewer 2 r h × IsAndOf (g ∷ h ∷ []) f
-
 -- what a multiplicity word says of a relation
-abbrev pub Says : Multiplicity → ℕ → Formula → Type 0
-Says Some r f = SaysAtLeast 1 r f
-Says No r f = SaysFewer 1 r f
-Says Lone r f = SaysFewer 2 r f
-Says One r f = SaysExactly r f
+abbrev pub count_formula : Multiplicity → ℕ → FormulaTree
+count_formula Some r = at_least 1 (rel r)
+count_formula No r = negation (at_least 1 (rel r))
+count_formula Lone r = negation (at_least 2 (rel r))
+count_formula One r = conjunction (formulas_of (at_least 1 (rel r) ∷ negation (at_least 2 (rel r)) ∷ []))
 
 -- the conjunction of the block's formulas, in order
-abbrev pub IsBlock : List Count → Formula → Type 0
-IsBlock counts f = (fs : List Formula) × AllZip (λ c g. Says c.multiplicity c.signature g) counts fs × IsAndOf fs f
+abbrev pub block_formula : List Count → FormulaTree
+block_formula counts = conjunction (formulas_of (map (λ c. count_formula c.multiplicity c.signature) counts))
 
 -- the problem of a short model: a relation for each signature, all of them top-level, and the block
-pub record IsProblemOf (m : Short) (p : Bounded) : Type 0 where
-  pub relations : p.relations ≡ signatures_from m.scope 0 m.signatures
-  pub tops : p.tops ≡ numbers_from 0 (length m.signatures)
-  pub formula : IsBlock m.counts p.formula
+abbrev pub problem_of : Short → Bounded
+problem_of m = record {
+  relations = signatures_from m.scope 0 m.signatures;
+  tops = numbers_from 0 (length m.signatures);
+  formula = block_formula m.counts;
+}

@@ -1,11 +1,11 @@
 //! Short models, which have plain signatures, one block of counts of them and one scope, and their problems.
 #![tactic(auto)]
 
-pub mod bounds;
-pub mod kernel;
+mod bounds;
+mod kernel;
 pub mod laws;
-pub mod model;
-pub mod problem;
+mod model;
+mod problem;
 #[cfg(test)]
 mod tests;
 

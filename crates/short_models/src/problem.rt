@@ -1,8 +1,8 @@
 // The problem of a short model.
-ghost use Rattle.std.specs.Prelude.{◌≤◌, length, IfOk};
+ghost use Rattle.std.specs.Prelude.{◌≡◌, ◌≤◌, length, IfOk};
 ghost use Rattle.rel_formula.specs.Bounds.{cells_of};
 ghost use Rattle.rel_formula.specs.Renaming.{IsSymmetric};
-ghost use Rattle.short_models.specs.Problem.{IsShort, IsProblemOf, short_of};
+ghost use Rattle.short_models.specs.Problem.{IsShort, problem_of, short_of};
 
 use crate::bounds::{signatures, tops};
 use crate::kernel::block_of;
@@ -13,7 +13,7 @@ use std::alloc::{AllocError, Global};
 /// The problem of a short model, which has at most 12 cells; every renaming of its atoms keeps its bounds.
 pub fn problem_of(alloc: Global, model: &ShortModel) -> Result<Problem, AllocError>
     requires { IsShort (short_of model.now) }
-    ensures problem { IfOk result (IsProblemOf (short_of model.now)) }
+    ensures problem { IfOk result (λ p. p ≡ problem_of (short_of model.now)) }
     ensures symmetric { IfOk result IsSymmetric }
     ensures few { IfOk result (λ p. length (cells_of p) ≤ 12) }
 {

@@ -5,15 +5,15 @@ use Rattle.tuple_core.specs.declared.atom.Atom.{Atom}
 use Rattle.tuple_core.specs.Swap.{swap_atoms}
 use Rattle.rel_formula.specs.Bounds.{Bounded, IsProblem, IsAtomOf, cells_of}
 use Rattle.rel_formula.specs.Instance.{IsScenario, HasCell, IsMinimalAbove}
-use Rattle.rel_formula.specs.Order.{IsEarlier, IsSettled}
-use Rattle.rel_formula.specs.Renaming.{IsRenaming, IsImage, IsSymmetric}
+use Rattle.rel_formula.specs.Renaming.{IsRenaming, IsImage, IsRenamingOf, IsSymmetric}
 use Rattle.rel_formula.proofs.Lists.{pairs_nil}
 use Rattle.rel_formula.proofs.Images.{has_image}
-use Rattle.rel_formula.proofs.Earlier.{compared, only_one}
 use Rattle.rel_formula.proofs.Renamed.{minimal_moved}
-use Rattle.swap_symmetry.specs.Swaps.{SwapIsEarlier}
-use Rattle.swap_symmetry.specs.DueRenamings.{HasDueRenaming}
-use Rattle.swap_symmetry.proofs.SwapLemmas.{laws_of, earlier_from, renames, settles}
+use Rattle.swap_symmetry.specs.Order.{IsEarlier}
+use Rattle.swap_symmetry.specs.Swaps.{SwapIsEarlier, IsSettled}
+use Rattle.swap_symmetry.specs.Due.{HasDueRenaming}
+use Rattle.swap_symmetry.proofs.Compared.{compared, only_one}
+use Rattle.swap_symmetry.proofs.SwapLemmas.{laws_of, earlier_from, renames, settled_beside_nothing}
 use Rattle.swap_symmetry.proofs.Tried.{same_or_not, tried_atoms}
 use Rattle.swap_symmetry.proofs.Weights.{descend}
 
@@ -29,14 +29,14 @@ pub record Improves (p : Bounded) (s : List ℕ) : Type 0 where
 
 module _ (p : Bounded) (well : IsProblem p) (symmetric : IsSymmetric p) (s : List ℕ) (scenario : IsScenario p s) where
   -- the swap of two atoms makes the scenario earlier, or it is not one of atoms of one signature that does
-  swap_tried : (a b : Atom) → IsAtomOf p a → IsAtomOf p b → Improves p s ⊎ (a.top ≡ b.top → SwapIsEarlier p a b s → ⊥)
+  swap_tried : (a b : Atom) → IsAtomOf p a → IsAtomOf p b → Improves p s ⊎ (a.top ≡ b.top → SwapIsEarlier p a b (Contains s) → ⊥)
   swap_tried a b first second = elim (same_or_not a.top b.top) [
     | inr other ↦ inr (λ e. absurd (other e))
     | inl one ↦
         let laws = laws_of a b one in
         let renaming = renames p well a b laws first second in
         let image = has_image p (swap_atoms a b) (swap_atoms a b) laws.back (symmetric (swap_atoms a b) (swap_atoms a b) renaming) s scenario.cells in
-        let from : SwapIsEarlier p a b s → IsEarlier image.0 s = (earlier_from p well a b laws s image.0 image.1 image.2).1 in
+        let from : SwapIsEarlier p a b (Contains s) → IsEarlier image.0 s = (earlier_from p well a b laws s image.0 image.1 image.2).1 in
         elim (compared image.0 s image.1.rising scenario.rising) [
           | inl same ↦ inr (λ e earlier. let h = from earlier in h.2 (subst (λ z. Contains z h.0) same h.1))
           | inr order ↦ elim order [
@@ -55,17 +55,17 @@ module _ (p : Bounded) (well : IsProblem p) (symmetric : IsSymmetric p) (s : Lis
   ]
 
   -- some swap makes the scenario earlier, or none of this atom with one of its signature does
-  atom_tried : (a : Atom) → IsAtomOf p a → Improves p s ⊎ ((b : Atom) → IsAtomOf p b → a.top ≡ b.top → SwapIsEarlier p a b s → ⊥)
-  atom_tried a first = elim (tried_atoms p (λ b. Improves p s) (λ b. a.top ≡ b.top → SwapIsEarlier p a b s → ⊥) (λ b second. swap_tried a b first second)) [
+  atom_tried : (a : Atom) → IsAtomOf p a → Improves p s ⊎ ((b : Atom) → IsAtomOf p b → a.top ≡ b.top → SwapIsEarlier p a b (Contains s) → ⊥)
+  atom_tried a first = elim (tried_atoms p (λ b. Improves p s) (λ b. a.top ≡ b.top → SwapIsEarlier p a b (Contains s) → ⊥) (λ b second. swap_tried a b first second)) [
     | inl found ↦ inl found.2
     | inr none ↦ inr none
   ]
 
   -- a scenario is settled, or a renaming makes it earlier
   pub settled_or_not : IsSettled p s ⊎ Improves p s
-  settled_or_not = elim (tried_atoms p (λ a. Improves p s) (λ a. (b : Atom) → IsAtomOf p b → a.top ≡ b.top → SwapIsEarlier p a b s → ⊥) atom_tried) [
+  settled_or_not = elim (tried_atoms p (λ a. Improves p s) (λ a. (b : Atom) → IsAtomOf p b → a.top ≡ b.top → SwapIsEarlier p a b (Contains s) → ⊥) atom_tried) [
     | inl found ↦ inr found.2
-    | inr none ↦ inl (settles p well symmetric s scenario.cells (λ a b next earlier. none a next.first b next.second next.one_top earlier))
+    | inr none ↦ inl (λ a b next earlier. none a next.first b next.second next.one_top earlier)
   ]
 
 -- to rename nothing is a renaming
@@ -121,32 +121,32 @@ module _ (p : Bounded) (well : IsProblem p) (symmetric : IsSymmetric p) where
 
   -- a renaming to what is due, after one to the earlier scenario
   renamed_on : (s : List ℕ) (i : Improves p s) → HasDueRenaming p i.next → HasDueRenaming p s
-  renamed_on s i h = record {
-    there = λ a. h.there (i.there a);
-    back = λ a. i.back (h.back a);
-    due = h.due;
-    renaming = renaming_then p i.there i.back h.there h.back i.renaming h.renaming;
-    image = image_then p i.there h.there s i.next h.due i.image h.image;
-    is_due = h.is_due;
-  }
+  renamed_on s i h =
+      let on : IsRenamingOf p i.next h.0 = h.1 in (
+        h.0,
+        record {
+          there = λ a. on.there (i.there a);
+          back = λ a. i.back (on.back a);
+          renaming = renaming_then p i.there i.back on.there on.back i.renaming on.renaming;
+          image = image_then p i.there on.there s i.next h.0 i.image on.image;
+        },
+        h.2,
+      )
 
   -- a settled minimal scenario is due itself
   already : (s : List ℕ) → IsMinimalAbove p [] s → IsSettled p s → HasDueRenaming p s
-  already s minimal settled = record {
-    there = λ a. a;
-    back = λ a. a;
-    due = s;
-    renaming = unrenamed p;
-    image = own_image p s;
-    is_due = record { minimal = minimal; settled = λ e. settled };
-  }
+  already s minimal settled = (
+    s,
+    record { there = λ a. a; back = λ a. a; renaming = unrenamed p; image = own_image p s },
+    record { minimal = minimal; settled = (settled_beside_nothing p s).0 settled },
+  )
 
   -- each minimal scenario of a symmetric problem has a renaming that is due at the empty floor
   pub due_renaming : (s : List ℕ) → IsMinimalAbove p [] s → HasDueRenaming p s
   due_renaming s minimal =
       descend (length (cells_of p)) (λ t. IsMinimalAbove p [] t → HasDueRenaming p t)
-      (λ t up all earlier is. elim (settled_or_not p well symmetric t is.scenario) [
+      (λ t up all earlier is. elim (settled_or_not p well symmetric t is.instance_of.scenario) [
         | inl settled ↦ already t is settled
         | inr i ↦ renamed_on t i (earlier i.next i.scenario.rising i.scenario.cells i.earlier (next_minimal t i is))
       ])
-      s minimal.scenario.rising minimal.scenario.cells minimal
+      s minimal.instance_of.scenario.rising minimal.instance_of.scenario.cells minimal

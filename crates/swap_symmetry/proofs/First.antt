@@ -1,10 +1,8 @@
 -- The first number at which two facts differ.
 use Rattle.std.proofs.Common.{◌≡◌, ℕ, ◌+◌, ◌<◌, ◌↔◌, inl, inr, Bool, true, false, IsTrue, refl, sym, subst, arith}
 use Rattle.std.proofs.lemmas.Bool.{cases_lt}
+use Rattle.swap_symmetry.specs.Order.{ComesBefore}
 use mathlib.Core.Bool.{not, beq}
-
-abbrev pub Differ : (ℕ → Type 0) → (ℕ → Type 0) → Type 0
-Differ P Q = (n : ℕ) × P n × (Q n → ⊥) × ((m : ℕ) → m < n → P m ↔ Q m)
 
 equal : (p q : Bool) → not (beq p q) ≡ false → p ≡ q
 equal true true e = refl
@@ -13,7 +11,7 @@ equal false true e = absurd (cc)
 equal false false e = refl
 
 module _ (P Q : ℕ → Type 0) where
-  pub here_or_not : (n : ℕ) (p q : Bool) → IsTrue p ↔ P n → IsTrue q ↔ Q n → not (beq p q) ≡ true → ((m : ℕ) → m < n → P m ↔ Q m) → IsTrue p ↔ Differ P Q
+  pub here_or_not : (n : ℕ) (p q : Bool) → IsTrue p ↔ P n → IsTrue q ↔ Q n → not (beq p q) ≡ true → ((m : ℕ) → m < n → P m ↔ Q m) → IsTrue p ↔ ComesBefore P Q
   here_or_not n true true f g differ below = absurd (cc)
   here_or_not n true false f g differ below = (λ e. (n, f.0 refl, λ h. absurd (let e : false ≡ true = g.1 h in cc), below), λ d. refl)
   here_or_not n false false f g differ below = absurd (cc)
@@ -38,5 +36,5 @@ module _ (P Q : ℕ → Type 0) where
             (λ h. g.0 (subst IsTrue same (f.1 h)), λ h. f.0 (subst IsTrue (sym same) (g.1 h)))
       ]
 
-  pub nowhere : (n : ℕ) → ((m : ℕ) → m < n → P m ↔ Q m) → ((m : ℕ) → P m → m < n) → Differ P Q → ⊥
+  pub nowhere : (n : ℕ) → ((m : ℕ) → m < n → P m ↔ Q m) → ((m : ℕ) → P m → m < n) → ComesBefore P Q → ⊥
   nowhere n below within d = d.2 ((below d.0 (within d.0 d.1)).0 d.1)

@@ -9,8 +9,8 @@ use Rattle.std.proofs.lemmas.List.{get_or_default}
 use Rattle.std.proofs.lemmas.List.Elements.{Contains-get_or}
 use Rattle.tuple_core.specs.declared.atom.Atom.{Atom}
 use Rattle.tuple_core.specs.Order.{atom_cmp, tuple_cmp, IsAscending}
-use Rattle.rel_formula.specs.Bounds.{Bounded, IsAtomOf, InUniverse}
-use Rattle.rel_formula.specs.Order.{AreNeighbours}
+use Rattle.rel_formula.specs.Bounds.{Bounded, IsAtomOf, InAtoms}
+use Rattle.swap_symmetry.specs.Swaps.{AreNeighbours}
 
 first_is : (x y : Atom) → x ∷ [] ≡ y ∷ [] → x ≡ y
 first_is x y e = cc
@@ -46,7 +46,7 @@ before_is a b e = elim (then_less (atom_cmp a b) (tuple_cmp [] []) e) [
   | inr f ↦ absurd (let g : tuple_cmp [] [] ≡ Less = f.1 in cc)
 ]
 
-module _ (p : Bounded) (rows : List (List Atom)) (up : IsAscending rows) (just : (t : List Atom) → Contains rows t ↔ InUniverse p t) where
+module _ (p : Bounded) (rows : List (List Atom)) (up : IsAscending rows) (just : (t : List Atom) → Contains rows t ↔ InAtoms p t) where
   -- the row of a place is that of an atom
   row_atom : (k : ℕ) (d : List Atom) → k < length rows → (a : Atom) × IsAtomOf p a × (get_or rows k d ≡ a ∷ [])
   row_atom k d l = (just (get_or rows k d)).0 (Contains-get_or rows k d l)

@@ -1,17 +1,17 @@
 -- What a swap does to a scenario, cell by cell and as a whole.
-use Rattle.std.proofs.Common.{◌≡◌, ℕ, ◌<◌, ◌↔◌, List, [], map, length, Contains, refl, sym, ◌∙◌, ap, subst, get_or, true, false, Bool, if◌then◌else◌}
+use Rattle.std.proofs.Common.{◌≡◌, ℕ, ◌<◌, ◌↔◌, List, [], map, length, Contains, refl, sym, ◌∙◌, ap, subst, arith, get_or, true, false, Bool, if◌then◌else◌}
 use Rattle.std.proofs.lemmas.List.Elements.{All-contains}
 use Rattle.tuple_core.specs.declared.atom.Atom.{Atom}
 use Rattle.tuple_core.specs.Swap.{swap_atoms, atom_eq}
 use Rattle.tuple_core.proofs.Atoms.{atom_eq-decides}
 use Rattle.rel_formula.specs.Bounds.{Bounded, IsProblem, IsAtomOf, cell_of, cells_of}
-use Rattle.rel_formula.specs.Instance.{AreCells, IsScenario, HasCell}
-use Rattle.rel_formula.specs.Order.{IsEarlier, AreNeighbours, IsSettled}
+use Rattle.rel_formula.specs.Instance.{AreCells, IsScenario, HasCell, StandsIn}
 use Rattle.rel_formula.specs.Renaming.{IsRenaming, IsImage, IsSymmetric}
 use Rattle.rel_formula.proofs.Lists.{get-Some}
 use Rattle.rel_formula.proofs.Open.{cell_once}
 use Rattle.rel_formula.proofs.Images.{map_undone, has_image}
-use Rattle.swap_symmetry.specs.Swaps.{IsTakenInto, SwapIsEarlier}
+use Rattle.swap_symmetry.specs.Order.{IsEarlier}
+use Rattle.swap_symmetry.specs.Swaps.{AreNeighbours, IsTakenInto, SwapIsEarlier, IsSettled, IsSettledBeside}
 
 -- what is known of a swap of two atoms
 pub record Laws (a b : Atom) : Type 0 where
@@ -80,7 +80,7 @@ laws_of a b e = record {
 
 module _ (p : Bounded) (well : IsProblem p) (a b : Atom) (laws : Laws a b) where
   -- a cell is in an image exactly where the swap takes it into the scenario
-  pub taken : (s t : List ℕ) → IsScenario p t → IsImage p (swap_atoms a b) s t → (n : ℕ) → Contains t n ↔ IsTakenInto p a b s n
+  pub taken : (s t : List ℕ) → IsScenario p t → IsImage p (swap_atoms a b) s t → (n : ℕ) → Contains t n ↔ IsTakenInto p a b (Contains s) n
   taken s t scenario image n = (
     λ c.
         let l = All-contains (λ k. k < length (cells_of p)) t n scenario.cells c in
@@ -96,7 +96,7 @@ module _ (p : Bounded) (well : IsProblem p) (a b : Atom) (laws : Laws a b) where
         subst (Contains t) (cell_once p at.0 n h.0 h.1 well at.2 h.2) at.1,
   )
 
-  pub earlier_from : (s t : List ℕ) → IsScenario p t → IsImage p (swap_atoms a b) s t → IsEarlier t s ↔ SwapIsEarlier p a b s
+  pub earlier_from : (s t : List ℕ) → IsScenario p t → IsImage p (swap_atoms a b) s t → IsEarlier t s ↔ SwapIsEarlier p a b (Contains s)
   earlier_from s t scenario image =
       let go = taken s t scenario image in (
         λ e. (e.0, (go e.0).0 e.1, e.2, λ m l. (λ h. (e.3 m l).0 ((go m).1 h), λ h. (go m).0 ((e.3 m l).1 h))),
@@ -120,16 +120,27 @@ module _ (p : Bounded) (well : IsProblem p) (a b : Atom) (laws : Laws a b) where
   }
 
 module _ (p : Bounded) (well : IsProblem p) (symmetric : IsSymmetric p) (s : List ℕ) (cells : AreCells p s) where
-  -- a swap that makes the scenario earlier shows that it isn't settled
-  pub unsettled : (a b : Atom) → AreNeighbours p a b → SwapIsEarlier p a b s → IsSettled p s → ⊥
-  unsettled a b next earlier settled =
-      let laws = laws_of a b next.one_top in
-      let renaming = renames p well a b laws next.first next.second in
-      let image = has_image p (swap_atoms a b) (swap_atoms a b) laws.back (symmetric (swap_atoms a b) (swap_atoms a b) renaming) s cells in
-      settled a b next image.0 image.1 image.2 ((earlier_from p well a b laws s image.0 image.1 image.2).1 earlier)
+  -- no image of the scenario under a swap of neighbours is earlier
+  abbrev NoImageIsEarlier : Type 0
+  NoImageIsEarlier = (a b : Atom) → AreNeighbours p a b → (t : List ℕ) → IsScenario p t → IsImage p (swap_atoms a b) s t → IsEarlier t s → ⊥
 
-  -- where no swap of neighbours makes it earlier, it is settled
-  pub settles : ((a b : Atom) → AreNeighbours p a b → SwapIsEarlier p a b s → ⊥) → IsSettled p s
-  settles none a b next t scenario image earlier =
-      let laws = laws_of a b next.one_top in
-      none a b next ((earlier_from p well a b laws s t scenario image).0 earlier)
+  pub settled_by_images : IsSettled p s ↔ NoImageIsEarlier
+  settled_by_images = (
+    λ settled a b next t scenario image earlier.
+        settled a b next ((earlier_from p well a b (laws_of a b next.one_top) s t scenario image).0 earlier),
+    λ none a b next earlier.
+        let laws = laws_of a b next.one_top in
+        let renaming = renames p well a b laws next.first next.second in
+        let image = has_image p (swap_atoms a b) (swap_atoms a b) laws.back (symmetric (swap_atoms a b) (swap_atoms a b) renaming) s cells in
+        none a b next image.0 image.1 image.2 ((earlier_from p well a b laws s image.0 image.1 image.2).1 earlier),
+  )
+
+-- no atom stands in the empty floor
+nowhere_stands : (p : Bounded) (a : Atom) → StandsIn p [] a → ⊥
+nowhere_stands p a h = let l = h.2.1.1 in omega arith
+
+pub settled_beside_nothing : (p : Bounded) (s : List ℕ) → IsSettled p s ↔ IsSettledBeside p [] s
+settled_beside_nothing p s = (
+  λ settled a b w earlier. settled a b w.0 earlier,
+  λ settled a b next earlier. settled a b (next, (nowhere_stands p a, nowhere_stands p b)) earlier,
+)

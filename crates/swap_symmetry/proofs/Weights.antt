@@ -1,11 +1,12 @@
 -- A weight of rising lists of numbers, which is more where the list is earlier, and induction along the order.
-use Rattle.std.proofs.Common.{◌≡◌, ℕ, zero, suc, ◌+◌, ◌-◌, ◌<◌, ◌≤◌, inl, inr, List, [], ◌∷◌, Contains, All, ap, subst, arith}
+use Rattle.std.proofs.Common.{◌≡◌, ℕ, zero, suc, ◌+◌, ◌-◌, ◌<◌, ◌≤◌, inl, inr, List, [], ◌∷◌, Contains, All, sym, ap, subst, arith}
 use Rattle.std.proofs.lemmas.Bool.{cases_lt}
-use Rattle.std.proofs.lemmas.List.Elements.{All-contains, All-cons, All-head, All-tail, All-weaker}
-use Rattle.rel_formula.specs.Order.{IsEarlier}
+use Rattle.std.proofs.lemmas.List.Elements.{All-cons, All-head, All-tail, All-weaker}
 use Rattle.rel_formula.proofs.Rising.{Rises}
 use Rattle.rel_formula.proofs.Lists.{pairs_head, pairs_tail}
 use Rattle.rel_formula.proofs.Open.{cons_cases, cons_first, cons_later}
+use Rattle.swap_symmetry.specs.Order.{IsEarlier}
+use Rattle.swap_symmetry.proofs.Compared.{least, not_again}
 
 -- each number is below the count
 abbrev pub AllBelow : ℕ → List ℕ → Type 0
@@ -48,17 +49,6 @@ bounded count xs up all =
     let h = light count 0 xs up all (λ k d l. omega arith) in
     subst (λ n. weight count xs < doubled n) (let e : count - 0 ≡ count = omega arith in e) h
 
--- the head is the least
-least : (x : ℕ) (xs : List ℕ) (n : ℕ) → Rises (x ∷ xs) → Contains (x ∷ xs) n → x ≤ n
-least x xs n up c = elim (cons_cases x xs n c) [
-  | inl e ↦ omega arith
-  | inr d ↦ let l = All-contains (λ k. x < k) xs n (pairs_head (λ m k. m < k) x xs up) d in omega arith
-]
-
--- the head stands once
-not_again : (x : ℕ) (xs : List ℕ) (n : ℕ) → Rises (x ∷ xs) → x ≡ n → Contains xs n → ⊥
-not_again x xs n up e c = let l = All-contains (λ k. x < k) xs n (pairs_head (λ m k. m < k) x xs up) c in omega arith
-
 -- a head that both lists have does not matter
 without_head : (x : ℕ) (xs ys : List ℕ) → Rises (x ∷ xs) → Rises (x ∷ ys) → IsEarlier (x ∷ xs) (x ∷ ys) → IsEarlier xs ys
 without_head x xs ys up vp e = elim (cons_cases x xs e.0 e.1) [
@@ -68,8 +58,8 @@ without_head x xs ys up vp e = elim (cons_cases x xs e.0 e.1) [
     d,
     λ c. e.2 (cons_later x ys e.0 c),
     λ m l. (
-      λ c. elim (cons_cases x ys m ((e.3 m l).0 (cons_later x xs m c))) [ inl same ↦ absurd (not_again x xs m up same c) | inr there ↦ there ],
-      λ c. elim (cons_cases x xs m ((e.3 m l).1 (cons_later x ys m c))) [ inl same ↦ absurd (not_again x ys m vp same c) | inr there ↦ there ],
+      λ c. elim (cons_cases x ys m ((e.3 m l).0 (cons_later x xs m c))) [ inl same ↦ absurd (not_again x xs up (subst (Contains xs) (sym same) c)) | inr there ↦ there ],
+      λ c. elim (cons_cases x xs m ((e.3 m l).1 (cons_later x ys m c))) [ inl same ↦ absurd (not_again x ys vp (subst (Contains ys) (sym same) c)) | inr there ↦ there ],
     ),
   )
 ]

@@ -1,2 +1,3 @@
+pub mod Order
 pub mod Swaps
-pub mod DueRenamings
+pub mod Due

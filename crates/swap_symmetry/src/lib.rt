@@ -2,8 +2,10 @@
 #![tactic(auto)]
 
 pub mod laws;
-pub mod order;
-pub mod settled;
+mod order;
+mod settled;
+#[cfg(test)]
+mod tests;
 
 pub use crate::order::earlier;
-pub use crate::settled::is_settled;
+pub use crate::settled::{is_settled, is_settled_beside};

@@ -1,14 +1,13 @@
 // The order of scenarios.
 ghost use Rattle.std.specs.Prelude.{◌↔◌, IsTrue};
 ghost use Rattle.rel_formula.specs.Instance.{AreCells};
-ghost use Rattle.rel_formula.specs.Order.{IsEarlier};
+ghost use Rattle.swap_symmetry.specs.Order.{IsEarlier};
 
 use rel_formula::{Problem, Scenario};
 
-/// Whether the first scenario has the first cell in which the two differ. Both are scenarios of the problem.
+/// Whether the first scenario has the first cell in which the two differ. The first is a scenario of the problem.
 pub fn earlier(problem: &Problem, first: &Scenario, second: &Scenario) -> bool
-    requires first_cells { AreCells problem.now first.now }
-    requires second_cells { AreCells problem.now second.now }
+    requires { AreCells problem.now first.now }
     ensures { IsTrue result ↔ IsEarlier first.now second.now }
 {
     for number in 0..problem.cells() {

@@ -1,36 +1,82 @@
 // Settled scenarios.
-ghost use Rattle.std.specs.Prelude.{◌↔◌, ◌<◌, length, IsTrue};
-ghost use Rattle.rel_formula.specs.Bounds.{cells_of};
-ghost use Rattle.rel_formula.specs.Instance.{AreCells};
-ghost use Rattle.rel_formula.specs.Order.{IsSettled};
-ghost use Rattle.rel_formula.specs.Renaming.{IsSymmetric};
-ghost use Rattle.swap_symmetry.specs.Swaps.{IsTakenInto, SwapIsEarlier};
+ghost use Rattle.std.specs.Prelude.{◌≡◌, ◌↔◌, ◌<◌, ℕ, List, length, slice_get, Some, Contains, IsTrue};
+ghost use Rattle.tuple_core.specs.declared.atom.Atom.{Atom as AtomRecord};
+ghost use Rattle.rel_formula.specs.Bounds.{cell_of, cells_of};
+ghost use Rattle.rel_formula.specs.Instance.{StandsIn};
+ghost use Rattle.swap_symmetry.specs.Swaps.{IsTakenInto, SwapIsEarlier, IsFreeOf, IsSettled, IsSettledBeside};
 
 use rel_formula::{Cell, Problem, Scenario};
 use tuple_core::Atom;
 
-/// Whether no swap of two neighbouring atoms of one top-level signature makes the scenario earlier. The problem is
-/// symmetric, and the scenario is one of its own.
+/// Whether no swap of two neighbouring atoms of one top-level signature makes the scenario earlier.
 pub fn is_settled(problem: &Problem, scenario: &Scenario) -> bool
-    requires symmetric { IsSymmetric problem.now }
-    requires cells { AreCells problem.now scenario.now }
     ensures { IsTrue result ↔ IsSettled problem.now scenario.now }
+{
+    is_settled_without(problem, &[], scenario)
+}
+
+/// Whether no swap of two neighbouring atoms that stand in no cell of the floor makes the scenario earlier.
+pub fn is_settled_beside(problem: &Problem, floor: &Scenario, scenario: &Scenario) -> bool
+    ensures { IsTrue result ↔ IsSettledBeside problem.now floor.now scenario.now }
+{
+    is_settled_without(problem, floor.numbers(), scenario)
+}
+
+// Whether no swap of neighbours that stand in none of these cells makes the scenario earlier.
+fn is_settled_without(problem: &Problem, floor: &[u32], scenario: &Scenario) -> bool
+    ensures { IsTrue result ↔ IsSettledBeside problem.now floor.now scenario.now }
 {
     let atoms = problem.atoms().rows();
     for place in 1..atoms.len() {
         let first = atoms[place - 1].first();
         let second = atoms[place].first();
-        if first.top == second.top && swap_is_earlier(problem, scenario, first, second) {
+        if first.top == second.top
+            && free_swap_is_earlier(problem, floor, scenario, first, second)
+        {
             return false;
         }
     }
     true
 }
 
+// Whether the swap leaves the floor alone and makes the scenario earlier.
+fn free_swap_is_earlier(
+    problem: &Problem,
+    floor: &[u32],
+    scenario: &Scenario,
+    first: Atom,
+    second: Atom,
+) -> bool
+    ensures { IsTrue result ↔ (IsFreeOf problem.now floor.now first second × SwapIsEarlier problem.now first second (Contains scenario.now)) }
+{
+    !stands_in(problem, floor, first)
+        && !stands_in(problem, floor, second)
+        && swap_is_earlier(problem, scenario, first, second)
+}
+
+// Whether the atom stands in one of these cells.
+fn stands_in(problem: &Problem, numbers: &[u32], atom: Atom) -> bool
+    ensures { IsTrue result ↔ StandsIn problem.now numbers.now atom }
+{
+    for number in numbers {
+        if cell_has(problem, *number, atom) {
+            return true;
+        }
+    }
+    false
+}
+
+// Whether there is a cell of this number, and the atom stands in it.
+fn cell_has(problem: &Problem, number: u32, atom: Atom) -> bool
+    ensures { IsTrue result ↔ ((r : ℕ) × (t : List AtomRecord) × (slice_get (cells_of problem.now) number ≡ Some (cell_of r t)) × Contains t atom) }
+{
+    let cells = problem.all_cells();
+    (number as usize) < cells.len() && cells[number as usize].tuple.atoms().contains(&atom)
+}
+
 // Whether the swap makes the scenario earlier.
 fn swap_is_earlier(problem: &Problem, scenario: &Scenario, first: Atom, second: Atom) -> bool
-    requires { AreCells problem.now scenario.now }
-    ensures { IsTrue result ↔ SwapIsEarlier problem.now first second scenario.now }
+    ensures { IsTrue result ↔ SwapIsEarlier problem.now first second (Contains scenario.now) }
 {
     for number in 0..problem.cells() {
         let here = is_taken_into(problem, scenario, first, second, number);
@@ -50,7 +96,7 @@ fn is_taken_into(
     number: u32,
 ) -> bool
     requires { number < length (cells_of problem.now) }
-    ensures { IsTrue result ↔ IsTakenInto problem.now first second scenario.now number }
+    ensures { IsTrue result ↔ IsTakenInto problem.now first second (Contains scenario.now) number }
 {
     let cell = problem.cell(number);
     let image = Cell {

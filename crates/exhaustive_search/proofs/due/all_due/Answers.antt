@@ -1,6 +1,6 @@
 use Rattle.std.proofs.Common.{◌≡◌, ◌≢◌, ◌+◌, ◌∙◌, ◌↔◌, ◌++◌, ◌∷◌, [], List, ℕ, length, Contains, AllPairs, ap, sym, subst, arith}
-use Rattle.rel_formula.specs.Order.{IsDue}
-use Rattle.exhaustive_search.specs.Subsets.{IsScenarioAndInstance}
+use Rattle.rel_formula.specs.Instance.{IsInstance}
+use Rattle.swap_symmetry.specs.Due.{IsDue}
 use Rattle.exhaustive_search.proofs.Sifted.{Sifted, sifted_none, sifted_yes, sifted_no, sifted_all}
 use Rattle.exhaustive_search.proofs.due.all_due.Goals.{then-is_due+in_ok-copy+in_ok-push, else-is_due}
 use Rattle.exhaustive_search.proofs.due.all_due.Goals as goal
@@ -11,8 +11,7 @@ is_due-requires c =
     let x : List ℕ = c.scenario-item.result in
     let there : Contains c.deref-scenario-items.result.now x = (i, c.loop-scenario-test.true, sym c.scenario-item.is) in
     record {
-      symmetric = c.requires.symmetric;
-      instances = subst (λ (ys : List (List ℕ)). (s : List ℕ) → Contains ys s ↔ IsScenarioAndInstance c.args.problem.now s) (sym c.deref.ensures.value) c.in_ok-instances.ensures.all;
+      instances = subst (λ (ys : List (List ℕ)). (s : List ℕ) → Contains ys s ↔ IsInstance c.args.problem.now s) (sym c.deref.ensures.value) c.in_ok-instances.ensures.all;
       one = (c.in_ok-instances.ensures.all x).0 (subst (λ (ys : List (List ℕ)). Contains ys x) c.deref-scenario-items.ensures.value there);
     }
 
@@ -48,7 +47,7 @@ returns c =
       all = λ s. (
         λ h. ((all s).0 h).1,
         λ due.
-            let there = (c.in_ok-instances.ensures.all s).1 (record { scenario = due.minimal.scenario; instance_of = due.minimal.instance_of }) in
+            let there = (c.in_ok-instances.ensures.all s).1 due.minimal.instance_of in
             (all s).1 (subst (λ (ys : List (List ℕ)). Contains ys s) (sym c.deref-scenario-items.ensures.value) there, due),
       );
       once = c.loop-scenario.invariant.once;

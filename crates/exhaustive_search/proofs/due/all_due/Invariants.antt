@@ -1,5 +1,5 @@
 use Rattle.std.proofs.Common.{[]}
-use Rattle.rel_formula.specs.Order.{IsDue}
+use Rattle.swap_symmetry.specs.Due.{IsDue}
 use Rattle.exhaustive_search.proofs.Sifted.{Sifted}
 use Rattle.exhaustive_search.proofs.due.all_due.Given as goal
 

@@ -1,6 +1,6 @@
 use Rattle.std.proofs.Common.{◌≡◌, ◌≢◌, ◌<◌, ◌+◌, ◌∙◌, ◌++◌, ◌∷◌, [], List, ℕ, length, Contains, AllPairs, All, ap, sym, subst, arith}
 use Rattle.rel_formula.specs.Instance.{IsInstance}
-use Rattle.exhaustive_search.specs.Subsets.{IsSubset}
+use Rattle.exhaustive_search.specs.Subsets.{IsRisingBelow}
 use Rattle.exhaustive_search.proofs.Sifted.{Sifted, sifted_none, sifted_yes, sifted_no, sifted_all}
 use Rattle.exhaustive_search.proofs.instances.all_instances.Goals.{then-branch+in_ok-copy+in_ok-push, else-branch}
 use Rattle.exhaustive_search.proofs.instances.all_instances.Goals as goal
@@ -47,11 +47,10 @@ returns c =
       all = λ s. (
         λ h.
             let g = (all s).0 h in
-            let is = (c.in_ok-sets.ensures.all s).0 (subst (λ (ys : List (List ℕ)). Contains ys s) same g.0) in
-            record { scenario = record { cells = subst (λ n. All (λ k. k < n) s) c.cells.ensures.value is.below; rising = is.rising }; instance_of = g.1 },
+            g.1,
         λ is.
-            let sub : IsSubset c.cells.result s = record { below = subst (λ n. All (λ k. k < n) s) (sym c.cells.ensures.value) is.scenario.cells; rising = is.scenario.rising } in
-            (all s).1 (subst (λ (ys : List (List ℕ)). Contains ys s) (sym same) ((c.in_ok-sets.ensures.all s).1 sub), is.instance_of),
+            let sub : IsRisingBelow c.cells.result s = record { below = subst (λ n. All (λ k. k < n) s) (sym c.cells.ensures.value) is.scenario.cells; rising = is.scenario.rising } in
+            (all s).1 (subst (λ (ys : List (List ℕ)). Contains ys s) (sym same) ((c.in_ok-sets.ensures.all s).1 sub), is),
       );
       once = c.loop-scenario.invariant.once;
       few = let h = c.loop-scenario.invariant.short in let g = c.loop-scenario.auto.scenario-index-end in let e = ap length c.deref-scenario-items.ensures.value in let f = c.in_ok-sets.ensures.few in omega arith;

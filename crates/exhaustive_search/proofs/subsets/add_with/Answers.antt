@@ -1,6 +1,6 @@
 use Rattle.std.proofs.Common.{◌≡◌, ◌<◌, ◌≤◌, ◌++◌, ◌∷◌, [], ◌∙◌, ℕ, List, map, take, length, get_or, ap, sym, subst, arith}
 use Rattle.std.proofs.lemmas.List.{take_all}
-use Rattle.exhaustive_search.specs.Subsets.{IsSubset}
+use Rattle.exhaustive_search.specs.Subsets.{IsRisingBelow}
 use Rattle.exhaustive_search.proofs.SubsetLemmas.{with, front_of, with_more}
 use Rattle.exhaustive_search.proofs.subsets.add_with.Goals as goal
 
@@ -10,7 +10,7 @@ with_cell-requires c =
     let i = c.loop-place.place in
     let long = c.args.sets.now.ok in
     let l : i < length old = let h = c.loop-place-test.true in let e = c.len-before.ensures in omega arith in
-    subst (IsSubset c.args.number) (sym (c.index.ensures ∙ front_of old (map (with c.args.number) (take i old)) c.loop-place.sets.items i c.index.result.now c.loop-place.invariant l)) (c.requires i c.index.result.now l)
+    subst (IsRisingBelow c.args.number) (sym (c.index.ensures ∙ front_of old (map (with c.args.number) (take i old)) c.loop-place.sets.items i c.index.result.now c.loop-place.invariant l)) (c.requires i c.index.result.now l)
 
 pub loop-place-preserved : goal.loop-place-preserved
 loop-place-preserved c =

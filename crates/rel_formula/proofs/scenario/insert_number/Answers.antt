@@ -1,6 +1,8 @@
-use Rattle.std.proofs.Common.{◌≡◌, ◌<◌, ◌≤◌, ◌↔◌, ◌⊎◌, ℕ, List, length, get_or, Contains, refl, sym, subst, Err}
+use Rattle.std.proofs.Common.{◌<◌, ◌≤◌, ◌∙◌, ℕ, List, length, get_or, Contains, refl, sym, subst, Ok, Err}
+use Rattle.std.proofs.lemmas.List.{get_or_default}
 use Rattle.std.proofs.lemmas.List.Sorted.{searched}
 use Rattle.rel_formula.proofs.Rising.{Rises, never_fall, absent, still_rises, insert_contains}
+use Rattle.rel_formula.proofs.WithCell.{with_cell_is, with_cell_there}
 use Rattle.rel_formula.proofs.scenario.insert_number.Goals as goal
 
 -- where the number goes
@@ -16,14 +18,27 @@ place c =
     let found = searched S c.args.number (Err c.in-Err.place) c.in-Err.ensures.position (never_fall S up) in
     subst (λ xs. Place xs c.args.number c.in-Err.place) c.deref.ensures.value (record { within = found.0; below = found.1; above = found.2 })
 
+-- a number that the search finds is there
+pub returns-in-Ok-clause-value : goal.returns-in-Ok-clause-value
+returns-in-Ok-clause-value c =
+    let xs = c.args.numbers.now.items in
+    let S = c.deref.result.now in
+    let up : Rises S = subst Rises (sym c.deref.ensures.value) c.requires in
+    let found = searched S c.args.number (Ok c.in-Ok.field-0) c.in-Ok.ensures.position (never_fall S up) in
+    let has : Contains S c.args.number = (c.in-Ok.field-0, found.0, sym (get_or_default S c.in-Ok.field-0 0 c.args.number found.0) ∙ found.1) in
+    with_cell_there c.args.number xs c.requires (subst (λ ys. Contains ys c.args.number) c.deref.ensures.value has)
+
 pub returns-in_ok-insert-in-Err-clause-rising : goal.returns-in_ok-insert-in-Err-clause-rising
 returns-in_ok-insert-in-Err-clause-rising c =
     let p = place c in
     subst Rises (sym c.in_ok-insert-in-Err.ensures.items) (still_rises c.args.numbers.now.items c.args.number c.in-Err.place c.requires p.within p.below p.above)
 
-pub returns-in_ok-insert-in-Err-clause-cells : goal.returns-in_ok-insert-in-Err-clause-cells
-returns-in_ok-insert-in-Err-clause-cells c = λ n.
-    subst (λ xs. Contains xs n ↔ (Contains c.args.numbers.now.items n ⊎ (n ≡ c.args.number))) (sym c.in_ok-insert-in-Err.ensures.items) (insert_contains c.args.numbers.now.items c.in-Err.place c.args.number n)
+pub returns-in_ok-insert-in-Err-clause-value : goal.returns-in_ok-insert-in-Err-clause-value
+returns-in_ok-insert-in-Err-clause-value c =
+    let p = place c in
+    let xs = c.args.numbers.now.items in
+    c.in_ok-insert-in-Err.ensures.items
+    ∙ with_cell_is c.args.number xs _ c.requires (still_rises xs c.args.number c.in-Err.place c.requires p.within p.below p.above) (insert_contains xs c.in-Err.place c.args.number)
 
 pub returns-in_ok-insert-in-Err-clause-new : goal.returns-in_ok-insert-in-Err-clause-new
 returns-in_ok-insert-in-Err-clause-new c =

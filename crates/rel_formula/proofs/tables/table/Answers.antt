@@ -1,4 +1,4 @@
-use Rattle.std.proofs.Common.{◌≡◌, ◌+◌, take, Some, slice_get, length, get_or, List, ℕ, refl, subst, sym, ap, ◌∙◌, arith, Contains, ◌↔◌, ◌⊎◌}
+use Rattle.std.proofs.Common.{◌≡◌, ◌+◌, take, Some, slice_get, get_or, List, ℕ, refl, subst, sym, ap, ◌∙◌, arith, Contains, ◌↔◌, ◌⊎◌}
 use Rattle.std.proofs.lemmas.List.{get_or_default}
 use Rattle.tuple_core.specs.declared.atom.Atom.{Atom}
 use Rattle.tuple_core.specs.Gains.{SomeGives}
@@ -14,9 +14,9 @@ use Rattle.rel_formula.proofs.tables.table.Goals as goal
 pub insert-requires : goal.insert-requires
 insert-requires c =
     let n = get_or c.numbers-chosen-items.result.now c.loop-chosen.chosen-index 0 in
-    let x = c.cell-cell.result.now in
+    let x = c.cell-cell.result in
     let at : slice_get (cells_of c.args.problem.now) n ≡ Some (cell_of c.args.number x.tuple) = c.cell-cell.ensures ∙ ap (λ r. Some (cell_of r x.tuple)) c.if-cell-number.true in
-    ap length c.copy-then-cell-number.ensures ∙ cell_arity c.args.problem.now n c.args.number x.tuple c.requires.well at
+    cell_arity c.args.problem.now n c.args.number x.tuple c.requires.well at
     ∙ ap (λ (r : Relation). r.lower.arity) (sym c.requires.relation) ∙ sym c.loop-chosen.invariant.arity
 
 pub loop-chosen-preserved : goal.loop-chosen-preserved
@@ -25,7 +25,7 @@ loop-chosen-preserved c =
     let xs = c.numbers-chosen-items.result.now in
     let i = c.loop-chosen.chosen-index in
     let n = get_or xs i 0 in
-    let x = c.cell-cell.result.now in
+    let x = c.cell-cell.result in
     let R : ℕ → Pred = λ k t. slice_get (cells_of p) k ≡ Some (cell_of c.args.number t) in
     let at : n ≡ get_or xs i n = get_or_default xs i 0 n c.loop-chosen-test.true in
     let G : Rows → Type 0 = λ s. SetGains c.args.relation.now.lower s (SomeGives (take (i + 1) xs) R) in
@@ -33,7 +33,7 @@ loop-chosen-preserved c =
       | then-cell-number+in_ok-insert w ↦ subst G (sym w.set-is)
           (set_more xs i n R c.args.relation.now.lower c.loop-chosen.set w.insert.new.self c.loop-chosen-test.true at c.loop-chosen.invariant
           (set_same c.loop-chosen.set w.insert.new.self (λ t. t ≡ x.tuple) (R n) (cell_gives p n c.args.number x c.cell-cell.ensures w.if-cell-number.true)
-          (subst (λ (u : List Atom). SetGains c.loop-chosen.set w.insert.new.self (λ t. t ≡ u)) w.copy-then-cell-number.ensures w.in_ok-insert.ensures.gains)))
+          w.in_ok-insert.ensures.gains))
       | else-cell-number w ↦ subst G (sym w.set-is)
           (set_skip xs i n R c.args.relation.now.lower c.loop-chosen.set c.loop-chosen-test.true at c.loop-chosen.invariant
           (cell_gives_none p n c.args.number x c.cell-cell.ensures w.if-cell-number.false))

@@ -1,7 +1,8 @@
-use Rattle.std.proofs.Common.{take}
-use Rattle.std.specs.List.{AllZip}
-use Rattle.short_models.specs.Problem.{Says}
+use Rattle.std.proofs.Common.{◌≡◌, map, take}
+use Rattle.rel_formula.specs.View.{formula_tree}
+use Rattle.short_models.specs.declared.model.Count.{Count}
+use Rattle.short_models.specs.Problem.{count_formula}
 use Rattle.short_models.proofs.kernel.block_of.Given as goal
 
 abbrev pub invariant-loop-count : goal.invariant-loop-count
-invariant-loop-count l = AllZip (λ c g. Says c.multiplicity c.signature g) (take l.count-index l.counts) l.formulas.items
+invariant-loop-count l = map formula_tree l.formulas.items ≡ map (λ (c : Count). count_formula c.multiplicity c.signature) (take l.count-index l.counts)

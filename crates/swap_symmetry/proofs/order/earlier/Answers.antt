@@ -16,5 +16,5 @@ pub returns : goal.returns
 returns c = (
   λ e. absurd (let h : false ≡ true = e in cc),
   λ d. absurd (nowhere (Contains c.args.first.now) (Contains c.args.second.now) c.loop-number.number c.loop-number.invariant
-      (λ m has. let l = All-contains (λ n. n < length (cells_of c.args.problem.now)) c.args.first.now m c.requires.first_cells has in let v = c.cells-number-end.ensures.value in omega arith) d),
+      (λ m has. let l = All-contains (λ n. n < length (cells_of c.args.problem.now)) c.args.first.now m c.requires has in let v = c.cells-number-end.ensures.value in omega arith) d),
 )

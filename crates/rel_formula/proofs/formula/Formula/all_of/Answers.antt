@@ -1,0 +1,5 @@
+use Rattle.rel_formula.proofs.Parts.{And-tree}
+use Rattle.rel_formula.proofs.formula.Formula.all_of.Goals as goal
+
+pub returns : goal.returns
+returns c = And-tree c.args.parts

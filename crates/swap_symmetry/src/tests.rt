@@ -1,0 +1,171 @@
+// That the order and the settled scenarios are those of the field: a problem worked out by hand.
+ghost use Rattle.std.specs.Prelude.{◌≡◌, ◌<◌, All, IfOk};
+ghost use Rattle.rel_formula.specs.Instance.{AreCells};
+
+use crate::order::earlier;
+use crate::settled::{is_settled, is_settled_beside};
+use rel_formula::{Expression, Formula, Problem, Relation, Scenario};
+use std::alloc::{AllocError, Global};
+use std::process::Abort;
+use std::test::Fail;
+use tuple_core::{Atom, Name, Tuple, TupleSet};
+
+// The atom at this place of the first signature.
+fn at(place: u16) -> Atom
+    ensures { result.top ≡ 0 }
+{
+    Atom { top: 0, place }
+}
+
+// The set of the atoms at these places.
+fn atoms(alloc: Global, places: &[u16]) -> Result<TupleSet, AllocError>
+    ensures arity { IfOk result (λ s. s.arity ≡ 1) }
+    ensures tops { IfOk result (λ s. All (All (λ a. a.top < 1)) s.rows) }
+{
+    let mut set = TupleSet::new(alloc, 1);
+    for place in places {
+        set.insert(Tuple::single(at(*place)))?;
+    }
+    Ok(set)
+}
+
+// All pairs of atoms of a set.
+fn pairs(alloc: Global, set: &TupleSet) -> Result<TupleSet, AllocError>
+    requires arity { set.now.arity ≡ 1 }
+    requires tops { All (All (λ a. a.top < 1)) set.now.rows }
+    ensures arity { IfOk result (λ s. s.arity ≡ 2) }
+    ensures tops { IfOk result (λ s. All (All (λ a. a.top < 1)) s.rows) }
+{
+    Ok(set.product(alloc, set)?)
+}
+
+// The atoms at these places, all of which are there, and any arrows among them.
+fn arrows_among(rt: &impl Abort, alloc: Global, places: &[u16]) -> Result<Problem, AllocError> {
+    let lower = atoms(alloc, places)?;
+    let upper = lower.copy(alloc)?;
+    let none = TupleSet::new(alloc, 2);
+    let all = pairs(alloc, &upper)?;
+    assert!(rt; lower.is_subset(&upper));
+    assert!(rt; upper.len() <= 64);
+    assert!(rt; all.len() <= 4032);
+    let fixed = Relation {
+        name: Name::of(alloc, "A")?,
+        lower,
+        upper,
+    };
+    let open = Relation {
+        name: Name::of(alloc, "next")?,
+        lower: none,
+        upper: all,
+    };
+    let relations = vec![in alloc; fixed, open]?;
+    let tops = vec![in alloc; 0]?;
+    Problem::of(
+        alloc,
+        relations,
+        tops,
+        Formula::AtLeast(2, Expression::Rel(1)),
+    )
+}
+
+// The scenario of those of these numbers that cells of the problem have.
+fn chosen(alloc: Global, problem: &Problem, numbers: &[u32]) -> Result<Scenario, AllocError>
+    ensures { IfOk result (λ s. AreCells problem.now s) }
+{
+    let mut scenario = Scenario::new(alloc);
+    for number in numbers {
+        if *number < problem.cells() {
+            scenario.insert(*number)?;
+        }
+    }
+    Ok(scenario)
+}
+
+// Whether the scenario of these numbers is settled.
+fn settled(alloc: Global, problem: &Problem, numbers: &[u32]) -> Result<bool, AllocError> {
+    let scenario = chosen(alloc, problem, numbers)?;
+    Ok(is_settled(problem, &scenario))
+}
+
+// Whether the second scenario is settled beside the first.
+fn settled_beside(
+    alloc: Global,
+    problem: &Problem,
+    floor: &[u32],
+    numbers: &[u32],
+) -> Result<bool, AllocError> {
+    let floor = chosen(alloc, problem, floor)?;
+    let scenario = chosen(alloc, problem, numbers)?;
+    Ok(is_settled_beside(problem, &floor, &scenario))
+}
+
+// Whether the first scenario is earlier.
+fn is_earlier(
+    alloc: Global,
+    problem: &Problem,
+    first: &[u32],
+    second: &[u32],
+) -> Result<bool, AllocError> {
+    let first = chosen(alloc, problem, first)?;
+    let second = chosen(alloc, problem, second)?;
+    Ok(earlier(problem, &first, &second))
+}
+
+// Whether each of these scenarios is settled or none is, as is wanted.
+fn each_is(
+    alloc: Global,
+    problem: &Problem,
+    sets: &[[u32; 2]],
+    wanted: bool,
+) -> Result<bool, AllocError> {
+    for numbers in sets {
+        if settled(alloc, problem, numbers)? != wanted {
+            return Ok(false);
+        }
+    }
+    Ok(true)
+}
+
+// Three atoms in a row: of the six ways to put them, two are settled.
+#[test]
+fn rows_of_three(rt: HostRuntime) -> Result<(), Fail> {
+    let alloc = rt.alloc();
+    let problem = arrows_among(&rt, alloc, &[0, 1, 2])?;
+    assert_eq!(rt; problem.cells(), 9);
+    assert!(rt; each_is(alloc, &problem, &[[1, 5], [1, 6]], true)?);
+    assert!(rt; each_is(alloc, &problem, &[[2, 3], [2, 7], [3, 7], [5, 6]], false)?);
+    Ok(())
+}
+
+// The atom at place 2 is the neighbour of that at place 5: between them there is no other.
+#[test]
+fn neighbours_with_a_gap(rt: HostRuntime) -> Result<(), Fail> {
+    let alloc = rt.alloc();
+    let problem = arrows_among(&rt, alloc, &[2, 5])?;
+    assert!(rt; each_is(alloc, &problem, &[[0, 0], [1, 1], [0, 3]], true)?);
+    assert!(rt; each_is(alloc, &problem, &[[2, 2], [3, 3]], false)?);
+    Ok(())
+}
+
+// Beside a floor only atoms that stand in none of its cells are swapped.
+#[test]
+fn beside_a_floor(rt: HostRuntime) -> Result<(), Fail> {
+    let alloc = rt.alloc();
+    let problem = arrows_among(&rt, alloc, &[0, 1, 2])?;
+    assert!(rt; !settled_beside(alloc, &problem, &[8], &[8, 4])?);
+    assert!(rt; settled_beside(alloc, &problem, &[8], &[8, 0])?);
+    assert!(rt; settled_beside(alloc, &problem, &[4], &[4, 8])?);
+    assert!(rt; !settled_beside(alloc, &problem, &[0], &[0, 8])?);
+    Ok(())
+}
+
+#[test]
+fn order(rt: HostRuntime) -> Result<(), Fail> {
+    let alloc = rt.alloc();
+    let problem = arrows_among(&rt, alloc, &[0, 1, 2])?;
+    assert!(rt; is_earlier(alloc, &problem, &[1, 5], &[1, 6])?);
+    assert!(rt; !is_earlier(alloc, &problem, &[1, 6], &[1, 5])?);
+    assert!(rt; !is_earlier(alloc, &problem, &[1, 6], &[1, 6])?);
+    assert!(rt; is_earlier(alloc, &problem, &[1, 6], &[1])?);
+    Ok(())
+}
