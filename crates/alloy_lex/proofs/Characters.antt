@@ -9,7 +9,7 @@ use Rattle.alloy_lex.specs.declared.lexing.Spot.{Spot}
 use Rattle.alloy_lex.specs.Tokens.{is_continuation, next_column, after_byte, after_bytes, passed, origin, tokens_of}
 use Rattle.alloy_lex.specs.Reading.{Reads, after_character, place_after, ArePlaced}
 use Rattle.alloy_lex.proofs.Readings.{tokens_read, after_append, after_none}
-use Rattle.alloy_lex.proofs.Slices.{take_front}
+use Rattle.alloy_lex.proofs.Paths.{take_front}
 
 no_line_feed : (b : ℕ) → 128 ≤ b → (b == 10) ≡ false
 no_line_feed b le = grind arith

@@ -1,7 +1,7 @@
 -- What a text reads as are its tokens: a reading is unique.
 use Rattle.std.proofs.Common.{◌≡◌, ℕ, zero, suc, ◌+◌, ◌≤◌, ◌<◌, Bool, true, false, cond, List, [], ◌∷◌, ◌++◌, length, take, drop, get_or, Option, Some, None, option_to_list, Result, Ok, refl, sym, ap, subst, ◌∙◌, append_assoc, arith}
 use Rattle.std.specs.Prelude.{codes, nat_eq, nat_le, ◌==◌, ◌&&◌, not, option_map}
-use Rattle.std.specs.List.{list_all, starts_with, prefix_len}
+use Rattle.std.specs.List.{starts_with, prefix_len}
 use Rattle.std.proofs.lemmas.List.{append-nil, length-append}
 use Rattle.std.proofs.lemmas.Slice.Eq.{bytes_eq-Decides}
 use Rattle.alloy_lex.specs.declared.token.Place.{Place}
@@ -13,27 +13,14 @@ use Rattle.alloy_lex.specs.declared.front.Front.{Front}
 use Rattle.alloy_lex.specs.declared.front.Front.TheVariants as front
 use Rattle.alloy_lex.specs.declared.lexing.Spot.{Spot}
 use Rattle.alloy_lex.specs.Words.{is_word, symbols, longest_front, symbol_len}
-use Rattle.alloy_lex.specs.Fronts.{is_space, is_letter, is_digit, is_name_byte, is_in_line, comment_len, number_from, name_front, number_front, symbol_front, front_of}
+use Rattle.alloy_lex.specs.Fronts.{is_space, is_letter, is_digit, is_name_byte, is_in_line, comment_len, number_from, slash, second_len, path_front, name_front, number_front, symbol_front, front_of}
 use Rattle.alloy_lex.specs.Tokens.{Step, passed, token_at, step_at, step_of, tokens_from, origin, tokens_of}
-use Rattle.alloy_lex.specs.Reading.{Ends, IsRun, IsClosed, Separates, nothing, space, slashes, dashes, block, IsToken, IsSymbol, IsLongest, Reads}
+use Rattle.alloy_lex.specs.Reading.{IsRun, IsClosed, Separates, nothing, space, slashes, dashes, block, IsName, NoSecond, IsPath, IsToken, IsSymbol, IsLongest, Reads}
 use Rattle.alloy_lex.proofs.Fronts.{one_passes, longest_found}
 use Rattle.alloy_lex.proofs.Found.{is_longest, pair_is, no_and, turned}
 use Rattle.alloy_lex.proofs.Readings.{passed_append, passed_none}
-use Rattle.alloy_lex.proofs.Slices.{take_front, drop_front, has_byte}
-
--- ---- how long a run is
-
-run_len_step : (p : ℕ → Bool) (t : Bool) (b n m : ℕ) (rest : Bool) → p b ≡ t → (t && rest) ≡ true → (rest ≡ true → n ≡ m) → cond t (1 + n) 0 ≡ suc m
-run_len_step p true b n m rest e all more = let same = more all in omega arith
-run_len_step p false b n m rest e all more = absurd cc
-
-run_none : (p : ℕ → Bool) (rest : List ℕ) → Ends p rest → prefix_len p rest ≡ 0
-run_none p [] ends = refl
-run_none p (b ∷ bs) ends = rw ends refl
-
-run_len : (p : ℕ → Bool) (text rest : List ℕ) → list_all p text ≡ true → Ends p rest → prefix_len p (text ++ rest) ≡ length text
-run_len p [] rest all ends = run_none p rest ends
-run_len p (b ∷ bs) rest all ends = run_len_step p (p b) b (prefix_len p (bs ++ rest)) (length bs) (list_all p bs) refl all (λ e. run_len p bs rest e ends)
+use Rattle.alloy_lex.proofs.Paths.{take_front, drop_front, run_len, second_back, no_length}
+use Rattle.alloy_lex.proofs.Slices.{has_byte}
 
 -- ---- how long a comment is
 
@@ -74,19 +61,19 @@ closed_len (b ∷ c ∷ bs) rest closed = closed_len_step (b == 42 && c == 47) b
 two_more : (n : ℕ) → n + 2 ≡ suc (suc n)
 two_more n = omega arith
 
-space_front : (b : ℕ) (rest : List ℕ) → is_space b ≡ true → front_of (b ∷ rest) ≡ front.Blank 1
+pub space_front : (b : ℕ) (rest : List ℕ) → is_space b ≡ true → front_of (b ∷ rest) ≡ front.Blank 1
 unfolding front_of
 space_front b rest e = rw e refl
 
-slashes_front : (body rest : List ℕ) → IsRun is_in_line body rest → front_of (47 ∷ 47 ∷ (body ++ rest)) ≡ front.Blank (suc (suc (length body)))
+pub slashes_front : (body rest : List ℕ) → IsRun is_in_line body rest → front_of (47 ∷ 47 ∷ (body ++ rest)) ≡ front.Blank (suc (suc (length body)))
 unfolding front_of
 slashes_front body rest run = rw (run_len is_in_line body rest run.0 run.1) (ap (λ (n : ℕ). front.Blank n) (two_more (length body)))
 
-dashes_front : (body rest : List ℕ) → IsRun is_in_line body rest → front_of (45 ∷ 45 ∷ (body ++ rest)) ≡ front.Blank (suc (suc (length body)))
+pub dashes_front : (body rest : List ℕ) → IsRun is_in_line body rest → front_of (45 ∷ 45 ∷ (body ++ rest)) ≡ front.Blank (suc (suc (length body)))
 unfolding front_of
 dashes_front body rest run = rw (run_len is_in_line body rest run.0 run.1) (ap (λ (n : ℕ). front.Blank n) (two_more (length body)))
 
-block_front : (body rest : List ℕ) → IsClosed body → front_of (47 ∷ 42 ∷ (body ++ rest)) ≡ front.Blank (suc (suc (length body)))
+pub block_front : (body rest : List ℕ) → IsClosed body → front_of (47 ∷ 42 ∷ (body ++ rest)) ≡ front.Blank (suc (suc (length body)))
 unfolding front_of
 block_front body rest closed = rw (closed_len body rest closed) (ap (λ (n : ℕ). front.Blank n) (two_more (length body)))
 
@@ -102,20 +89,41 @@ name_here : (a : ℕ) (bs : List ℕ) → is_letter a ≡ true → front_of (a �
 unfolding front_of
 name_here a bs e = let t = letter_tests a e in rw (t.0, t.1, t.2, e) refl
 
-number_here : (a : ℕ) (bs : List ℕ) → is_digit a ≡ true → front_of (a ∷ bs) ≡ number_front (a ∷ bs) (prefix_len is_digit (a ∷ bs))
+pub number_here : (a : ℕ) (bs : List ℕ) → is_digit a ≡ true → front_of (a ∷ bs) ≡ number_front (a ∷ bs) (prefix_len is_digit (a ∷ bs))
 unfolding front_of
 number_here a bs e = let t = digit_tests a e in rw (t.0, t.1, t.2, t.3, e) refl
 
-abbrev word_or_name : Bool → ℕ → Front
-word_or_name t n = front.Token (cond t kind.Word kind.Name) n
+abbrev named_front : Bool → ℕ → ℕ → Front
+named_front word n more = cond word (front.Token kind.Word n) (path_front n more)
 
-name_back : (t : Bool) (text rest : List ℕ) → is_word text ≡ t → is_letter (get_or text 0 0) ≡ true → IsRun is_name_byte text rest → front_of (text ++ rest) ≡ word_or_name t (length text)
-name_back t [] rest word letter run = absurd cc
-name_back t (a ∷ bs) rest word letter run =
+-- a run at the front, whatever stands behind it
+run_back : (t : Bool) (text rest : List ℕ) → is_word text ≡ t → is_letter (get_or text 0 0) ≡ true → IsRun is_name_byte text rest → front_of (text ++ rest) ≡ named_front t (length text) (second_len rest)
+run_back t [] rest word letter run = absurd cc
+run_back t (a ∷ bs) rest word letter run =
     name_here a (bs ++ rest) letter
     ∙ ap (λ (n : ℕ). name_front (a ∷ bs ++ rest) n) (run_len is_name_byte (a ∷ bs) rest run.0 run.1)
-    ∙ ap (λ (xs : List ℕ). word_or_name (is_word xs) (length (a ∷ bs))) (take_front (a ∷ bs) rest)
-    ∙ ap (λ (b : Bool). word_or_name b (length (a ∷ bs))) word
+    ∙ ap (λ (xs : List ℕ). named_front (is_word xs) (length (a ∷ bs)) (second_len (drop (length (a ∷ bs)) (a ∷ bs ++ rest)))) (take_front (a ∷ bs) rest)
+    ∙ ap (λ (xs : List ℕ). named_front (is_word (a ∷ bs)) (length (a ∷ bs)) (second_len xs)) (drop_front (a ∷ bs) rest)
+    ∙ ap (λ (b : Bool). named_front b (length (a ∷ bs)) (second_len rest)) word
+
+name_back : (text rest : List ℕ) → IsName text rest → NoSecond rest → front_of (text ++ rest) ≡ front.Token kind.Name (length text)
+name_back text rest name alone = run_back false text rest name.2 name.0 name.1 ∙ ap (λ (n : ℕ). path_front (length text) n) (no_length rest alone)
+
+path_some : (n m : ℕ) → path_front n (m + 1) ≡ front.Token kind.Path (n + (m + 1))
+path_some n m = let above : (m + 1 == 0) ≡ false = grind arith in rw above refl
+
+path_back : (text rest : List ℕ) → IsPath text rest → front_of (text ++ rest) ≡ front.Token kind.Path (length text)
+path_back text rest path =
+    let behind = slash ∷ (path.second ++ rest) in
+    let whole : text ++ rest ≡ path.first ++ behind = ap (λ (xs : List ℕ). xs ++ rest) path.parts ∙ append_assoc path.first (slash ∷ path.second) rest in
+    let l = length-append path.first (slash ∷ path.second) in
+    let m : length text ≡ length (path.first ++ (slash ∷ path.second)) = ap (λ (xs : List ℕ). length xs) path.parts in
+    let long : length path.first + (length path.second + 1) ≡ length text = omega arith in
+    ap (λ (xs : List ℕ). front_of xs) whole
+    ∙ run_back false path.first behind path.first_is.2 path.first_is.0 path.first_is.1
+    ∙ ap (λ (n : ℕ). path_front (length path.first) n) (second_back path.second rest path.second_is)
+    ∙ path_some (length path.first) (length path.second)
+    ∙ ap (λ (n : ℕ). front.Token kind.Path n) long
 
 within : (n : ℕ) → n ≤ 1000 → nat_le n 1000 ≡ true
 within n le = grind arith
@@ -185,9 +193,10 @@ symbol_back (a ∷ bs) rest one longest other =
     ∙ ap (λ (n : ℕ). symbol_front n) (symbol_long (a ∷ bs) rest one longest)
     ∙ symbol_some (length (a ∷ bs)) (omega arith)
 
-token_front : (k : TokenKind) (text rest : List ℕ) → IsToken k text rest → front_of (text ++ rest) ≡ front.Token k (length text)
-token_front kind.Name text rest is = name_back false text rest is.2 is.0 is.1
-token_front kind.Word text rest is = name_back true text rest is.2 is.0 is.1
+pub token_front : (k : TokenKind) (text rest : List ℕ) → IsToken k text rest → front_of (text ++ rest) ≡ front.Token k (length text)
+token_front kind.Name text rest is = name_back text rest is.0 is.1
+token_front kind.Path text rest is = path_back text rest is
+token_front kind.Word text rest is = run_back true text rest is.2 is.0 is.1
 token_front kind.Number text rest is = number_back text rest is.0 is.1 is.2
 token_front kind.Symbol text rest is = symbol_back text rest is.0 is.1 is.2
 

@@ -1,7 +1,7 @@
 -- What a front is, is what stands there.
-use Rattle.std.proofs.Common.{◌≡◌, ℕ, zero, suc, ◌+◌, ◌<◌, ◌≤◌, Bool, true, false, cond, List, [], ◌∷◌, ◌++◌, length, take, drop, get_or, Option, Some, None, ◌⊎◌, inl, inr, refl, sym, ap, subst, ◌∙◌, arith, one-add}
+use Rattle.std.proofs.Common.{◌≡◌, ℕ, zero, suc, ◌+◌, ◌<◌, ◌≤◌, Bool, true, false, cond, List, [], ◌∷◌, ◌++◌, length, take, drop, get_or, Option, Some, None, ◌⊎◌, inl, inr, refl, sym, ap, subst, ◌∙◌, append_assoc, arith}
 use Rattle.std.specs.Prelude.{codes, nat_eq, nat_le, max, ◌==◌, ◌&&◌, ◌||◌, option_map}
-use Rattle.std.specs.List.{list_all, list_any, starts_with, prefix_len}
+use Rattle.std.specs.List.{list_any, starts_with, prefix_len}
 use Rattle.std.specs.Str.{bytes_eq}
 use Rattle.std.proofs.lemmas.List.{take-append-drop, length-append, length-take-le}
 use Rattle.std.proofs.lemmas.List.Sums.{prefix_len-le-length}
@@ -10,10 +10,11 @@ use Rattle.alloy_lex.specs.declared.token.TokenKind.TheVariants as kind
 use Rattle.alloy_lex.specs.declared.front.Front.{Front}
 use Rattle.alloy_lex.specs.declared.front.Front.TheVariants as front
 use Rattle.alloy_lex.specs.Words.{is_word, symbols, longest_front, symbol_len}
-use Rattle.alloy_lex.specs.Fronts.{star, dash, slash, is_space, is_letter, is_digit, is_name_byte, is_in_line, comment_len, number_from, comment_front, name_front, number_front, symbol_front, front_of}
-use Rattle.alloy_lex.specs.Reading.{Ends, IsRun, IsClosed, Separates, space, slashes, dashes, block, IsToken, IsSymbol}
+use Rattle.alloy_lex.specs.Fronts.{star, dash, slash, is_space, is_letter, is_digit, is_name_byte, is_in_line, comment_len, number_from, comment_front, second_len, path_front, name_front, number_front, symbol_front, front_of}
+use Rattle.alloy_lex.specs.Reading.{Ends, IsClosed, Separates, space, slashes, dashes, block, IsName, IsPath, IsToken, IsSymbol, IsOpen, IsTooLarge}
 use Rattle.alloy_lex.proofs.Fronts.{Found, longest_found}
 use Rattle.alloy_lex.proofs.Runs.{name_has_some, number_has_some}
+use Rattle.alloy_lex.proofs.Paths.{take_front, drop_front, run_of, first_taken, named, second_found, none_stands}
 
 -- separators go on before any that follow
 abbrev pub Precedes : List ℕ → List ℕ → Type 0
@@ -27,8 +28,8 @@ abbrev pub FrontIs : Front → List ℕ → Type 0
 FrontIs (front.Blank n) bs = HasSome n bs × Precedes (take n bs) (drop n bs)
 FrontIs (front.Token k n) bs = HasSome n bs × IsToken k (take n bs) (drop n bs)
 FrontIs front.BadCharacter bs = Unit {0}
-FrontIs front.OpenComment bs = Unit {0}
-FrontIs front.NumberTooLarge bs = Unit {0}
+FrontIs front.OpenComment bs = IsOpen bs
+FrontIs front.NumberTooLarge bs = IsTooLarge bs
 
 pub record Fits (f : Front) (bs : List ℕ) : Type 0 where
   pub is : FrontIs f bs
@@ -38,30 +39,6 @@ choose bs true x y this other = this refl
 choose bs false x y this other = other refl
 
 -- ---- runs
-
-run_all_step : (p : ℕ → Bool) (t : Bool) (n b : ℕ) (bs : List ℕ) → p b ≡ t → list_all p (take n bs) ≡ true → list_all p (take (cond t (1 + n) 0) (b ∷ bs)) ≡ true
-run_all_step p true n b bs e more = rw (one-add, e) more
-run_all_step p false n b bs e more = refl
-
-run_all : (p : ℕ → Bool) (bs : List ℕ) → list_all p (take (prefix_len p bs) bs) ≡ true
-run_all p [] = refl
-run_all p (b ∷ bs) = run_all_step p (p b) (prefix_len p bs) b bs refl (run_all p bs)
-
-run_ends_step : (p : ℕ → Bool) (t : Bool) (n b : ℕ) (bs : List ℕ) → p b ≡ t → Ends p (drop n bs) → Ends p (drop (cond t (1 + n) 0) (b ∷ bs))
-run_ends_step p true n b bs e more = rw one-add more
-run_ends_step p false n b bs e more = e
-
-run_ends : (p : ℕ → Bool) (bs : List ℕ) → Ends p (drop (prefix_len p bs) bs)
-run_ends p [] = tt
-run_ends p (b ∷ bs) = run_ends_step p (p b) (prefix_len p bs) b bs refl (run_ends p bs)
-
-run_of : (p : ℕ → Bool) (bs : List ℕ) → IsRun p (take (prefix_len p bs) bs) (drop (prefix_len p bs) bs)
-run_of p bs = (run_all p bs, run_ends p bs)
-
-first_taken : (n : ℕ) (bs : List ℕ) → 0 < n → get_or (take n bs) 0 0 ≡ get_or bs 0 0
-first_taken zero bs some = absurd (omega arith)
-first_taken (suc n) [] some = refl
-first_taken (suc n) (b ∷ bs) some = refl
 
 taken_some : (n : ℕ) (bs : List ℕ) → 0 < n → n ≤ length bs → HasSome n bs
 taken_some n bs some fits = let e : length (take n bs) ≡ n = length-take-le n bs fits in omega arith
@@ -177,9 +154,30 @@ unfolding comment_len
 closed_of [] n e = absurd (not_some n e)
 closed_of (b ∷ bs) n e = closed_step (b == 42 && get_or bs 0 0 == 47) b n bs refl (λ m h. closed_of bs m h) e
 
+-- a comment that is closed somewhere has a length
+len_step : (t : Bool) (o : Option ℕ) (n : ℕ) → o ≡ some n → (m : ℕ) × (cond t (some 2) (option_map (λ k. k + 1) o) ≡ some m)
+len_step true o n e = (2, refl)
+len_step false o n e = (n + 1, ap (λ (p : Option ℕ). option_map (λ k. k + 1) p) e)
+
+has_len : (before after : List ℕ) → (n : ℕ) × (comment_len (before ++ (42 ∷ 47 ∷ after)) ≡ some n)
+unfolding comment_len
+has_len [] after = (2, refl)
+has_len (b ∷ before) after =
+    let tail = before ++ (42 ∷ 47 ∷ after) in
+    let more = has_len before after in
+    len_step (b == 42 && get_or tail 0 0 == 47) (comment_len tail) more.0 more.1
+
+never_closed : (body before after : List ℕ) → comment_len body ≡ none → body ≡ before ++ (42 ∷ 47 ∷ after) → ⊥
+never_closed body before after e parts =
+    let has = has_len before after in
+    not_some has.0 (sym e ∙ ap (λ (xs : List ℕ). comment_len xs) parts ∙ has.1)
+
+open_of : (rest : List ℕ) → comment_len rest ≡ none → IsOpen (47 ∷ 42 ∷ rest)
+open_of rest e = record { body = rest; opened = refl; never_closed = λ before after parts. never_closed rest before after e parts }
+
 block_of : (o : Option ℕ) (rest : List ℕ) → comment_len rest ≡ o → Fits (comment_front o) (47 ∷ 42 ∷ rest)
 block_of (Some n) rest e = record { is = (some_two n 47 42 rest, rw (two_more n) (λ gap after e' more. block (take n rest) gap (closed_of rest n e) more)) }
-block_of None rest e = record { is = tt }
+block_of None rest e = record { is = open_of rest e }
 
 block_fits : (bs : List ℕ) → (get_or bs 0 0 == slash && get_or bs 1 0 == star) ≡ true → Fits (comment_front (comment_len (drop 2 bs))) bs
 block_fits bs e = subst (λ (xs : List ℕ). Fits (comment_front (comment_len (drop 2 xs))) xs) (sym (pair_is bs 46 41 e)) (block_of (comment_len (drop 2 bs)) (drop 2 bs) refl)
@@ -190,22 +188,63 @@ space_fits : (bs : List ℕ) → is_space (get_or bs 0 0) ≡ true → Fits (fro
 space_fits [] e = absurd cc
 space_fits (b ∷ bs) e = record { is = (omega arith, λ gap after e' more. space e more) }
 
--- ---- names and words
+-- ---- names, words and paths
 
-name_of : (t : Bool) (n : ℕ) (bs : List ℕ) → is_word (take n bs) ≡ t → HasSome n bs → is_letter (get_or (take n bs) 0 0) ≡ true → IsRun is_name_byte (take n bs) (drop n bs) → Fits (front.Token (cond t kind.Word kind.Name) n) bs
-name_of true n bs e has letter run = record { is = (has, (letter, run, e)) }
-name_of false n bs e has letter run = record { is = (has, (letter, run, e)) }
+path_here : (text first second rest : List ℕ) → text ≡ first ++ (slash ∷ second) → IsName first (slash ∷ (second ++ rest)) → IsName second rest → IsPath text rest
+path_here text first second rest parts first_is second_is = record { first = first; second = second; parts = parts; first_is = first_is; second_is = second_is }
+
+-- a path, which takes so many bytes
+path_fits : (first second rest bs : List ℕ) (n m : ℕ) → bs ≡ first ++ (slash ∷ (second ++ rest)) → length first ≡ n → length second ≡ m → 0 < n → IsName first (slash ∷ (second ++ rest)) → IsName second rest
+    → Fits (front.Token kind.Path (n + suc m)) bs
+path_fits first second rest bs n m whole first_long second_long has first_is second_is =
+    let text = first ++ (slash ∷ second) in
+    let regrouped : bs ≡ text ++ rest = whole ∙ sym (append_assoc first (slash ∷ second) rest) in
+    let l = length-append first (slash ∷ second) in
+    let long : length text ≡ n + suc m = omega arith in
+    let taken : take (n + suc m) bs ≡ text = ap (λ (xs : List ℕ). take (n + suc m) xs) regrouped ∙ ap (λ (k : ℕ). take k (text ++ rest)) (sym long) ∙ take_front text rest in
+    let dropped : drop (n + suc m) bs ≡ rest = ap (λ (xs : List ℕ). drop (n + suc m) xs) regrouped ∙ ap (λ (k : ℕ). drop k (text ++ rest)) (sym long) ∙ drop_front text rest in
+    let is : IsPath (take (n + suc m) bs) (drop (n + suc m) bs) = rw (taken, dropped) (path_here text first second rest refl first_is second_is) in
+    let some : HasSome (n + suc m) bs = rw taken (omega arith) in
+    record { is = (some, is) }
+
+above : (m : ℕ) → (suc m == 0) ≡ false
+above m = grind arith
+
+path_of : (m n : ℕ) (bs : List ℕ) → second_len (drop n bs) ≡ m → 0 < n → n ≤ length bs → IsName (take n bs) (drop n bs) → Fits (path_front n m) bs
+path_of zero n bs e has fits name = record { is = (taken_some n bs has fits, (name, none_stands (drop n bs) e)) }
+path_of (suc m) n bs e has fits name =
+    let second = second_found (drop n bs) m e in
+    let split : bs ≡ take n bs ++ (slash ∷ second.name ++ second.rest) = sym (take-append-drop n bs) ∙ ap (λ (xs : List ℕ). take n bs ++ xs) second.parts in
+    rw (above m) (path_fits (take n bs) second.name second.rest bs n m split (length-take-le n bs fits) second.long has (subst (λ (xs : List ℕ). IsName (take n bs) xs) second.parts name) second.is)
 
 name_fits : (bs : List ℕ) → is_letter (get_or bs 0 0) ≡ true → Fits (name_front bs (prefix_len is_name_byte bs)) bs
 name_fits bs letter =
     let n = prefix_len is_name_byte bs in
     let has = name_has_some bs letter in
-    name_of (is_word (take n bs)) n bs refl (taken_some n bs has (prefix_len-le-length is_name_byte bs)) (ap is_letter (first_taken n bs has) ∙ letter) (run_of is_name_byte bs)
+    let fits = prefix_len-le-length is_name_byte bs in
+    choose bs (is_word (take n bs)) (front.Token kind.Word n) (path_front n (second_len (drop n bs)))
+    (λ word. record { is = (taken_some n bs has fits, (ap is_letter (first_taken n bs has) ∙ letter, run_of is_name_byte bs, word)) })
+    (λ other. path_of (second_len (drop n bs)) n bs refl has fits (named bs letter other))
 
 -- ---- numbers
 
 small_is : (n : ℕ) → nat_le n 1000 ≡ true → n ≤ 1000
 small_is n e = grind arith
+
+large_is : (n : ℕ) → nat_le n 1000 ≡ false → 1000 < n
+large_is n e = grind arith
+
+large_of : (bs : List ℕ) → is_digit (get_or bs 0 0) ≡ true → nat_le (number_from 0 (take (prefix_len is_digit bs) bs)) 1000 ≡ false → IsTooLarge bs
+large_of bs digit e =
+    let n = prefix_len is_digit bs in
+    record {
+      digits = take n bs;
+      rest = drop n bs;
+      parts = sym (take-append-drop n bs);
+      first = ap is_digit (first_taken n bs (number_has_some bs digit)) ∙ digit;
+      run = run_of is_digit bs;
+      large = large_is (number_from 0 (take n bs)) e;
+    }
 
 number_fits : (bs : List ℕ) → is_digit (get_or bs 0 0) ≡ true → Fits (number_front bs (prefix_len is_digit bs)) bs
 number_fits bs digit =
@@ -213,7 +252,7 @@ number_fits bs digit =
     let has = number_has_some bs digit in
     choose bs (nat_le (number_from 0 (take n bs)) 1000) (front.Token kind.Number n) front.NumberTooLarge
     (λ e. record { is = (taken_some n bs has (prefix_len-le-length is_digit bs), (ap is_digit (first_taken n bs has) ∙ digit, run_of is_digit bs, small_is (number_from 0 (take n bs)) e)) })
-    (λ e. record { is = tt })
+    (λ e. record { is = large_of bs digit e })
 
 -- ---- symbols
 

@@ -1,9 +1,11 @@
 pub mod Lengths
 pub mod Runs
 pub mod Fronts
+pub mod Paths
 pub mod Turns
 pub mod Found
 pub mod Readings
 pub mod Slices
 pub mod Characters
 pub mod Exact
+pub mod Refusals

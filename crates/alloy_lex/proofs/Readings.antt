@@ -58,7 +58,7 @@ passed_none at = spots (at.start + 0) at.start at.place at.place (omega arith) r
 
 -- ---- a separator before a reading
 
-next_behind : (at : Spot) (piece rest text gap after : List ℕ) (t : Token) → text ≡ piece ++ rest → Precedes piece rest → IsNext (passed at piece) rest gap after t → IsNext at text (piece ++ gap) after t
+pub next_behind : (at : Spot) (piece rest text gap after : List ℕ) (t : Token) → text ≡ piece ++ rest → Precedes piece rest → IsNext (passed at piece) rest gap after t → IsNext at text (piece ++ gap) after t
 next_behind at piece rest text gap after t whole before next =
     let l = length-append piece gap in
     record {

@@ -1,10 +1,12 @@
 -- Runs of bytes at the front of a text.
-use Rattle.std.proofs.Common.{◌≡◌, ℕ, zero, suc, ◌+◌, ◌*◌, ◌-◌, ◌<◌, ◌≤◌, Bool, true, false, cond, List, [], ◌∷◌, take, get_or, refl, arith, one-add}
-use Rattle.std.specs.Prelude.{nat_le}
+use Rattle.std.proofs.Common.{◌≡◌, ℕ, zero, suc, ◌+◌, ◌*◌, ◌-◌, ◌<◌, ◌≤◌, Bool, true, false, cond, List, [], ◌∷◌, ◌++◌, take, drop, get_or, refl, sym, subst, arith, one-add}
+use Rattle.std.specs.Prelude.{nat_le, not, ◌==◌, ◌&&◌}
+use Rattle.std.proofs.Math.Seq.{take-add}
 use Rattle.std.specs.List.{prefix_len}
 use Rattle.std.specs.Str.{IsAscii, IsUtf8}
 use Rattle.std.proofs.lemmas.Str.{IsUtf8-from_ascii}
-use Rattle.alloy_lex.specs.Fronts.{is_name_byte, is_letter, is_digit, number_from}
+use Rattle.alloy_lex.specs.Words.{is_word}
+use Rattle.alloy_lex.specs.Fronts.{slash, is_name_byte, is_letter, is_digit, number_from, second_len}
 
 -- ---- numbers
 
@@ -44,6 +46,37 @@ digit_small b e = grind arith
 
 pub name_is_ascii : (bs : List ℕ) → IsAscii (take (prefix_len is_name_byte bs) bs)
 name_is_ascii bs = ascii_run is_name_byte name_byte_small bs
+
+ascii_append : (xs ys : List ℕ) → IsAscii xs → IsAscii ys → IsAscii (xs ++ ys)
+ascii_append [] ys first second i = second i
+ascii_append (x ∷ xs) ys first second zero = first zero
+ascii_append (x ∷ xs) ys first second (suc i) = ascii_append xs ys (λ j. first (suc j)) second i
+
+first_is : (t : Bool) (b : ℕ) → (b == slash && t) ≡ true → b ≡ slash
+first_is true b e = grind arith
+first_is false b e = grind arith
+
+second_step : (t : Bool) (n b : ℕ) (bs : List ℕ) → (t ≡ true → b < 128) → IsAscii (take n bs) → IsAscii (take (cond t (n + 1) 0) (b ∷ bs))
+second_step true n b bs small rest = let one : n + 1 ≡ suc n = omega arith in rw one (ascii_cons b (take n bs) (small refl) rest)
+second_step false n b bs small rest = ascii_nil
+
+slash_is_small : (t : Bool) (b : ℕ) → (b == slash && t) ≡ true → b < 128
+slash_is_small t b e = let is = first_is t b e in omega arith
+
+second_is_ascii : (bs : List ℕ) → IsAscii (take (second_len bs) bs)
+unfolding second_len
+second_is_ascii [] = ascii_nil
+second_is_ascii (b ∷ bs) =
+    let n = prefix_len is_name_byte bs in
+    let named = is_letter (get_or bs 0 0) && not (is_word (take n bs)) in
+    second_step (b == slash && named) n b bs (slash_is_small named b) (name_is_ascii bs)
+
+-- a run, and a slash and a name behind it
+pub path_is_ascii : (bs : List ℕ) → IsAscii (take (prefix_len is_name_byte bs + second_len (drop (prefix_len is_name_byte bs) bs)) bs)
+path_is_ascii bs =
+    let n = prefix_len is_name_byte bs in
+    let more = second_len (drop n bs) in
+    subst (λ (xs : List ℕ). IsAscii xs) (sym (take-add n more bs)) (ascii_append (take n bs) (take more (drop n bs)) (name_is_ascii bs) (second_is_ascii (drop n bs)))
 
 pub number_is_ascii : (bs : List ℕ) → IsAscii (take (prefix_len is_digit bs) bs)
 number_is_ascii bs = ascii_run is_digit digit_small bs

@@ -7,23 +7,20 @@ use Rattle.alloy_lex.specs.declared.token.Token.{Token}
 use Rattle.alloy_lex.specs.declared.token.TokenKind.{TokenKind}
 use Rattle.alloy_lex.specs.declared.token.TokenKind.TheVariants as kind
 use Rattle.alloy_lex.specs.declared.lexing.Spot.{Spot}
-use Rattle.alloy_lex.specs.Fronts.{line_feed}
+use Rattle.alloy_lex.specs.Fronts.{line_feed, slash}
 use Rattle.alloy_lex.specs.Tokens.{is_continuation, next_line, next_column, after_byte, after_bytes, passed, origin, tokens_of}
 use Rattle.alloy_lex.specs.Reading.{IsToken, IsNext, Reads, AreSlices, AreSized}
+use Rattle.alloy_lex.proofs.Paths.{take_front, drop_front}
 use Rattle.alloy_lex.proofs.Readings.{tokens_read}
 
-pub drop_front : (xs ys : List ℕ) → drop (length xs) (xs ++ ys) ≡ ys
-drop_front [] ys = refl
-drop_front (x ∷ xs) ys = drop_front xs ys
-
-pub take_front : (xs ys : List ℕ) → take (length xs) (xs ++ ys) ≡ xs
-take_front [] ys = refl
-take_front (x ∷ xs) ys = ap (λ (zs : List ℕ). x ∷ zs) (take_front xs ys)
+path_has_byte : (first second : List ℕ) → 0 < length (first ++ (slash ∷ second))
+path_has_byte first second = let l = length-append first (slash ∷ second) in omega arith
 
 -- a token has a byte
 pub has_byte : (k : TokenKind) (text rest : List ℕ) → IsToken k text rest → 0 < length text
 has_byte k (b ∷ bs) rest is = omega arith
-has_byte kind.Name [] rest is = let e = is.0 in absurd cc
+has_byte kind.Name [] rest is = let e = is.0.0 in absurd cc
+has_byte kind.Path [] rest is = subst (λ (xs : List ℕ). 0 < length xs) (sym is.parts) (path_has_byte is.first is.second)
 has_byte kind.Word [] rest is = let e = is.0 in absurd cc
 has_byte kind.Number [] rest is = let e = is.0 in absurd cc
 has_byte kind.Symbol [] rest is = let e = is.0 in absurd cc

@@ -56,9 +56,19 @@ abbrev pub comment_front : Option ℕ → Front
 comment_front None = front.OpenComment
 comment_front (Some n) = front.Blank (n + 2)
 
--- a word or a name, of so many bytes
+-- how many bytes a slash and a name take that stand there; 0 where they don't
+unfoldable pub second_len : List ℕ → ℕ
+second_len bs =
+    let n = prefix_len is_name_byte (drop 1 bs) in
+    if slice_index bs 0 == slash && (is_letter (slice_index bs 1) && not (is_word (take n (drop 1 bs)))) then n + 1 else 0
+
+-- a name of so many bytes, and behind it a slash and a name of so many, or 0
+abbrev pub path_front : ℕ → ℕ → Front
+path_front n more = if more == 0 then front.Token kind.Name n else front.Token kind.Path (n + more)
+
+-- a word, a name or a path that begins with a run of so many bytes
 abbrev pub name_front : List ℕ → ℕ → Front
-name_front bs n = front.Token (if is_word (take n bs) then kind.Word else kind.Name) n
+name_front bs n = if is_word (take n bs) then front.Token kind.Word n else path_front n (second_len (drop n bs))
 
 -- a number of so many digits, which is at most a thousand
 abbrev pub number_front : List ℕ → ℕ → Front

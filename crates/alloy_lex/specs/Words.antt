@@ -6,14 +6,14 @@ use Rattle.std.specs.Str.{bytes_eq}
 -- the words that the grammar has
 abbrev pub language_words : List (List ℕ)
 language_words =
-    codes "abstract" ∷ codes "all" ∷ codes "and" ∷ codes "assert" ∷ codes "but" ∷ codes "check" ∷ codes "disj" ∷ codes "else" ∷ codes "exactly" ∷ codes "expect"
-    ∷ codes "extends" ∷ codes "fact" ∷ codes "for" ∷ codes "iden" ∷ codes "iff" ∷ codes "implies" ∷ codes "in" ∷ codes "let" ∷ codes "lone" ∷ codes "module"
-    ∷ codes "no" ∷ codes "none" ∷ codes "not" ∷ codes "one" ∷ codes "or" ∷ codes "pred" ∷ codes "run" ∷ codes "set" ∷ codes "sig" ∷ codes "some" ∷ codes "univ" ∷ []
+    codes "abstract" ∷ codes "all" ∷ codes "and" ∷ codes "as" ∷ codes "assert" ∷ codes "but" ∷ codes "check" ∷ codes "disj" ∷ codes "else" ∷ codes "exactly" ∷ codes "expect"
+    ∷ codes "extends" ∷ codes "fact" ∷ codes "for" ∷ codes "fun" ∷ codes "iden" ∷ codes "iff" ∷ codes "implies" ∷ codes "in" ∷ codes "let" ∷ codes "lone" ∷ codes "module"
+    ∷ codes "no" ∷ codes "none" ∷ codes "not" ∷ codes "one" ∷ codes "open" ∷ codes "or" ∷ codes "pred" ∷ codes "run" ∷ codes "set" ∷ codes "sig" ∷ codes "some" ∷ codes "univ" ∷ []
 
 -- the words that are kept for what the language refuses
 abbrev pub refused_words : List (List ℕ)
 refused_words =
-    codes "open" ∷ codes "enum" ∷ codes "fun" ∷ codes "seq" ∷ codes "sum" ∷ codes "this" ∷ codes "Int" ∷ codes "String" ∷ codes "int" ∷ codes "private"
+    codes "enum" ∷ codes "seq" ∷ codes "sum" ∷ codes "this" ∷ codes "Int" ∷ codes "String" ∷ codes "int" ∷ codes "private"
     ∷ codes "var" ∷ codes "always" ∷ codes "eventually" ∷ codes "after" ∷ codes "before" ∷ codes "historically" ∷ codes "once" ∷ codes "since" ∷ codes "until"
     ∷ codes "releases" ∷ codes "triggered" ∷ codes "steps" ∷ []
 

@@ -3,7 +3,7 @@ ghost use Rattle.std.specs.Prelude.{◌≡◌, ℕ, ◌+◌, ◌<◌, ◌≤◌,
 ghost use Rattle.std.specs.List.{prefix_len};
 ghost use Rattle.std.specs.Str.{IsAscii};
 ghost use Rattle.alloy_lex.specs.Words.{is_word, symbol_len};
-ghost use Rattle.alloy_lex.specs.Fronts.{is_space, is_letter, is_digit, is_name_byte, is_in_line, comment_len, number_from, comment_front, name_front, number_front, symbol_front, front_of};
+ghost use Rattle.alloy_lex.specs.Fronts.{is_space, is_letter, is_digit, is_name_byte, is_in_line, comment_len, number_from, comment_front, second_len, name_front, number_front, symbol_front, front_of};
 ghost use Rattle.alloy_lex.specs.Taken.{IsTaken};
 
 use crate::spelling::{is_word, symbol_of};
@@ -155,17 +155,40 @@ pub fn ascii_text(bytes: &[u8]) -> &str
     unsafe { std::str::from_utf8_unchecked(bytes) }
 }
 
-#[tactic(auto, using(crate::proofs::Runs::name_is_ascii, crate::proofs::Runs::name_has_some))]
+#[tactic(auto, using(crate::proofs::Runs::name_is_ascii, crate::proofs::Runs::name_has_some, crate::proofs::Runs::path_is_ascii))]
 fn name(bytes: &[u8]) -> Front
     requires { IsTrue (is_letter (slice_index bytes.now 0)) }
     ensures value { result ≡ name_front bytes.now (prefix_len is_name_byte bytes.now) }
     ensures taken { IsTaken result bytes.now }
 {
     let n = name_len(bytes);
-    if is_word(ascii_text(&bytes[..n])) {
-        Front::Token(TokenKind::Word, n)
-    } else {
+    let (run, rest) = bytes.split_at(n);
+    if is_word(ascii_text(run)) {
+        return Front::Token(TokenKind::Word, n);
+    }
+    let more = second_len(rest);
+    if more == 0 {
         Front::Token(TokenKind::Name, n)
+    } else {
+        Front::Token(TokenKind::Path, n + more)
+    }
+}
+
+// How many bytes a slash and a name take that stand there; 0 where they don't.
+#[tactic(auto, using(crate::proofs::Runs::name_is_ascii), unfolding(crate::specs::Fronts::second_len))]
+fn second_len(bytes: &[u8]) -> usize
+    ensures value { result ≡ second_len bytes.now }
+    ensures within { result ≤ length bytes.now }
+{
+    if byte_at(bytes, 0) != b'/' || !is_letter(byte_at(bytes, 1)) {
+        return 0;
+    }
+    let rest = &bytes[1..];
+    let n = name_len(rest);
+    if is_word(ascii_text(&rest[..n])) {
+        0
+    } else {
+        n + 1
     }
 }
 

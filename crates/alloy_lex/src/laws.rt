@@ -1,8 +1,9 @@
 // Laws of the definitions: each is the contract of a function that does nothing.
 ghost use Rattle.std.specs.Prelude.{◌≡◌, ℕ, List, Ok, Err};
 ghost use Rattle.alloy_lex.specs.declared.token.Token.{Token};
+ghost use Rattle.alloy_lex.specs.declared.token.LexFault.{LexFault};
 ghost use Rattle.alloy_lex.specs.Tokens.{origin, tokens_of};
-ghost use Rattle.alloy_lex.specs.Reading.{Reads, AreSlices, ArePlaced};
+ghost use Rattle.alloy_lex.specs.Reading.{Reads, AreSlices, ArePlaced, IsRefused};
 
 /// The tokens of a text are what it reads as: before, between and behind them stand only white space and comments, and
 /// together they give the text back; each is the longest at its place. And it reads as no others.
@@ -24,4 +25,10 @@ pub fn tokens_are_slices()
 /// Each token's place counts the lines and the characters before it.
 pub fn places_count_characters()
     ensures { (text : List ℕ) (ts : List Token) → tokens_of text ≡ Ok ts → ArePlaced text ts }
+{}
+
+/// A fault says where no token is: before its place the text reads as tokens, white space and comments, and there nothing
+/// of these begins, or a comment that nothing closes, or a number above a thousand.
+pub fn a_fault_is_where_no_token_begins()
+    ensures { (text : List ℕ) (e : LexFault) → tokens_of text ≡ Err e → IsRefused text e }
 {}

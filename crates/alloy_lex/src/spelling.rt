@@ -28,7 +28,7 @@ pub fn is_word(text: &str) -> bool
 fn is_word_of_two(text: &str) -> bool
     ensures { result ≡ list_any (bytes_eq text.now) (words_of 2) }
 {
-    matches!(text, "in" | "no" | "or")
+    matches!(text, "as" | "in" | "no" | "or")
 }
 
 #[tactic(auto, unfolding(crate::specs::Words::words_of))]
@@ -41,6 +41,7 @@ fn is_word_of_three(text: &str) -> bool
             | "and"
             | "but"
             | "for"
+            | "fun"
             | "iff"
             | "let"
             | "not"
@@ -48,7 +49,6 @@ fn is_word_of_three(text: &str) -> bool
             | "run"
             | "set"
             | "sig"
-            | "fun"
             | "seq"
             | "sum"
             | "Int"
@@ -69,10 +69,10 @@ fn is_word_of_four(text: &str) -> bool
             | "iden"
             | "lone"
             | "none"
+            | "open"
             | "pred"
             | "some"
             | "univ"
-            | "open"
             | "enum"
             | "this"
             | "once"

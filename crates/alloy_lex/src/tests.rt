@@ -16,6 +16,7 @@ fn told(alloc: Global, text: &str) -> Result<String, Fail> {
     for token in &tokens {
         let letter = match token.kind {
             TokenKind::Name => "N",
+            TokenKind::Path => "P",
             TokenKind::Number => "#",
             TokenKind::Word => "W",
             TokenKind::Symbol => "S",
@@ -63,6 +64,13 @@ fn tells_tokens(rt: HostRuntime) -> Result<(), Fail> {
         ("/* é∀𝄞 */ a", "Na@1:11 "),
         ("/* é\n∀ */ a", "Na@2:6 "),
         ("a--b", "Na@1:1 "),
+        (
+            "o/first a/b'c_1.d/e",
+            "Po/first@1:1 Pa/b'c_1@1:9 S.@1:16 Pd/e@1:17 ",
+        ),
+        ("1a/b", "#1@1:1 Pa/b@1:2 "),
+        ("a//b", "Na@1:1 "),
+        ("a/runs", "Pa/runs@1:1 "),
         ("a-b->c", "Na@1:1 S-@1:2 Nb@1:3 S->@1:4 Nc@1:6 "),
     ];
     for (text, want) in rows {
@@ -95,6 +103,12 @@ fn tells_faults(rt: HostRuntime) -> Result<(), Fail> {
         ("a \u{b} b", "bad character@1:3"),
         ("a \0", "bad character@1:3"),
         ("a/run", "bad character@1:2"),
+        ("run/a", "bad character@1:4"),
+        ("a/b/c", "bad character@1:4"),
+        ("o/ first", "bad character@1:2"),
+        ("o /first", "bad character@1:3"),
+        ("a/1", "bad character@1:2"),
+        ("a/_b", "bad character@1:2"),
         ("a@b", "bad character@1:2"),
         ("a\\b", "bad character@1:2"),
     ];
@@ -146,6 +160,7 @@ fn knows_the_words(rt: HostRuntime) -> Result<(), Fail> {
         "abstract",
         "all",
         "and",
+        "as",
         "assert",
         "but",
         "check",
@@ -156,6 +171,7 @@ fn knows_the_words(rt: HostRuntime) -> Result<(), Fail> {
         "extends",
         "fact",
         "for",
+        "fun",
         "iden",
         "iff",
         "implies",
@@ -167,6 +183,7 @@ fn knows_the_words(rt: HostRuntime) -> Result<(), Fail> {
         "none",
         "not",
         "one",
+        "open",
         "or",
         "pred",
         "run",
@@ -174,9 +191,7 @@ fn knows_the_words(rt: HostRuntime) -> Result<(), Fail> {
         "sig",
         "some",
         "univ",
-        "open",
         "enum",
-        "fun",
         "seq",
         "sum",
         "this",

@@ -12,10 +12,11 @@ pub struct Place {
     pub column: u32,
 }
 
-/// What a token is. The words that the language refuses are words too.
+/// What a token is. The words that the language refuses are words too. A path is two names with a slash between.
 #[derive(Clone, Copy, Debug, PartialEq, Eq)]
 pub enum TokenKind {
     Name,
+    Path,
     Number,
     Word,
     Symbol,

@@ -1,7 +1,7 @@
 // How deep constructs nest.
 ghost use Rattle.std.specs.Prelude.{◌≡◌, ◌<◌, ◌-◌};
 
-use alloy_cursor::halt::{Halt, Tokens};
+use alloy_syntax::halt::{Halt, Tokens};
 use alloy_syntax::reading::Around;
 
 /// What is read at the front, and the tokens behind it; or why there is nothing.

@@ -2,23 +2,23 @@
 ghost use Rattle.std.specs.Prelude.{◌≡◌, ◌<◌, ◌≤◌, Bool, List, length, map, IfOk};
 ghost use Rattle.alloy_syntax.specs.View.{view, views, step_view, link_view, binding_view, declaration_view, block_view};
 ghost use Rattle.alloy_syntax.specs.Readers.{many, others};
-ghost use Rattle.alloy_syntax.specs.Nodes.{within, inside_over, listing_over, is_inner, block_over, block_tree, paren_over, primary_over, behind_prefix, tight_over, path_over, begins_step, step_over, brackets_over, arguments_over, begins_link, link_over, begins_arrow, arrow_over, arrows_over, size_over, counted_over, comparison_over, negation_over, implication_over, implied_over, quantified_over, body_over, declarations_over, more_declarations, another_declaration, declaration_over, let_over, bindings_over, binding_over};
+ghost use Rattle.alloy_syntax.specs.Nodes.{within, inside_over, is_inner, block_over, block_tree, paren_over, primary_over, behind_prefix, tight_over, path_over, begins_step, step_over, brackets_over, arguments_over, begins_link, link_over, begins_arrow, arrow_over, arrows_over, size_over, sum_over, braced_over, counted_over, comparison_over, negation_over, implication_over, implied_over, quantified_over, body_over, declarations_over, more_declarations, another_declaration, declaration_over, let_over, bindings_over, binding_over};
 ghost use Rattle.alloy_nodes.specs.Levels.{operand_over, chain_over};
-ghost use Rattle.alloy_cursor.specs.Gives.{Gives};
+ghost use Rattle.alloy_syntax.specs.Gives.{Gives};
 
 use crate::nest::{Nest, Read};
 use crate::signs::{
     after_disj, begins_arrow, begins_comparison, begins_declaration, begins_link, begins_step,
     comparing, constant_of, counting_of, is_comprehension, is_constant, is_counting, is_inner,
-    is_listing, is_single, is_tightening, operator_of, quantifier_of, stop_at, tightening_of,
+    is_single, is_tightening, operator_of, quantifier_of, stop_at, tightening_of,
 };
 use crate::variables::variables;
-use alloy_cursor::cursor::{
-    after, after_mark, expect, is_mark, mark_at, name, names, next_is, number, place_at,
-};
-use alloy_cursor::halt::{Halt, Tokens};
 use alloy_lex::Place;
 use alloy_syntax::Class;
+use alloy_syntax::cursor::{
+    after, after_mark, expect, is_mark, mark_at, name, next_is, number, path as path_name, place_at,
+};
+use alloy_syntax::halt::{Halt, Tokens};
 use alloy_syntax::reading::{Around, Form, Inside, Level};
 use alloy_syntax::tree::{
     Binding, Block, Declaration, Link, Node, Operator, Prefix, Quantifier, Step,
@@ -53,18 +53,7 @@ fn below<'a>(alloc: Global, tokens: Tokens<'a>, nest: Nest, part: Inside) -> Rea
         Inside::Tight => tight(alloc, tokens, nest),
         Inside::Quantified(quantifier, place) => quantified(alloc, tokens, nest, quantifier, place),
         Inside::Let(place) => bound_by_let(alloc, tokens, nest, place),
-        Inside::Listing => listing(alloc, tokens),
     }
-}
-
-// Names that no colon follows.
-#[tactic(auto, unfolding(alloy_syntax::specs::Nodes::listing_over))]
-fn listing<'a>(alloc: Global, tokens: Tokens<'a>) -> Read<'a, Node>
-    ensures value { Gives (λ x. (view x.0, x.1.now)) result (listing_over tokens.now) }
-    ensures shorter { IfOk result (λ x. length x.1.now < length tokens.now) }
-{
-    let (_, rest) = names(alloc, tokens)?;
-    Err(Halt::Refused(rest))
 }
 
 /// Formulas in braces. So many constructs may nest in it, less one.
@@ -75,11 +64,7 @@ pub fn block<'a>(alloc: Global, tokens: Tokens<'a>, room: u32) -> Read<'a, Block
     ensures shorter { IfOk result (λ x. length x.1.now < length tokens.now) }
 {
     if is_comprehension(tokens) {
-        return Err(Halt::Unsupported(Form::Comprehension, place_at(tokens)));
-    }
-    if is_listing(tokens) {
-        let (_, rest) = inside(alloc, after(tokens), Nest::braces(room), Inside::Listing)?;
-        return Err(Halt::Refused(rest));
+        return Err(Halt::Unsupported(Form::Comprehension, tokens));
     }
     let (place, rest) = expect(tokens, Class::LeftBrace)?;
     let (formulas, rest) = formulas(alloc, rest, room)?;
@@ -133,6 +118,10 @@ fn primary<'a>(alloc: Global, tokens: Tokens<'a>, room: u32) -> Read<'a, Node>
 {
     if next_is(tokens, Class::Name) {
         let (name, rest) = name(alloc, tokens)?;
+        return Ok((Node::Named(name), rest));
+    }
+    if next_is(tokens, Class::Path) {
+        let (name, rest) = path_name(alloc, tokens)?;
         return Ok((Node::Named(name), rest));
     }
     if next_is(tokens, Class::Number) {
@@ -339,7 +328,7 @@ fn arrows<'a>(alloc: Global, tokens: Tokens<'a>, nest: Nest) -> Read<'a, Node>
     ensures shorter { IfOk result (λ x. length x.1.now < length tokens.now) }
 {
     let (first, rest) = chain(alloc, tokens, nest, Level::Restrict)?;
-    if !begins_arrow(rest, nest.around) {
+    if !begins_arrow(rest) {
         return Ok((first, rest));
     }
     let (links, rest) = arrow_links(alloc, rest, nest)?;
@@ -348,12 +337,12 @@ fn arrows<'a>(alloc: Global, tokens: Tokens<'a>, nest: Nest) -> Read<'a, Node>
 
 #[cycle(nodes)]
 fn arrow_links<'a>(alloc: Global, tokens: Tokens<'a>, nest: Nest) -> Read<'a, Vec<Link>>
-    ensures value { Gives (λ x. (map link_view x.0.items, x.1.now)) result (many (begins_arrow nest.around) (arrow_over (within nest.room) nest.around) tokens.now) }
+    ensures value { Gives (λ x. (map link_view x.0.items, x.1.now)) result (many begins_arrow (arrow_over (within nest.room) nest.around) tokens.now) }
     ensures shorter { IfOk result (λ x. length x.1.now ≤ length tokens.now) }
 {
     let mut all = Vec::new(alloc);
     let mut rest = tokens;
-    'each: while begins_arrow(rest, nest.around) {
+    'each: while begins_arrow(rest) {
         let (another, behind) = arrow_link(alloc, rest, nest)?;
         all.push(another)?;
         rest = behind;
@@ -368,12 +357,11 @@ fn arrow_link<'a>(alloc: Global, tokens: Tokens<'a>, nest: Nest) -> Read<'a, Lin
     ensures shorter { IfOk result (λ x. length x.1.now < length tokens.now) }
 {
     if is_mark(tokens) {
-        let _arrow = expect(after(tokens), Class::Arrow)?;
-        return Err(Halt::Unsupported(Form::ArrowMultiplicity, place_at(tokens)));
+        return Err(Halt::Unsupported(Form::ArrowMultiplicity, tokens));
     }
     let rest = after(tokens);
     if is_mark(rest) {
-        return Err(Halt::Unsupported(Form::ArrowMultiplicity, place_at(rest)));
+        return Err(Halt::Unsupported(Form::ArrowMultiplicity, rest));
     }
     let (operand, rest) = chain(alloc, rest, nest, Level::Restrict)?;
     let link = Link {
@@ -577,8 +565,9 @@ fn another_declaration<'a>(
 {
     let rest = after(tokens);
     if single {
-        let (second, _) = name(alloc, after_disj(rest))?;
-        return Err(Halt::Unsupported(Form::Several, second.place));
+        let second = after_disj(rest);
+        let _name = name(alloc, second)?;
+        return Err(Halt::Unsupported(Form::Several, second));
     }
     declaration(alloc, rest, room, false)
 }
@@ -658,4 +647,25 @@ fn binding<'a>(alloc: Global, tokens: Tokens<'a>, room: u32) -> Read<'a, Binding
     let (_, rest) = expect(rest, Class::Equal)?;
     let (value, rest) = chain(alloc, rest, Nest::parens(room), Level::Sum)?;
     Ok((Binding { name, value }, rest))
+}
+
+/// An expression. So many constructs may nest in it.
+#[tactic(auto, unfolding(alloy_syntax::specs::Nodes::sum_over, crate::specs::Levels::operand_over))]
+pub fn expression<'a>(alloc: Global, tokens: Tokens<'a>, room: u32) -> Read<'a, Node>
+    ensures value { Gives (λ x. (view x.0, x.1.now)) result (sum_over (within room) Around.Parens tokens.now) }
+    ensures shorter { IfOk result (λ x. length x.1.now < length tokens.now) }
+{
+    chain(alloc, tokens, Nest::parens(room), Level::Sum)
+}
+
+/// An expression in braces. So many constructs may nest in it, less one.
+#[tactic(auto, unfolding(alloy_syntax::specs::Nodes::braced_over))]
+pub fn braced<'a>(alloc: Global, tokens: Tokens<'a>, room: u32) -> Read<'a, Node>
+    ensures value { Gives (λ x. (view x.0, x.1.now)) result (braced_over (within room) tokens.now) }
+    ensures shorter { IfOk result (λ x. length x.1.now < length tokens.now) }
+{
+    let (_, rest) = expect(tokens, Class::LeftBrace)?;
+    let (inner, rest) = inside(alloc, rest, Nest::parens(room), Inside::Sum)?;
+    let (_, rest) = expect(rest, Class::RightBrace)?;
+    Ok((inner, rest))
 }

@@ -1,12 +1,12 @@
 // Which token may begin or go on with what.
 ghost use Rattle.std.specs.Prelude.{◌≡◌, ◌<◌, ◌≤◌, length, IfOk};
-ghost use Rattle.alloy_syntax.specs.Nodes.{in_braces, in_brackets_too, begins_primary, is_tightening, begins_tight, begins_sum, is_counting, begins_node, begins, may_be_block, is_comprehension, is_listing, is_inner, stop_at, is_constant, constant_of, tightening_of, begins_step, begins_link, operator_of, begins_arrow, counting_of, is_plain_comparison, begins_comparison, comparison_of, comparing_at, negated_comparing, begins_declaration, quantifier_of, is_single, after_disj};
+ghost use Rattle.alloy_syntax.specs.Nodes.{in_braces, in_brackets_too, begins_primary, is_tightening, begins_tight, begins_sum, is_counting, begins_node, begins, may_be_block, is_comprehension, is_inner, stop_at, is_constant, constant_of, tightening_of, begins_step, begins_link, operator_of, begins_arrow, counting_of, is_plain_comparison, begins_comparison, comparison_of, comparing_at, negated_comparing, begins_declaration, quantifier_of, is_single, after_disj};
 ghost use Rattle.alloy_syntax.specs.View.{view};
-ghost use Rattle.alloy_cursor.specs.Gives.{Gives};
+ghost use Rattle.alloy_syntax.specs.Gives.{Gives};
 
-use alloy_cursor::cursor::{after, colon_after_names, is_mark, next_is, place_at};
-use alloy_cursor::halt::{Halt, Tokens};
 use alloy_syntax::Class;
+use alloy_syntax::cursor::{after, colon_after_names, is_mark, next_is, place_at};
+use alloy_syntax::halt::{Halt, Tokens};
 use alloy_syntax::reading::{Around, Form, Inside, Level};
 use alloy_syntax::tree::{Comparing, Comparison, Constant, Node, Operator, Prefix, Quantifier};
 
@@ -37,6 +37,7 @@ fn begins_primary(tokens: Tokens) -> bool
     ensures { result ≡ begins_primary tokens.now }
 {
     next_is(tokens, Class::Name)
+        || next_is(tokens, Class::Path)
         || next_is(tokens, Class::Number)
         || next_is(tokens, Class::None)
         || next_is(tokens, Class::Univ)
@@ -102,7 +103,6 @@ fn begins(tokens: Tokens, part: Inside) -> bool
         Inside::Tight => begins_tight(tokens),
         Inside::Quantified(_, _) => next_is(tokens, Class::Disj) || next_is(tokens, Class::Name),
         Inside::Let(_) => next_is(tokens, Class::Name),
-        Inside::Listing => next_is(tokens, Class::Name),
     }
 }
 
@@ -119,7 +119,6 @@ fn may_be_block(part: Inside) -> bool
         Inside::Tight => true,
         Inside::Quantified(_, _) => false,
         Inside::Let(_) => false,
-        Inside::Listing => false,
     }
 }
 
@@ -129,16 +128,6 @@ pub fn is_comprehension(tokens: Tokens) -> bool
     ensures { result ≡ is_comprehension tokens.now }
 {
     next_is(tokens, Class::LeftBrace) && colon_after_names(after(tokens))
-}
-
-/// A brace, a name, and a comma.
-#[tactic(auto, unfolding(alloy_syntax::specs::Nodes::is_listing))]
-pub fn is_listing(tokens: Tokens) -> bool
-    ensures { result ≡ is_listing tokens.now }
-{
-    next_is(tokens, Class::LeftBrace)
-        && next_is(after(tokens), Class::Name)
-        && next_is(after(after(tokens)), Class::Comma)
 }
 
 /// Not the end of a block.
@@ -156,7 +145,7 @@ pub fn stop_at<'a>(tokens: Tokens<'a>, part: Inside) -> Result<(Node, Tokens<'a>
     ensures shorter { IfOk result (λ x. length x.1.now < length tokens.now) }
 {
     if may_be_block(part) && is_comprehension(tokens) {
-        return Err(Halt::Unsupported(Form::Comprehension, place_at(tokens)));
+        return Err(Halt::Unsupported(Form::Comprehension, tokens));
     }
     if begins(tokens, part) {
         Err(Halt::Deep(tokens))
@@ -265,16 +254,12 @@ fn restrict_operator(tokens: Tokens) -> Operator
     }
 }
 
-/// An arrow, or a multiplicity word before one; in braces a word that no arrow follows begins the next node.
+/// An arrow, or a multiplicity word and an arrow.
 #[tactic(auto, unfolding(alloy_syntax::specs::Nodes::begins_arrow))]
-pub fn begins_arrow(tokens: Tokens, around: Around) -> bool
-    ensures { result ≡ begins_arrow around tokens.now }
+pub fn begins_arrow(tokens: Tokens) -> bool
+    ensures { result ≡ begins_arrow tokens.now }
 {
-    next_is(tokens, Class::Arrow)
-        || (is_mark(tokens)
-            && (next_is(after(tokens), Class::Arrow)
-                || next_is(tokens, Class::Set)
-                || !in_braces(around)))
+    next_is(tokens, Class::Arrow) || (is_mark(tokens) && next_is(after(tokens), Class::Arrow))
 }
 
 /// What `some`, `no`, `lone`, or else `one` stands for before an expression.

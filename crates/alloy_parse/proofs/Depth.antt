@@ -1,9 +1,8 @@
 -- What may stand in a bound's brackets, by the room that is left.
 use Rattle.std.proofs.Common.{◌≡◌, ℕ, zero, suc, ◌-◌, ◌<◌, List, Err, if◌then◌else◌, refl, arith}
 use Rattle.alloy_syntax.specs.declared.seen.Seen.{Seen}
-use Rattle.alloy_syntax.specs.declared.reading.Standing.{Standing}
 use Rattle.alloy_syntax.specs.Readers.{refused, too_deep}
-use Rattle.alloy_syntax.specs.Bounds.{begins_bound, bound_over, bound_within}
+use Rattle.alloy_syntax.specs.Bounds.{Standing, begins_bound, bound_over, bound_within}
 
 pub bound_at_zero : (n : ℕ) (standing : Standing) (ts : List Seen) → n ≡ 0 → bound_within n standing ts ≡ (if begins_bound ts then Err (too_deep ts) else Err (refused ts))
 unfolding bound_within

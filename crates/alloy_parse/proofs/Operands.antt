@@ -5,14 +5,13 @@ use Rattle.std.proofs.lemmas.List.Folds.{list_any-append}
 use Rattle.alloy_lex.specs.declared.token.Place.{Place}
 use Rattle.alloy_syntax.specs.declared.class.Class.TheVariants.{Plus}
 use Rattle.alloy_syntax.specs.declared.seen.Seen.{Seen}
-use Rattle.alloy_syntax.specs.declared.reading.Standing.{Standing}
 use Rattle.alloy_syntax.specs.Tree.{BoundTree}
 use Rattle.alloy_syntax.specs.Readers.{Stop, ◌>>=◌, next_is, many, with_front}
-use Rattle.alloy_syntax.specs.Bounds.{Bounded, BoundReader, operand_over}
-use Rattle.alloy_cursor.specs.declared.halt.Halt.{Halt}
-use Rattle.alloy_cursor.specs.declared.halt.Halt.TheVariants as halt
-use Rattle.alloy_cursor.specs.Gives.{Fails}
-use Rattle.alloy_cursor.proofs.Loop.{Reads, reads_start, reads_more, reads_ends, loop_fails}
+use Rattle.alloy_syntax.specs.Bounds.{Standing, Bounded, BoundReader, operand_over}
+use Rattle.alloy_syntax.specs.declared.halt.Halt.{Halt}
+use Rattle.alloy_syntax.specs.declared.halt.Halt.TheVariants as halt
+use Rattle.alloy_syntax.specs.Gives.{Fails}
+use Rattle.alloy_syntax.proofs.Loop.{Reads, reads_start, reads_more, reads_ends, loop_fails}
 use Rattle.alloy_parse.specs.Bounds.{trees_at, any_arrow, operands_over}
 
 -- these trees were read, one of which has an arrow if that is so, and the others are still to be read
@@ -63,7 +62,7 @@ fails_behind : {A B : Type 0} (e : Halt) (read : Result A Stop) (go : A → Resu
 fails_behind halt.Memory read go fails = tt
 fails_behind (halt.Refused ts) read go fails = rw fails refl
 fails_behind (halt.Deep ts) read go fails = rw fails refl
-fails_behind (halt.Unsupported form place) read go fails = rw fails refl
+fails_behind (halt.Unsupported form ts) read go fails = rw fails refl
 
 pub gathers_fails : (e : Halt) (j : BoundReader) (standing : Standing) (trees : List (Place × BoundTree)) (has_arrow : Bool) (rest ts : List Seen)
     → Gathers j standing trees has_arrow rest ts → next_is Plus rest ≡ true → Fails e (operand_over j standing rest) → Fails e (operands_over j standing ts)

@@ -1,19 +1,32 @@
 -- What contracts see of a bound that was read, and of its operands.
-use Rattle.std.specs.Prelude.{List, Bool, map, Ok}
+use Rattle.std.specs.Borrow.{Bor}
+use Rattle.std.specs.Prelude.{List, Bool, map, Option, option_map, Ok}
 use Rattle.std.specs.List.{list_any}
 use Rattle.alloy_lex.specs.declared.token.Place.{Place}
 use Rattle.alloy_syntax.specs.declared.class.Class.TheVariants as class
-use Rattle.alloy_syntax.specs.declared.reading.Standing.{Standing}
 use Rattle.alloy_syntax.specs.declared.tree.Bound.{Bound}
 use Rattle.alloy_syntax.specs.Tree.{BoundTree}
 use Rattle.alloy_syntax.specs.View.{bound_view}
 use Rattle.alloy_syntax.specs.Readers.{Parser, ◌>>=◌, next_is, many}
-use Rattle.alloy_syntax.specs.Bounds.{Bounded, BoundReader, operand_over}
+use Rattle.alloy_syntax.specs.declared.seen.Seen.{Seen}
+use Rattle.alloy_syntax.specs.Bounds.{Standing, whole, part, beside, Bounded, BoundReader, operand_over}
 use Rattle.alloy_parse.specs.declared.bounds.ReadBound.{ReadBound}
+use Rattle.alloy_parse.specs.declared.bounds.Standing.{Standing as Stands}
+use Rattle.alloy_parse.specs.declared.bounds.Standing.TheVariants as stands
+
+-- where a bound stands
+abbrev pub standing_view : Stands → Standing
+standing_view stands.Whole = whole
+standing_view stands.Part = part
+standing_view (stands.Beside word) = beside word.now
+
+-- the tokens from a word on
+abbrev pub word_view : Option (Bor (List Seen)) → Option (List Seen)
+word_view = option_map (λ word. word.now)
 
 -- a bound that was read
 abbrev pub bounded : ReadBound → Bounded
-bounded b = record { bound = bound_view b.bound; marked = b.marked; has_arrow = b.has_arrow }
+bounded b = record { bound = bound_view b.bound; marked = word_view b.marked; has_arrow = b.has_arrow }
 
 -- an operand, with the place of the `+` before it
 abbrev pub operand_view : Place × Bound → Place × BoundTree

@@ -27,18 +27,23 @@ word_of form.Comprehension = codes "comprehension"
 word_of form.Appended = codes "appended"
 word_of form.ArrowMultiplicity = codes "arrow_multiplicity"
 word_of form.Several = codes "several"
+word_of form.Open = codes "open"
 
 -- a token that can't stand there: a word that the language refuses, or another
 abbrev pub refusal_of : Seen → ParseFault
 refusal_of t = if is_class t.class class.Refused then fault.Unsupported t.place t.text else fault.Unexpected t.place
 
+-- the place of the next token, or just behind the last
+abbrev pub place_of : List Token → List Seen → Place
+place_of all [] = end_of all
+place_of all (t ∷ ts) = t.place
+
 -- the fault where reading stops, of all the tokens
 abbrev pub fault_of : List Token → Stop → ParseFault
 fault_of all (refused []) = fault.EndOfText (end_of all)
 fault_of all (refused (t ∷ ts)) = refusal_of t
-fault_of all (too_deep []) = fault.TooDeep (end_of all)
-fault_of all (too_deep (t ∷ ts)) = fault.TooDeep t.place
-fault_of all (unsupported form place) = fault.Unsupported place (word_of form)
+fault_of all (too_deep ts) = fault.TooDeep (place_of all ts)
+fault_of all (unsupported form ts) = fault.Unsupported (place_of all ts) (word_of form)
 
 -- the fault where that reading stops
 pub record IsFaultOf (all : List Token) (f : ParseFault) (read : Result ModelTree Stop) : Type 0 where

@@ -1,19 +1,19 @@
 // A model's tree, or the fault with the earliest place.
 ghost use Rattle.std.specs.Prelude.{◌≡◌, Some, Result, IfOk, IfErr, Ok};
 ghost use Rattle.alloy_syntax.specs.Seen.{seen, seen_all};
-ghost use Rattle.alloy_syntax.specs.Readers.{Stop, refused, too_deep};
+ghost use Rattle.alloy_syntax.specs.Readers.{Stop, refused};
 ghost use Rattle.alloy_syntax.specs.Tree.{ModelTree};
 ghost use Rattle.alloy_syntax.specs.Paragraphs.{model_of};
 ghost use Rattle.alloy_syntax.specs.View.{model_view};
-ghost use Rattle.alloy_cursor.specs.Gives.{Fails};
+ghost use Rattle.alloy_syntax.specs.Gives.{Fails};
 ghost use Rattle.alloy_parse.specs.declared.fault.ParseFault.TheVariants.{Unsupported};
 ghost use Rattle.alloy_lex.specs.Reading.{AreSized, IsSized};
-ghost use Rattle.alloy_parse.specs.Faults.{place_behind, end_of, word_of, refusal_of, fault_of, Refuses};
+ghost use Rattle.alloy_parse.specs.Faults.{place_behind, end_of, place_of, word_of, refusal_of, fault_of, Refuses};
 
 use crate::fault::ParseFault;
 use crate::paragraphs::model;
-use alloy_cursor::halt::{Halt, Tokens, seen_tokens};
 use alloy_lex::{Place, Text, Token};
+use alloy_syntax::halt::{Halt, Tokens, seen_tokens};
 use alloy_syntax::reading::Form;
 use alloy_syntax::tree::Model;
 use alloy_syntax::{Class, Seen, is_class};
@@ -49,6 +49,7 @@ fn word_of(form: Form) -> &'static str
         Form::Appended => "appended",
         Form::ArrowMultiplicity => "arrow_multiplicity",
         Form::Several => "several",
+        Form::Open => "open",
     }
 }
 
@@ -83,14 +84,14 @@ fn refused_at(alloc: Global, all: &[Token], rest: Tokens) -> Result<ParseFault, 
     }
 }
 
-// The fault where the tokens that are left lie too deep.
-fn deep_at(all: &[Token], rest: Tokens) -> ParseFault
+// Where the next token stands, or just behind the last.
+fn place_of(all: &[Token], rest: Tokens) -> Place
     requires { AreSized all.now }
-    ensures { result ≡ fault_of all.now (too_deep rest.now) }
+    ensures { result ≡ place_of all.now rest.now }
 {
     match rest {
-        [] => ParseFault::TooDeep { place: end_of(all) },
-        [token, ..] => ParseFault::TooDeep { place: token.place },
+        [] => end_of(all),
+        [token, ..] => token.place,
     }
 }
 
@@ -102,8 +103,10 @@ fn fault_at(alloc: Global, all: &[Token], halt: Halt) -> ParseFault
     match halt {
         Halt::Memory => ParseFault::Memory,
         Halt::Refused(rest) => refused_at(alloc, all, rest).unwrap_or(ParseFault::Memory),
-        Halt::Deep(rest) => deep_at(all, rest),
-        Halt::Unsupported(form, place) => unsupported(alloc, form, place).unwrap_or(
+        Halt::Deep(rest) => ParseFault::TooDeep {
+            place: place_of(all, rest),
+        },
+        Halt::Unsupported(form, rest) => unsupported(alloc, form, place_of(all, rest)).unwrap_or(
             ParseFault::Memory,
         ),
     }

@@ -1,38 +1,48 @@
 // Readers of a field's bound. Each takes how many brackets more may nest (`room`) and where the bound stands.
 ghost use Rattle.std.specs.Prelude.{◌≡◌, ◌<◌, ◌≤◌, length, map, IfOk, if◌then◌else◌, Ok};
 ghost use Rattle.alloy_syntax.specs.Readers.{place_at};
-ghost use Rattle.alloy_syntax.specs.Bounds.{is_whole, word_round, operand_in, standing_beside, first_place, refuse_word, side_over, begins_bound_arrow, bound_arrow_over, more_bound_arrows, bound_arrows_over, operand_over, bound_over, begins_bound, bound_within};
+ghost use Rattle.alloy_syntax.specs.Bounds.{is_whole, word_round, operand_in, standing_beside, word_beside, refuse_word, side_over, begins_bound_arrow, bound_arrow_over, more_bound_arrows, bound_arrows_over, operand_over, bound_over, begins_bound, bound_within};
 ghost use Rattle.alloy_syntax.specs.View.{arrow_view};
-ghost use Rattle.alloy_cursor.specs.Gives.{Gives};
-ghost use Rattle.alloy_parse.specs.Bounds.{bounded, operand_view, operands_over};
+ghost use Rattle.alloy_syntax.specs.Gives.{Gives};
+ghost use Rattle.alloy_parse.specs.Bounds.{standing_view, word_view, bounded, operand_view, operands_over};
 
-use alloy_cursor::cursor::{after, after_mark, expect, is_mark, mark_at, name, next_is, place_at};
-use alloy_cursor::halt::{Halt, Tokens};
 use alloy_lex::Place;
 use alloy_syntax::Class;
-use alloy_syntax::reading::{Form, Standing};
-use alloy_syntax::tree::{Bound, BoundArrow, Mark};
+use alloy_syntax::cursor::{after, after_mark, expect, is_mark, mark_at, name, next_is, place_at};
+use alloy_syntax::halt::{Halt, Tokens};
+use alloy_syntax::reading::Form;
+use alloy_syntax::tree::{Bound, BoundArrow};
 use std::alloc::Global;
 
-/// A bound that was read: its tree, the place of its first multiplicity word, and whether it has an arrow.
+/// Where a part of a field's bound stands.
+#[derive(Clone, Copy)]
+pub enum Standing<'a> {
+    /// It may yet be the whole bound.
+    Whole,
+    Part,
+    /// It is a side of an arrow that has a multiplicity word, the first of which these tokens begin with.
+    Beside(Tokens<'a>),
+}
+
+/// A bound that was read: its tree, the tokens from its first multiplicity word, and whether it has an arrow.
 #[derive(Drop)]
-pub struct ReadBound {
+pub struct ReadBound<'a> {
     pub bound: Bound,
-    pub marked: Option<Place>,
+    pub marked: Option<Tokens<'a>>,
     pub has_arrow: bool,
 }
 
-// What stands before an arrow: where its bound stands, the place of a word on the left, and whether an arrow is there.
+// What stands before an arrow: where its bound stands, a word on the left, and whether an arrow is there.
 #[derive(Clone, Copy)]
-struct Before {
-    standing: Standing,
-    marked: Option<Place>,
+struct Before<'a> {
+    standing: Standing<'a>,
+    marked: Option<Tokens<'a>>,
     has_arrow: bool,
 }
 
 #[tactic(auto, unfolding(alloy_syntax::specs::Bounds::is_whole))]
 fn is_whole(standing: Standing) -> bool
-    ensures { result ≡ is_whole standing }
+    ensures { result ≡ is_whole (standing_view standing.entry) }
 {
     match standing {
         Standing::Whole => true,
@@ -42,62 +52,62 @@ fn is_whole(standing: Standing) -> bool
 
 // The word of the arrow round a bound.
 #[tactic(auto, unfolding(alloy_syntax::specs::Bounds::word_round))]
-fn word_round(standing: Standing) -> Option<Place>
-    ensures { result ≡ word_round standing }
+fn word_round<'a>(standing: Standing<'a>) -> Option<Tokens<'a>>
+    ensures { word_view result ≡ word_round (standing_view standing.entry) }
 {
     match standing {
         Standing::Whole | Standing::Part => None,
-        Standing::Beside(place) => Some(place),
+        Standing::Beside(word) => Some(word),
     }
 }
 
 // Where an operand of `+` stands.
 #[tactic(auto, unfolding(alloy_syntax::specs::Bounds::operand_in))]
-fn operand_in(standing: Standing) -> Standing
-    ensures { result ≡ operand_in standing }
+fn operand_in<'a>(standing: Standing<'a>) -> Standing<'a>
+    ensures { standing_view result ≡ operand_in (standing_view standing.entry) }
 {
     match standing {
         Standing::Whole | Standing::Part => Standing::Part,
-        Standing::Beside(place) => Standing::Beside(place),
+        Standing::Beside(word) => Standing::Beside(word),
     }
 }
 
-// Where the right side of an arrow stands, the first of whose words is at that place.
+// Where the right side of an arrow stands, the first of whose words is that.
 #[tactic(auto, unfolding(alloy_syntax::specs::Bounds::standing_beside))]
-fn standing_beside(marked: Option<Place>) -> Standing
-    ensures { result ≡ standing_beside marked }
+fn standing_beside<'a>(marked: Option<Tokens<'a>>) -> Standing<'a>
+    ensures { standing_view result ≡ standing_beside (word_view marked.entry) }
 {
     match marked {
         None => Standing::Part,
-        Some(place) => Standing::Beside(place),
+        Some(word) => Standing::Beside(word),
     }
 }
 
-// The place of the first of two words.
-#[tactic(auto, unfolding(alloy_syntax::specs::Bounds::first_place))]
-fn first_place(left: Option<Mark>, right: Option<Mark>) -> Option<Place>
-    ensures { result ≡ first_place left right }
+// The first multiplicity word beside an arrow.
+#[tactic(auto, unfolding(alloy_syntax::specs::Bounds::word_beside))]
+fn word_beside<'a>(tokens: Tokens<'a>) -> Option<Tokens<'a>>
+    ensures { word_view result ≡ word_beside tokens.now }
 {
-    match (left, right) {
-        (Some(mark), _) => Some(mark.place),
-        (None, Some(mark)) => Some(mark.place),
-        (None, None) => None,
+    if is_mark(tokens) {
+        return Some(tokens);
     }
+    let behind = after(tokens);
+    if is_mark(behind) { Some(behind) } else { None }
 }
 
 // A word that may not stand there.
-fn refuse_word<'a>(marked: Option<Place>) -> Result<(), Halt<'a>>
-    ensures { Gives (λ x. tt) result (refuse_word marked) }
+fn refuse_word<'a>(marked: Option<Tokens<'a>>) -> Result<(), Halt<'a>>
+    ensures { Gives (λ x. tt) result (refuse_word (word_view marked.entry)) }
 {
     match marked {
         None => Ok(()),
-        Some(place) => Err(Halt::Unsupported(Form::ArrowMultiplicity, place)),
+        Some(word) => Err(Halt::Unsupported(Form::ArrowMultiplicity, word)),
     }
 }
 
 // A word that may stand there only where that is said.
-fn refuse_unless<'a>(allowed: bool, marked: Option<Place>) -> Result<(), Halt<'a>>
-    ensures { Gives (λ x. tt) result (if allowed then Ok tt else refuse_word marked) }
+fn refuse_unless<'a>(allowed: bool, marked: Option<Tokens<'a>>) -> Result<(), Halt<'a>>
+    ensures { Gives (λ x. tt) result (if allowed then Ok tt else refuse_word (word_view marked.entry)) }
 {
     if allowed { Ok(()) } else { refuse_word(marked) }
 }
@@ -124,9 +134,9 @@ fn side<'a>(
     alloc: Global,
     tokens: Tokens<'a>,
     room: u32,
-    standing: Standing,
-) -> Result<(ReadBound, Tokens<'a>), Halt<'a>>
-    ensures value { Gives (λ x. (bounded x.0, x.1.now)) result (side_over (bound_within room) standing tokens.now) }
+    standing: Standing<'a>,
+) -> Result<(ReadBound<'a>, Tokens<'a>), Halt<'a>>
+    ensures value { Gives (λ x. (bounded x.0, x.1.now)) result (side_over (bound_within room) (standing_view standing.entry) tokens.now) }
     ensures shorter { IfOk result (λ x. length x.1.now < length tokens.now) }
 {
     if !next_is(tokens, Class::LeftParen) {
@@ -155,9 +165,9 @@ fn bound_arrow<'a>(
     alloc: Global,
     tokens: Tokens<'a>,
     room: u32,
-    before: Before,
+    before: Before<'a>,
 ) -> Result<(BoundArrow, Tokens<'a>), Halt<'a>>
-    ensures value { Gives (λ x. (arrow_view x.0, x.1.now)) result (bound_arrow_over (bound_within room) before.standing before.marked before.has_arrow tokens.now) }
+    ensures value { Gives (λ x. (arrow_view x.0, x.1.now)) result (bound_arrow_over (bound_within room) (standing_view before.entry.standing) (word_view before.entry.marked) before.entry.has_arrow tokens.now) }
     ensures shorter { IfOk result (λ x. length x.1.now < length tokens.now) }
 {
     let (place, rest) = expect(after_mark(tokens), Class::Arrow)?;
@@ -165,7 +175,7 @@ fn bound_arrow<'a>(
     refuse_word(before.marked)?;
     let left = mark_at(tokens);
     let right = mark_at(rest);
-    let marked = first_place(left, right);
+    let marked = word_beside(tokens);
     refuse_unless(is_whole(before.standing) && !before.has_arrow, marked)?;
     let (side, rest) = side(alloc, after_mark(rest), room, standing_beside(marked))?;
     let arrow = BoundArrow {
@@ -177,22 +187,23 @@ fn bound_arrow<'a>(
     Ok((arrow, rest))
 }
 
-// The first arrow and the others.
+// The first arrow, with the first word beside it, and the others.
 #[cycle(bounds)]
 #[tactic(auto, unfolding(alloy_syntax::specs::Bounds::more_bound_arrows))]
 fn more_bound_arrows<'a>(
     alloc: Global,
     first: BoundArrow,
+    marked: Option<Tokens<'a>>,
     tokens: Tokens<'a>,
     room: u32,
-    standing: Standing,
+    standing: Standing<'a>,
 ) -> Result<(Vec<BoundArrow>, Tokens<'a>), Halt<'a>>
-    ensures value { Gives (λ x. (map arrow_view x.0.items, x.1.now)) result (more_bound_arrows (bound_within room) standing (arrow_view first) tokens.now) }
+    ensures value { Gives (λ x. (map arrow_view x.0.items, x.1.now)) result (more_bound_arrows (bound_within room) (standing_view standing.entry) (word_view marked.entry) (arrow_view first) tokens.now) }
     ensures shorter { IfOk result (λ x. length x.1.now ≤ length tokens.now) }
 {
     let before = Before {
         standing,
-        marked: first_place(first.left, first.right),
+        marked,
         has_arrow: true,
     };
     let mut all = Vec::new(alloc);
@@ -213,9 +224,9 @@ fn bound_arrows<'a>(
     alloc: Global,
     tokens: Tokens<'a>,
     room: u32,
-    standing: Standing,
-) -> Result<(ReadBound, Tokens<'a>), Halt<'a>>
-    ensures value { Gives (λ x. (bounded x.0, x.1.now)) result (bound_arrows_over (bound_within room) standing tokens.now) }
+    standing: Standing<'a>,
+) -> Result<(ReadBound<'a>, Tokens<'a>), Halt<'a>>
+    ensures value { Gives (λ x. (bounded x.0, x.1.now)) result (bound_arrows_over (bound_within room) (standing_view standing.entry) tokens.now) }
     ensures shorter { IfOk result (λ x. length x.1.now < length tokens.now) }
 {
     let (first, rest) = side(alloc, tokens, room, standing)?;
@@ -227,9 +238,9 @@ fn bound_arrows<'a>(
         marked: first.marked,
         has_arrow: first.has_arrow,
     };
+    let marked = word_beside(rest);
     let (arrow, rest) = bound_arrow(alloc, rest, room, before)?;
-    let marked = first_place(arrow.left, arrow.right);
-    let (arrows, rest) = more_bound_arrows(alloc, arrow, rest, room, standing)?;
+    let (arrows, rest) = more_bound_arrows(alloc, arrow, marked, rest, room, standing)?;
     let read = ReadBound {
         bound: Bound::Arrows(Box::new(alloc, first.bound)?, arrows),
         marked,
@@ -245,9 +256,9 @@ fn operand<'a>(
     alloc: Global,
     tokens: Tokens<'a>,
     room: u32,
-    standing: Standing,
-) -> Result<(ReadBound, Tokens<'a>), Halt<'a>>
-    ensures value { Gives (λ x. ((place_at tokens.now, bounded x.0), x.1.now)) result (operand_over (bound_within room) standing tokens.now) }
+    standing: Standing<'a>,
+) -> Result<(ReadBound<'a>, Tokens<'a>), Halt<'a>>
+    ensures value { Gives (λ x. ((place_at tokens.now, bounded x.0), x.1.now)) result (operand_over (bound_within room) (standing_view standing.entry) tokens.now) }
     ensures shorter { IfOk result (λ x. length x.1.now < length tokens.now) }
 {
     bound_arrows(alloc, after(tokens), room, operand_in(standing))
@@ -260,9 +271,9 @@ fn operands<'a>(
     alloc: Global,
     tokens: Tokens<'a>,
     room: u32,
-    standing: Standing,
+    standing: Standing<'a>,
 ) -> Result<(Vec<(Place, Bound)>, bool, Tokens<'a>), Halt<'a>>
-    ensures value { Gives (λ x. ((map operand_view x.0.items, x.1), x.2.now)) result (operands_over (bound_within room) standing tokens.now) }
+    ensures value { Gives (λ x. ((map operand_view x.0.items, x.1), x.2.now)) result (operands_over (bound_within room) (standing_view standing.entry) tokens.now) }
     ensures shorter { IfOk result (λ x. length x.2.now ≤ length tokens.now) }
 {
     let mut all = Vec::new(alloc);
@@ -284,9 +295,9 @@ fn bound<'a>(
     alloc: Global,
     tokens: Tokens<'a>,
     room: u32,
-    standing: Standing,
-) -> Result<(ReadBound, Tokens<'a>), Halt<'a>>
-    ensures value { Gives (λ x. (bounded x.0, x.1.now)) result (bound_over (bound_within room) standing tokens.now) }
+    standing: Standing<'a>,
+) -> Result<(ReadBound<'a>, Tokens<'a>), Halt<'a>>
+    ensures value { Gives (λ x. (bounded x.0, x.1.now)) result (bound_over (bound_within room) (standing_view standing.entry) tokens.now) }
     ensures shorter { IfOk result (λ x. length x.1.now < length tokens.now) }
 {
     let (first, rest) = bound_arrows(alloc, tokens, room, standing)?;
@@ -310,9 +321,9 @@ pub fn bound_within<'a>(
     alloc: Global,
     tokens: Tokens<'a>,
     room: u32,
-    standing: Standing,
-) -> Result<(ReadBound, Tokens<'a>), Halt<'a>>
-    ensures value { Gives (λ x. (bounded x.0, x.1.now)) result (bound_within room standing tokens.now) }
+    standing: Standing<'a>,
+) -> Result<(ReadBound<'a>, Tokens<'a>), Halt<'a>>
+    ensures value { Gives (λ x. (bounded x.0, x.1.now)) result (bound_within room (standing_view standing.entry) tokens.now) }
     ensures shorter { IfOk result (λ x. length x.1.now < length tokens.now) }
 {
     if room > 0 {

@@ -1,37 +1,34 @@
 // Readers of paragraphs, from signatures to commands, and of the whole model.
 ghost use Rattle.std.specs.Prelude.{◌≡◌, ◌<◌, ◌≤◌, length, map, option_map, IfOk};
-ghost use Rattle.alloy_syntax.specs.Readers.{many, others};
-ghost use Rattle.alloy_syntax.specs.Paragraphs.{own_block, field_at, fields_at, parent_at, is_qualifier, qualifier_at, after_qualifier, after_abstract, qualified, signatures_at, fact_at, parameters_to, parameter_list, predicate_at, assertion_at, entry_at, entries_at, exceptions_at, has_default, scope_at, expected_at, label_at, target_at, command_at, item_at, is_left, heading_at, model_of};
-ghost use Rattle.alloy_syntax.specs.View.{declaration_view, field_view, block_view, target_view, scope_view, item_view, model_view};
-ghost use Rattle.alloy_cursor.specs.Gives.{Gives};
+ghost use Rattle.alloy_syntax.specs.Readers.{next_is, many, others};
+ghost use Rattle.alloy_syntax.specs.Paragraphs.{depth_limit, own_block, field_at, fields_at, parent_at, is_qualifier, qualifier_at, after_qualifier, after_abstract, qualified, signatures_at, fact_at, parameters_to, parameter_list, predicate_at, function_at, assertion_at, entry_at, entries_at, exceptions_at, has_default, scope_at, expected_at, label_at, target_at, command_at, paragraph_at, is_left, heading_at, ordering_at, open_at, model_of};
+ghost use Rattle.alloy_syntax.specs.View.{declaration_view, field_view, block_view, target_view, scope_view, paragraph_view, model_view};
+ghost use Rattle.alloy_syntax.specs.Gives.{Gives};
 
-use crate::bounds::bound_within;
-use alloy_cursor::cursor::{
-    after, after_mark, expect, is_mark, mark_at, name, names, next_is, number, place_at,
-};
-use alloy_cursor::halt::{Halt, Tokens};
+use crate::bounds::{Standing, bound_within};
 use alloy_lex::Place;
 use alloy_nodes::nodes;
 use alloy_syntax::Class;
-use alloy_syntax::reading::{Form, Standing};
+use alloy_syntax::cursor::{
+    after, after_mark, expect, is_mark, mark_at, name, names, next_is, number, path, place_at,
+};
+use alloy_syntax::halt::{Halt, Tokens};
+use alloy_syntax::reading::Form;
 use alloy_syntax::tree::{
-    Block, Command, CommandKind, Declaration, Entry, Field, Manner, Mark, Model, Name, Number,
-    Paragraph, Parent, Scope, Signatures, Target,
+    Block, Command, CommandKind, Declaration, Entry, Field, Function, Manner, Mark, Model, Name,
+    Number, Open, Paragraph, Parent, Scope, Signatures, Target,
 };
 use std::alloc::Global;
 
-// So many constructs may nest, from the paragraph on.
+// So many constructs may nest, from the paragraph on: the brackets of its own are the first.
 const DEPTH_LIMIT: u32 = 200;
-
-// A paragraph's own brackets don't count.
-const OWN_DEPTH: u32 = DEPTH_LIMIT + 1;
 
 // A paragraph's own block.
 fn own_block<'a>(alloc: Global, tokens: Tokens<'a>) -> Result<(Block, Tokens<'a>), Halt<'a>>
-    ensures value { Gives (λ x. (block_view x.0, x.1.now)) result (own_block tokens.now) }
+    ensures value { Gives (λ x. (block_view x.0, x.1.now)) result (own_block depth_limit tokens.now) }
     ensures shorter { IfOk result (λ x. length x.1.now < length tokens.now) }
 {
-    nodes::block(alloc, tokens, OWN_DEPTH)
+    nodes::block(alloc, tokens, DEPTH_LIMIT)
 }
 
 // ---- signatures
@@ -39,13 +36,13 @@ fn own_block<'a>(alloc: Global, tokens: Tokens<'a>) -> Result<(Block, Tokens<'a>
 // Names with one bound.
 #[tactic(auto, unfolding(alloy_syntax::specs::Paragraphs::field_at))]
 fn field<'a>(alloc: Global, tokens: Tokens<'a>) -> Result<(Field, Tokens<'a>), Halt<'a>>
-    ensures value { Gives (λ x. (field_view x.0, x.1.now)) result (field_at tokens.now) }
+    ensures value { Gives (λ x. (field_view x.0, x.1.now)) result (field_at depth_limit tokens.now) }
     ensures shorter { IfOk result (λ x. length x.1.now < length tokens.now) }
 {
     let (names, rest) = names(alloc, tokens)?;
     let (_, rest) = expect(rest, Class::Colon)?;
     let mark = mark_at(rest);
-    let (read, rest) = bound_within(alloc, after_mark(rest), OWN_DEPTH, Standing::Whole)?;
+    let (read, rest) = bound_within(alloc, after_mark(rest), DEPTH_LIMIT, Standing::Whole)?;
     let field = Field {
         names,
         mark,
@@ -60,7 +57,7 @@ fn more_fields<'a>(
     first: Field,
     tokens: Tokens<'a>,
 ) -> Result<(Vec<Field>, Tokens<'a>), Halt<'a>>
-    ensures value { Gives (λ x. (map field_view x.0.items, x.1.now)) result (others field_at (field_view first) tokens.now) }
+    ensures value { Gives (λ x. (map field_view x.0.items, x.1.now)) result (others (field_at depth_limit) (field_view first) tokens.now) }
     ensures shorter { IfOk result (λ x. length x.1.now ≤ length tokens.now) }
 {
     let mut all = Vec::new(alloc);
@@ -77,7 +74,7 @@ fn more_fields<'a>(
 // The fields of a signature, if it has any.
 #[tactic(auto, unfolding(alloy_syntax::specs::Paragraphs::fields_at, alloy_syntax::specs::Readers::listed))]
 fn fields<'a>(alloc: Global, tokens: Tokens<'a>) -> Result<(Vec<Field>, Tokens<'a>), Halt<'a>>
-    ensures value { Gives (λ x. (map field_view x.0.items, x.1.now)) result (fields_at tokens.now) }
+    ensures value { Gives (λ x. (map field_view x.0.items, x.1.now)) result (fields_at depth_limit tokens.now) }
     ensures shorter { IfOk result (λ x. length x.1.now ≤ length tokens.now) }
 {
     if next_is(tokens, Class::RightBrace) {
@@ -182,7 +179,7 @@ fn qualified<'a>(tokens: Tokens<'a>) -> Qualifiers<'a>
 // Signatures. A block behind them is refused.
 #[tactic(auto, unfolding(alloy_syntax::specs::Paragraphs::signatures_at))]
 fn signatures<'a>(alloc: Global, tokens: Tokens<'a>) -> Result<(Paragraph, Tokens<'a>), Halt<'a>>
-    ensures value { Gives (λ x. (item_view x.0, x.1.now)) result (signatures_at tokens.now) }
+    ensures value { Gives (λ x. (paragraph_view x.0, x.1.now)) result (signatures_at depth_limit tokens.now) }
     ensures shorter { IfOk result (λ x. length x.1.now < length tokens.now) }
 {
     let front = qualified(tokens);
@@ -193,7 +190,7 @@ fn signatures<'a>(alloc: Global, tokens: Tokens<'a>) -> Result<(Paragraph, Token
     let (fields, rest) = fields(alloc, rest)?;
     let (_, rest) = expect(rest, Class::RightBrace)?;
     if next_is(rest, Class::LeftBrace) {
-        return Err(Halt::Unsupported(Form::Appended, place_at(rest)));
+        return Err(Halt::Unsupported(Form::Appended, rest));
     }
     let declared = Signatures {
         is_abstract: front.is_abstract,
@@ -205,11 +202,11 @@ fn signatures<'a>(alloc: Global, tokens: Tokens<'a>) -> Result<(Paragraph, Token
     Ok((Paragraph::Signatures(declared), rest))
 }
 
-// ---- facts, predicates and assertions, behind their first word
+// ---- facts, predicates, functions and assertions, behind their first word
 
 #[tactic(auto, unfolding(alloy_syntax::specs::Paragraphs::fact_at))]
 fn fact<'a>(alloc: Global, tokens: Tokens<'a>) -> Result<(Paragraph, Tokens<'a>), Halt<'a>>
-    ensures value { Gives (λ x. (item_view x.0, x.1.now)) result (fact_at tokens.now) }
+    ensures value { Gives (λ x. (paragraph_view x.0, x.1.now)) result (fact_at depth_limit tokens.now) }
     ensures shorter { IfOk result (λ x. length x.1.now < length tokens.now) }
 {
     let rest = if next_is(tokens, Class::Name) {
@@ -222,19 +219,18 @@ fn fact<'a>(alloc: Global, tokens: Tokens<'a>) -> Result<(Paragraph, Tokens<'a>)
 }
 
 // Parameters, and the bracket that closes them.
-#[tactic(auto, unfolding(alloy_syntax::specs::Paragraphs::parameters_at))]
 fn parameters_to<'a>(
     alloc: Global,
     tokens: Tokens<'a>,
     closing: Class,
 ) -> Result<(Vec<Declaration>, Tokens<'a>), Halt<'a>>
-    ensures value { Gives (λ x. (map declaration_view x.0.items, x.1.now)) result (parameters_to closing tokens.now) }
+    ensures value { Gives (λ x. (map declaration_view x.0.items, x.1.now)) result (parameters_to depth_limit closing tokens.now) }
     ensures shorter { IfOk result (λ x. length x.1.now ≤ length tokens.now) }
 {
     if next_is(tokens, closing) {
         return Ok((Vec::new(alloc), after(tokens)));
     }
-    let (all, rest) = nodes::declarations(alloc, tokens, DEPTH_LIMIT, false)?;
+    let (all, rest) = nodes::declarations(alloc, tokens, DEPTH_LIMIT - 1, false)?;
     let (_, rest) = expect(rest, closing)?;
     Ok((all, rest))
 }
@@ -245,7 +241,7 @@ fn parameters<'a>(
     alloc: Global,
     tokens: Tokens<'a>,
 ) -> Result<(Vec<Declaration>, Tokens<'a>), Halt<'a>>
-    ensures value { Gives (λ x. (map declaration_view x.0.items, x.1.now)) result (parameter_list tokens.now) }
+    ensures value { Gives (λ x. (map declaration_view x.0.items, x.1.now)) result (parameter_list depth_limit tokens.now) }
     ensures shorter { IfOk result (λ x. length x.1.now ≤ length tokens.now) }
 {
     if next_is(tokens, Class::LeftBracket) {
@@ -259,7 +255,7 @@ fn parameters<'a>(
 
 #[tactic(auto, unfolding(alloy_syntax::specs::Paragraphs::predicate_at))]
 fn predicate<'a>(alloc: Global, tokens: Tokens<'a>) -> Result<(Paragraph, Tokens<'a>), Halt<'a>>
-    ensures value { Gives (λ x. (item_view x.0, x.1.now)) result (predicate_at tokens.now) }
+    ensures value { Gives (λ x. (paragraph_view x.0, x.1.now)) result (predicate_at depth_limit tokens.now) }
     ensures shorter { IfOk result (λ x. length x.1.now < length tokens.now) }
 {
     let (name, rest) = name(alloc, tokens)?;
@@ -268,9 +264,30 @@ fn predicate<'a>(alloc: Global, tokens: Tokens<'a>) -> Result<(Paragraph, Tokens
     Ok((Paragraph::Predicate(name, parameters, body), rest))
 }
 
+#[tactic(auto, unfolding(alloy_syntax::specs::Paragraphs::function_at))]
+fn function<'a>(alloc: Global, tokens: Tokens<'a>) -> Result<(Paragraph, Tokens<'a>), Halt<'a>>
+    ensures value { Gives (λ x. (paragraph_view x.0, x.1.now)) result (function_at depth_limit tokens.now) }
+    ensures shorter { IfOk result (λ x. length x.1.now < length tokens.now) }
+{
+    let (name, rest) = name(alloc, tokens)?;
+    let (parameters, rest) = parameters(alloc, rest)?;
+    let (_, rest) = expect(rest, Class::Colon)?;
+    let mark = mark_at(rest);
+    let (range, rest) = nodes::expression(alloc, after_mark(rest), DEPTH_LIMIT)?;
+    let (body, rest) = nodes::braced(alloc, rest, DEPTH_LIMIT)?;
+    let function = Function {
+        name,
+        parameters,
+        mark,
+        range,
+        body,
+    };
+    Ok((Paragraph::Function(function), rest))
+}
+
 #[tactic(auto, unfolding(alloy_syntax::specs::Paragraphs::assertion_at))]
 fn assertion<'a>(alloc: Global, tokens: Tokens<'a>) -> Result<(Paragraph, Tokens<'a>), Halt<'a>>
-    ensures value { Gives (λ x. (item_view x.0, x.1.now)) result (assertion_at tokens.now) }
+    ensures value { Gives (λ x. (paragraph_view x.0, x.1.now)) result (assertion_at depth_limit tokens.now) }
     ensures shorter { IfOk result (λ x. length x.1.now < length tokens.now) }
 {
     let (name, rest) = name(alloc, tokens)?;
@@ -396,7 +413,7 @@ fn label<'a>(alloc: Global, tokens: Tokens<'a>) -> Result<(Option<Name>, Tokens<
 // What a command runs or checks: a name, or a block, which may have a label.
 #[tactic(auto, unfolding(alloy_syntax::specs::Paragraphs::target_at))]
 fn target<'a>(alloc: Global, tokens: Tokens<'a>) -> Result<(Target, Tokens<'a>), Halt<'a>>
-    ensures value { Gives (λ x. (target_view x.0, x.1.now)) result (target_at tokens.now) }
+    ensures value { Gives (λ x. (target_view x.0, x.1.now)) result (target_at depth_limit tokens.now) }
     ensures shorter { IfOk result (λ x. length x.1.now < length tokens.now) }
 {
     if next_is(tokens, Class::Name) && !next_is(after(tokens), Class::LeftBrace) {
@@ -415,7 +432,7 @@ fn command<'a>(
     kind: CommandKind,
     place: Place,
 ) -> Result<(Paragraph, Tokens<'a>), Halt<'a>>
-    ensures value { Gives (λ x. (item_view x.0, x.1.now)) result (command_at kind place tokens.now) }
+    ensures value { Gives (λ x. (paragraph_view x.0, x.1.now)) result (command_at depth_limit kind place tokens.now) }
     ensures shorter { IfOk result (λ x. length x.1.now < length tokens.now) }
 {
     let (target, rest) = target(alloc, tokens)?;
@@ -433,9 +450,9 @@ fn command<'a>(
 
 // ---- a model
 
-#[tactic(auto, unfolding(alloy_syntax::specs::Paragraphs::item_at))]
+#[tactic(auto, unfolding(alloy_syntax::specs::Paragraphs::paragraph_at))]
 fn paragraph<'a>(alloc: Global, tokens: Tokens<'a>) -> Result<(Paragraph, Tokens<'a>), Halt<'a>>
-    ensures value { Gives (λ x. (item_view x.0, x.1.now)) result (item_at tokens.now) }
+    ensures value { Gives (λ x. (paragraph_view x.0, x.1.now)) result (paragraph_at depth_limit tokens.now) }
     ensures shorter { IfOk result (λ x. length x.1.now < length tokens.now) }
 {
     if next_is(tokens, Class::Fact) {
@@ -443,6 +460,9 @@ fn paragraph<'a>(alloc: Global, tokens: Tokens<'a>) -> Result<(Paragraph, Tokens
     }
     if next_is(tokens, Class::Pred) {
         return predicate(alloc, after(tokens));
+    }
+    if next_is(tokens, Class::Fun) {
+        return function(alloc, after(tokens));
     }
     if next_is(tokens, Class::Assert) {
         return assertion(alloc, after(tokens));
@@ -467,7 +487,7 @@ fn all_paragraphs<'a>(
     alloc: Global,
     tokens: Tokens<'a>,
 ) -> Result<(Vec<Paragraph>, Tokens<'a>), Halt<'a>>
-    ensures { Gives (λ x. (map item_view x.0.items, x.1.now)) result (many is_left item_at tokens.now) }
+    ensures { Gives (λ x. (map paragraph_view x.0.items, x.1.now)) result (many is_left (paragraph_at depth_limit) tokens.now) }
 {
     let mut all = Vec::new(alloc);
     let mut rest = tokens;
@@ -491,15 +511,59 @@ fn heading<'a>(alloc: Global, tokens: Tokens<'a>) -> Result<(Option<Name>, Token
     Ok((None, tokens))
 }
 
+// The module of an `open`, which is that of orderings.
+#[tactic(auto, unfolding(alloy_syntax::specs::Paragraphs::ordering_at))]
+fn ordering<'a>(alloc: Global, tokens: Tokens<'a>) -> Result<(Name, Tokens<'a>), Halt<'a>>
+    ensures value { Gives (λ x. (x.0, x.1.now)) result (ordering_at tokens.now) }
+    ensures shorter { IfOk result (λ x. length x.1.now < length tokens.now) }
+{
+    let (module, rest) = path(alloc, tokens)?;
+    if module.text.text() == "util/ordering" {
+        Ok((module, rest))
+    } else {
+        Err(Halt::Unsupported(Form::Open, tokens))
+    }
+}
+
+// An ordering, with its first word.
+#[tactic(auto, unfolding(alloy_syntax::specs::Paragraphs::open_at))]
+fn open<'a>(alloc: Global, tokens: Tokens<'a>) -> Result<(Open, Tokens<'a>), Halt<'a>>
+    ensures value { Gives (λ x. (x.0, x.1.now)) result (open_at tokens.now) }
+    ensures shorter { IfOk result (λ x. length x.1.now < length tokens.now) }
+{
+    let (_, rest) = ordering(alloc, after(tokens))?;
+    let (_, rest) = expect(rest, Class::LeftBracket)?;
+    let (signature, rest) = name(alloc, rest)?;
+    let (_, rest) = expect(rest, Class::RightBracket)?;
+    let (_, rest) = expect(rest, Class::As)?;
+    let (alias, rest) = name(alloc, rest)?;
+    Ok((Open { signature, alias }, rest))
+}
+
+fn opens<'a>(alloc: Global, tokens: Tokens<'a>) -> Result<(Vec<Open>, Tokens<'a>), Halt<'a>>
+    ensures { Gives (λ x. (x.0.items, x.1.now)) result (many (next_is Class.Open) open_at tokens.now) }
+{
+    let mut all = Vec::new(alloc);
+    let mut rest = tokens;
+    'each: while next_is(rest, Class::Open) {
+        let (another, behind) = open(alloc, rest)?;
+        all.push(another)?;
+        rest = behind;
+    }
+    Ok((all, rest))
+}
+
 /// The model that the tokens are, or where reading stops.
-#[tactic(auto, unfolding(alloy_syntax::specs::Paragraphs::model_of))]
+#[tactic(auto, unfolding(alloy_syntax::specs::Paragraphs::model_at))]
 pub fn model<'a>(alloc: Global, tokens: Tokens<'a>) -> Result<Model, Halt<'a>>
     ensures { Gives model_view result (model_of tokens.now) }
 {
     let (heading, rest) = heading(alloc, tokens)?;
+    let (opens, rest) = opens(alloc, rest)?;
     let (paragraphs, _) = all_paragraphs(alloc, rest)?;
     Ok(Model {
         heading,
+        opens,
         paragraphs,
     })
 }

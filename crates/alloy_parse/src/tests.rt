@@ -3,8 +3,8 @@ use crate::{ParseFault, parse};
 use alloy_lex::{Place, lex};
 use alloy_syntax::tree::{
     Binding, Block, Bound, BoundArrow, Command, CommandKind, Comparison, Constant, Declaration,
-    Field, Link, Manner, Mark, Model, Multiplicity, Name, Node, Operator, Paragraph, Prefix,
-    Quantifier, Scope, Signatures, Step, Target,
+    Field, Function, Link, Manner, Mark, Model, Multiplicity, Name, Node, Operator, Paragraph,
+    Prefix, Quantifier, Scope, Signatures, Step, Target,
 };
 use std::alloc::Global;
 use std::fmt::Write;
@@ -361,6 +361,16 @@ fn push_formulas(out: &mut String, block: &Block) -> Result<(), Fail> {
     push_block(out, &block.formulas)
 }
 
+fn push_function(out: &mut String, function: &Function) -> Result<(), Fail> {
+    out.push_str("fun ")?;
+    out.push_str(function.name.text.text())?;
+    push_declarations(out, &function.parameters)?;
+    out.push_str(": ")?;
+    out.push_str(mark_word(function.mark))?;
+    push_node(out, &function.range)?;
+    push_around(out, " {", &function.body, "}")
+}
+
 fn push_paragraph(out: &mut String, paragraph: &Paragraph) -> Result<(), Fail> {
     match paragraph {
         Paragraph::Signatures(signatures) => push_signatures(out, signatures),
@@ -375,6 +385,7 @@ fn push_paragraph(out: &mut String, paragraph: &Paragraph) -> Result<(), Fail> {
             out.push_str(" ")?;
             push_formulas(out, block)
         }
+        Paragraph::Function(function) => push_function(out, function),
         Paragraph::Assertion(name, block) => {
             out.push_str("assert ")?;
             out.push_str(name.text.text())?;
@@ -391,6 +402,13 @@ fn model_line(alloc: Global, model: &Model) -> Result<String, Fail> {
     if let Some(heading) = &model.heading {
         out.push_str("module ")?;
         out.push_str(heading.text.text())?;
+        out.push_str(" / ")?;
+    }
+    for open in &model.opens {
+        out.push_str("open ")?;
+        out.push_str(open.signature.text.text())?;
+        out.push_str(" as ")?;
+        out.push_str(open.alias.text.text())?;
         out.push_str(" / ")?;
     }
     for (place, paragraph) in model.paragraphs.iter().enumerate() {
@@ -485,6 +503,10 @@ fn reads_formulas_by_the_levels_of_the_grammar(rt: HostRuntime) -> Result<(), Fa
         ("a !b", "a; (! b)"),
         ("a lone b", "a; (lone b)"),
         ("none univ iden { a }", "none; univ; iden; {a}"),
+        (
+            "some o/first[x].f o/next o/next[a/b]",
+            "(some <o/first [x] . f>); o/next; <o/next [a/b]>",
+        ),
     ];
     for (formula, expected) in rows {
         let text = format!(in rt.alloc(); "fact {{ {formula} }}")?;
@@ -524,6 +546,21 @@ fn reads_paragraphs(rt: HostRuntime) -> Result<(), Fail> {
             "run p run { } run l { a } for 3 check a for 4 but exactly 2 A, 1 B expect 1",
             "run p / run {} / run l {a} for 3 / check a for 4, exactly 2 A, 1 B expect 1",
         ),
+        (
+            "sig A { f: set B } fun g [x: A]: set B { x.f } run { some g[A] }",
+            "sig A {f: set B} / fun g x: A: set B {<x . f>} / run {(some <g [A]>)}",
+        ),
+        ("fun f : lone A { A }", "fun f: lone A {A}"),
+        ("fun f () : A -> B { f }", "fun f: <A -> B> {f}"),
+        (
+            "fun f [disj x, y: A, z: lone B] : #A { ^x + {y} }",
+            "fun f disj x, y: A, z: lone B: (# A) {<(^ x) + {y}>}",
+        ),
+        ("open util/ordering[T] as o", "open T as o / "),
+        (
+            "module m open util/ordering[T] as o open util/ordering[U] as p sig T, U {}",
+            "module m / open T as o / open U as p / sig T, U {}",
+        ),
         ("run p for 3 A, exactly 4 B", "run p for, 3 A, exactly 4 B"),
         ("run p for 0 expect 0", "run p for 0 expect 0"),
     ];
@@ -552,11 +589,44 @@ fn names_the_first_fault(rt: HostRuntime) -> Result<(), Fail> {
         ("fact { a }\n}", "2:1 unexpected"),
         ("fact { some a, b }", "1:18 unexpected"),
         ("fact { lone a, b }", "1:18 unexpected"),
-        ("fact { { a, b } }", "1:15 unexpected"),
+        ("fact { { a, b } }", "1:11 unexpected"),
+        ("run { x, y }", "1:8 unexpected"),
         ("fact { (a ! b) }", "1:13 unexpected"),
         ("fact { lone -> b }", "1:13 unexpected"),
-        ("fact { (a lone b) }", "1:16 unexpected"),
-        ("fact { a set b }", "1:14 unexpected"),
+        ("fact { (a lone b) }", "1:11 unexpected"),
+        ("fact { a set b }", "1:10 unexpected"),
+        ("fact { let x = a one | p }", "1:18 unexpected"),
+        ("fact { some f[a lone] }", "1:17 unexpected"),
+        ("sig A { f: A + B lone }", "1:23 unexpected"),
+        ("fun f { A }", "1:7 unexpected"),
+        ("fun f: A", "1:9 end_of_text"),
+        ("fun f: { A }", "1:13 end_of_text"),
+        ("fun f: A { }", "1:12 unexpected"),
+        ("fun f: A { a b }", "1:14 unexpected"),
+        ("fun f: A { some a }", "1:12 unexpected"),
+        ("fun f: A { x: A | p }", "1:13 unexpected"),
+        ("fun f: set -> A { a }", "1:12 unexpected"),
+        ("fun f[x: A: A { a }", "1:11 unexpected"),
+        ("fun f: {x: A | p} { a }", "1:8 unsupported comprehension"),
+        (
+            "fun f: A lone -> A { a }",
+            "1:10 unsupported arrow_multiplicity",
+        ),
+        ("open util/ordered[T] as o", "1:6 unsupported open"),
+        ("open ordering[T] as o", "1:6 unexpected"),
+        ("open util/ordering[T] o", "1:23 unexpected"),
+        ("open util/ordering[T] as", "1:25 end_of_text"),
+        ("open util/ordering[a/b] as o", "1:20 unexpected"),
+        ("open util/ordering as o", "1:20 unexpected"),
+        ("sig A {} open util/ordering[A] as o", "1:10 unexpected"),
+        ("fact { as }", "1:8 unexpected"),
+        ("sig a/b {}", "1:5 unexpected"),
+        ("sig A { a/b: A }", "1:9 unexpected"),
+        ("sig A { f: a/b }", "1:12 unexpected"),
+        ("pred p [a/b: A] {}", "1:9 unexpected"),
+        ("fact { all a/b: A | p }", "1:12 unexpected"),
+        ("run a/b", "1:5 unexpected"),
+        ("module a/b", "1:8 unexpected"),
         ("fact { a = b = c }", "1:14 unexpected"),
         ("fact { a = some x: A | p }", "1:18 unexpected"),
         ("fact { a else b }", "1:10 unexpected"),
@@ -617,6 +687,7 @@ fn names_the_first_fault(rt: HostRuntime) -> Result<(), Fail> {
             "fact { a in { x, y: A | p } }",
             "1:13 unsupported comprehension",
         ),
+        ("run { x, y: A | p }", "1:5 unsupported comprehension"),
         ("fact { x: A | p }", "1:6 unsupported comprehension"),
         ("sig A {} { a }", "1:10 unsupported appended"),
     ];
@@ -630,9 +701,7 @@ fn names_the_first_fault(rt: HostRuntime) -> Result<(), Fail> {
 #[test]
 fn refuses_words(rt: HostRuntime) -> Result<(), Fail> {
     let words = [
-        "open",
         "enum",
-        "fun",
         "seq",
         "sum",
         "this",
@@ -665,15 +734,18 @@ fn refuses_words(rt: HostRuntime) -> Result<(), Fail> {
     Ok(())
 }
 
-// A text with so many copies of two pieces round a third.
+// A text with so many copies of two pieces round a third, between the front and the back of a paragraph.
 fn nested(
     alloc: Global,
+    around: (&str, &str),
     count: u32,
     opening: &str,
     inner: &str,
     closing: &str,
 ) -> Result<String, Fail> {
-    let mut text = String::from_str(alloc, "fact {\n")?;
+    let (front, back) = around;
+    let mut text = String::from_str(alloc, front)?;
+    text.push_str("\n")?;
     for _ in 0..count {
         text.push_str(opening)?;
     }
@@ -681,7 +753,7 @@ fn nested(
     for _ in 0..count {
         text.push_str(closing)?;
     }
-    text.push_str("}")?;
+    text.push_str(back)?;
     Ok(text)
 }
 
@@ -690,37 +762,61 @@ fn nests_200_deep(rt: HostRuntime) -> Result<(), Fail> {
     let alloc = rt.alloc();
     let rows = [
         (199, "(", "a", ")", ""),
-        (200, "(", "a", ")", ""),
-        (201, "(", "a", ")", "2:202 too_deep"),
-        (201, "(", "]", ")", "2:202 unexpected"),
+        (200, "(", "a", ")", "2:201 too_deep"),
+        (201, "(", "a", ")", "2:201 too_deep"),
+        (200, "(", "]", ")", "2:201 unexpected"),
         (
-            201,
+            200,
             "(",
             "{ x: A | p }",
             ")",
-            "2:202 unsupported comprehension",
+            "2:201 unsupported comprehension",
         ),
-        (200, "!", "a", "", ""),
-        (201, "!", "a", "", "2:202 too_deep"),
-        (201, "f[", "", "]", ""),
-        (202, "f[", "", "]", "2:403 too_deep"),
-        (200, "some x: A | ", "a", "", ""),
-        (201, "some x: A | ", "a", "", "2:2406 too_deep"),
-        (200, "a => ", "a", "", ""),
-        (201, "a => ", "a", "", "2:1006 too_deep"),
-        (201, "{", "", "}", ""),
-        (202, "{", "", "}", "2:202 too_deep"),
-        (200, "#", "a", "", ""),
-        (201, "~", "a", "", "2:202 too_deep"),
+        (199, "!", "a", "", ""),
+        (200, "!", "a", "", "2:201 too_deep"),
+        (200, "f[", "", "]", ""),
+        (201, "f[", "", "]", "2:401 too_deep"),
+        (199, "some x: A | ", "a", "", ""),
+        (200, "some x: A | ", "a", "", "2:2394 too_deep"),
+        (199, "a => ", "a", "", ""),
+        (200, "a => ", "a", "", "2:1001 too_deep"),
+        (200, "{", "", "}", ""),
+        (201, "{", "", "}", "2:201 too_deep"),
+        (199, "#", "a", "", ""),
+        (200, "~", "a", "", "2:201 too_deep"),
     ];
     for (count, opening, inner, closing, expected) in rows {
-        let text = nested(alloc, count, opening, inner, closing)?;
+        let text = nested(alloc, ("fact {", "}"), count, opening, inner, closing)?;
         let found = told(alloc, &text)?;
         if expected.is_empty() {
             assert!(rt; found.starts_with("fact {"), "{found}");
         } else {
             assert_eq!(rt; found.as_str(), expected);
         }
+    }
+    Ok(())
+}
+
+#[test]
+fn counts_the_brackets_of_paragraphs(rt: HostRuntime) -> Result<(), Fail> {
+    let alloc = rt.alloc();
+    let rows = [
+        ("run {", "}", 199, 200),
+        ("fact {", "}", 199, 200),
+        ("sig A { f:", "}", 199, 200),
+        ("pred p [x:", "] {}", 199, 200),
+        ("pred p (x:", ") {}", 199, 200),
+        ("fun f:", "{ a }", 200, 201),
+        ("fun f: A {", "}", 199, 200),
+    ];
+    for (front, back, most, too_many) in rows {
+        let text = nested(alloc, (front, back), most, "(", "a", ")")?;
+        let found = told(alloc, &text)?;
+        assert!(rt; !found.starts_with("2:"), "{front} {found}");
+        let text = nested(alloc, (front, back), too_many, "(", "a", ")")?;
+        let found = told(alloc, &text)?;
+        let expected = format!(in alloc; "2:{} too_deep", too_many + 1)?;
+        assert_eq!(rt; found.as_str(), expected.as_str(), "{front}");
     }
     Ok(())
 }

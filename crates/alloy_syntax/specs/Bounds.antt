@@ -5,58 +5,56 @@ use Rattle.std.specs.List.{list_any}
 use Rattle.alloy_lex.specs.declared.token.Place.{Place}
 use Rattle.alloy_syntax.specs.declared.class.Class.TheVariants as class
 use Rattle.alloy_syntax.specs.declared.reading.Form.TheVariants as form
-use Rattle.alloy_syntax.specs.declared.reading.Standing.{Standing}
-use Rattle.alloy_syntax.specs.declared.reading.Standing.TheVariants as standing
-use Rattle.alloy_syntax.specs.declared.tree.Mark.{Mark}
 use Rattle.alloy_syntax.specs.declared.seen.Seen.{Seen}
-use Rattle.alloy_syntax.specs.Tree.{BoundTree, bound_named, bound_bracketed, bound_union, bound_arrows, Arrowed, unions_of, arrows_of}
+use Rattle.alloy_syntax.specs.Tree.{BoundTree, bound_named, bound_bracketed, bound_union, bound_arrows, BoundArrowTree, unions_of, arrows_of}
 use Rattle.alloy_syntax.specs.Readers.{Stop, refused, too_deep, unsupported, Parser, ◌>>=◌, next_is, after, place_at, expect, name_at, is_mark, mark_at, after_mark, many, with_front}
 
--- what was read of a bound: its tree, the place of its first multiplicity word, and whether it has an arrow
+-- what was read of a bound: its tree, the tokens from its first multiplicity word, and whether it has an arrow
 pub record Bounded : Type 0 where
   pub bound : BoundTree
-  pub marked : Option Place
+  pub marked : Option (List Seen)
   pub has_arrow : Bool
 
--- where a bound stands: it may yet be the whole one; it is a part; or it is a side of an arrow with a word at that place
--- (the type `Standing` of the code)
+-- where a bound stands: it may yet be the whole one; it is a part; or it is a side of an arrow with words, the first of which these tokens begin with
+pub data Standing : Type 0 where
+  whole : Standing
+  part : Standing
+  beside : List Seen → Standing
 
 -- a reader of what stands in brackets
 abbrev pub BoundReader : Type 0
 BoundReader = Standing → Parser Bounded
 
 unfoldable pub is_whole : Standing → Bool
-is_whole standing.Whole = true
-is_whole standing.Part = false
-is_whole (standing.Beside place) = false
+is_whole whole = true
+is_whole part = false
+is_whole (beside word) = false
 
 -- the word of the arrow round a bound
-unfoldable pub word_round : Standing → Option Place
-word_round standing.Whole = None
-word_round standing.Part = None
-word_round (standing.Beside place) = Some place
+unfoldable pub word_round : Standing → Option (List Seen)
+word_round whole = None
+word_round part = None
+word_round (beside word) = Some word
 
 -- where an operand of `+` stands
 unfoldable pub operand_in : Standing → Standing
-operand_in standing.Whole = standing.Part
-operand_in standing.Part = standing.Part
-operand_in (standing.Beside place) = standing.Beside place
+operand_in whole = part
+operand_in part = part
+operand_in (beside word) = beside word
 
--- where the right side of an arrow stands, the first of whose words is at that place
-unfoldable pub standing_beside : Option Place → Standing
-standing_beside None = standing.Part
-standing_beside (Some place) = standing.Beside place
+-- where the right side of an arrow stands, the first of whose words these tokens begin with
+unfoldable pub standing_beside : Option (List Seen) → Standing
+standing_beside None = part
+standing_beside (Some word) = beside word
 
--- the place of the first of two words
-unfoldable pub first_place : Option Mark → Option Mark → Option Place
-first_place (Some left) right = Some left.place
-first_place None (Some right) = Some right.place
-first_place None None = None
+-- the first multiplicity word beside an arrow: before it, or behind it
+unfoldable pub word_beside : List Seen → Option (List Seen)
+word_beside ts = if is_mark ts then Some ts else (if is_mark (after ts) then Some (after ts) else None)
 
 -- a word that may not stand there
-abbrev pub refuse_word : Option Place → Result (Unit {0}) Stop
+abbrev pub refuse_word : Option (List Seen) → Result (Unit {0}) Stop
 refuse_word None = Ok tt
-refuse_word (Some place) = Err (unsupported form.ArrowMultiplicity place)
+refuse_word (Some word) = Err (unsupported form.ArrowMultiplicity word)
 
 -- side = name | "(" bound ")"
 unfoldable pub side_over : BoundReader → BoundReader
@@ -68,27 +66,27 @@ side_over j standing ts =
 unfoldable pub begins_bound_arrow : List Seen → Bool
 begins_bound_arrow ts = next_is class.Arrow ts || is_mark ts
 
--- [ mult ] "->" [ mult ] side, behind a side with a word at `marked`, or with an arrow
-unfoldable pub bound_arrow_over : BoundReader → Standing → Option Place → Bool → Parser Arrowed
+-- [ mult ] "->" [ mult ] side, behind a side with a word, or with an arrow
+unfoldable pub bound_arrow_over : BoundReader → Standing → Option (List Seen) → Bool → Parser BoundArrowTree
 bound_arrow_over j standing marked has_arrow ts = do
   arrow ← expect class.Arrow (after_mark ts)
   outside ← refuse_word (word_round standing)
   before ← refuse_word marked
-  here ← if is_whole standing && not has_arrow then Ok tt else refuse_word (first_place (mark_at ts) (mark_at arrow.1))
-  side ← side_over j (standing_beside (first_place (mark_at ts) (mark_at arrow.1))) (after_mark arrow.1)
+  here ← if is_whole standing && not has_arrow then Ok tt else refuse_word (word_beside ts)
+  side ← side_over j (standing_beside (word_beside ts)) (after_mark arrow.1)
   Ok (record { left = mark_at ts; place = arrow.0; right = mark_at arrow.1; side = side.0.bound }, side.1)
 
--- the first arrow and the others, behind which none may have a word
-unfoldable pub more_bound_arrows : BoundReader → Standing → Arrowed → Parser (List Arrowed)
-more_bound_arrows j standing first ts = with_front (first ∷ []) (many begins_bound_arrow (bound_arrow_over j standing (first_place first.left first.right) true) ts)
+-- the first arrow and the others, behind which none may have a word; the first may have none either, if there are others
+unfoldable pub more_bound_arrows : BoundReader → Standing → Option (List Seen) → BoundArrowTree → Parser (List BoundArrowTree)
+more_bound_arrows j standing marked first ts = with_front (first ∷ []) (many begins_bound_arrow (bound_arrow_over j standing marked true) ts)
 
 -- arrows = side { [ mult ] "->" [ mult ] side }
 unfoldable pub bound_arrows_over : BoundReader → BoundReader
 bound_arrows_over j standing ts = side_over j standing ts >>= λ first.
     if begins_bound_arrow first.1 then (do
       arrow ← bound_arrow_over j standing first.0.marked first.0.has_arrow first.1
-      more ← more_bound_arrows j standing arrow.0 arrow.1
-      Ok (record { bound = bound_arrows first.0.bound (arrows_of more.0); marked = first_place arrow.0.left arrow.0.right; has_arrow = true }, more.1))
+      more ← more_bound_arrows j standing (word_beside first.1) arrow.0 arrow.1
+      Ok (record { bound = bound_arrows first.0.bound (arrows_of more.0); marked = word_beside first.1; has_arrow = true }, more.1))
     else Ok first
 
 unfoldable pub operand_over : BoundReader → Standing → Parser (Place × Bounded)

@@ -6,3 +6,4 @@ pub mod Nodes
 pub mod Bounds
 pub mod Paragraphs
 pub mod View
+pub mod Gives

@@ -22,8 +22,8 @@ use Rattle.alloy_syntax.specs.declared.tree.Comparison.{Comparison}
 use Rattle.alloy_syntax.specs.declared.tree.Comparison.TheVariants as comparison
 use Rattle.alloy_syntax.specs.declared.tree.Comparing.{Comparing}
 use Rattle.alloy_syntax.specs.declared.seen.Seen.{Seen}
-use Rattle.alloy_syntax.specs.Tree.{Tree, named, numbered, constant, bracketed, block, prefixed, chain, path, compared, implies, implies_else, quantified, bound_by_let, Linked, Stepped, joined, in_brackets, Declared, Given, Braced, trees_of, links_of, steps_of, declarations_of, bindings_of}
-use Rattle.alloy_syntax.specs.Readers.{Stop, refused, too_deep, unsupported, Parser, ◌>>=◌, next_is, after, place_at, expect, name_at, number_at, is_mark, mark_at, after_mark, many, with_front, listed, names_at, colon_after_names}
+use Rattle.alloy_syntax.specs.Tree.{Tree, named, numbered, constant, bracketed, block, prefixed, chain, path, compared, implies, implies_else, quantified, bound_by_let, LinkTree, StepTree, joined, in_brackets, DeclarationTree, BindingTree, BlockTree, trees_of, links_of, steps_of, declarations_of, bindings_of}
+use Rattle.alloy_syntax.specs.Readers.{Stop, refused, too_deep, unsupported, Parser, ◌>>=◌, next_is, after, place_at, expect, name_at, path_at, number_at, is_mark, mark_at, after_mark, many, with_front, listed, names_at, colon_after_names}
 
 -- a reader of what stands under one construct more, in these brackets
 abbrev pub Reader : Type 0
@@ -43,7 +43,7 @@ in_brackets_too around.Parens = false
 
 unfoldable pub begins_primary : List Seen → Bool
 begins_primary ts =
-    next_is class.Name ts || next_is class.Number ts || next_is class.None ts || next_is class.Univ ts || next_is class.Iden ts
+    next_is class.Name ts || next_is class.Path ts || next_is class.Number ts || next_is class.None ts || next_is class.Univ ts || next_is class.Iden ts
     || next_is class.LeftParen ts || next_is class.LeftBrace ts
 
 unfoldable pub is_tightening : List Seen → Bool
@@ -71,7 +71,6 @@ begins inside.Size = begins_sum
 begins inside.Tight = begins_tight
 begins (inside.Quantified q p) = λ ts. next_is class.Disj ts || next_is class.Name ts
 begins (inside.Let p) = next_is class.Name
-begins inside.Listing = next_is class.Name
 
 unfoldable pub may_be_block : Inside → Bool
 may_be_block inside.Node = true
@@ -82,20 +81,15 @@ may_be_block inside.Size = true
 may_be_block inside.Tight = true
 may_be_block (inside.Quantified q p) = false
 may_be_block (inside.Let p) = false
-may_be_block inside.Listing = false
 
 -- a brace, names with commas, and a colon
 unfoldable pub is_comprehension : List Seen → Bool
 is_comprehension ts = next_is class.LeftBrace ts && colon_after_names (after ts)
 
--- a brace, a name, and a comma
-unfoldable pub is_listing : List Seen → Bool
-is_listing ts = next_is class.LeftBrace ts && next_is class.Name (after ts) && next_is class.Comma (after (after ts))
-
 -- where one construct more would be one too many
 unfoldable pub stop_at : {A : Type 0} → Inside → Parser A
 stop_at part ts =
-    if may_be_block part && is_comprehension ts then Err (unsupported form.Comprehension (place_at ts))
+    if may_be_block part && is_comprehension ts then Err (unsupported form.Comprehension ts)
     else (if begins part ts then Err (too_deep ts)
     else Err (refused ts))
 
@@ -105,22 +99,17 @@ stop_at part ts =
 unfoldable pub is_inner : List Seen → Bool
 is_inner ts = not (next_is class.RightBrace ts)
 
-unfoldable pub block_over : Reader → Parser Braced
+unfoldable pub block_over : Reader → Parser BlockTree
 block_over i ts =
-    if is_comprehension ts then Err (unsupported form.Comprehension (place_at ts))
-    else (if is_listing ts then i around.Braces inside.Listing (after ts) >>= (λ x. Err (refused x.1))
+    if is_comprehension ts then Err (unsupported form.Comprehension ts)
     else (do
       opened ← expect class.LeftBrace ts
       xs ← many is_inner (i around.Braces inside.Node) opened.1
       closed ← expect class.RightBrace xs.1
-      Ok (record { place = opened.0; formulas = xs.0 }, closed.1)))
+      Ok (record { place = opened.0; formulas = xs.0 }, closed.1))
 
 unfoldable pub block_tree : Reader → Parser Tree
 block_tree i ts = block_over i ts >>= λ x. Ok (block x.0.place (trees_of x.0.formulas), x.1)
-
--- names that no colon follows
-unfoldable pub listing_over : Parser Tree
-listing_over ts = names_at ts >>= λ x. Err (refused x.1)
 
 unfoldable pub paren_over : Reader → Parser Tree
 paren_over i ts = do
@@ -135,14 +124,15 @@ is_constant ts = next_is class.None ts || next_is class.Univ ts || next_is class
 unfoldable pub constant_of : List Seen → Constant
 constant_of ts = if next_is class.None ts then constants.None else (if next_is class.Univ ts then constants.Univ else constants.Iden)
 
--- primary = name | number | "none" | "univ" | "iden" | "(" node ")" | block
+-- primary = name | path | number | "none" | "univ" | "iden" | "(" node ")" | block
 unfoldable pub primary_over : Reader → Parser Tree
 primary_over i ts =
     if next_is class.Name ts then name_at ts >>= (λ x. Ok (named x.0, x.1))
+    else (if next_is class.Path ts then path_at ts >>= (λ x. Ok (named x.0, x.1))
     else (if next_is class.Number ts then number_at ts >>= (λ x. Ok (numbered x.0, x.1))
     else (if is_constant ts then Ok (constant (constant_of ts) (place_at ts), after ts)
     else (if next_is class.LeftParen ts then paren_over i ts
-    else block_tree i ts)))
+    else block_tree i ts))))
 
 -- ---- expressions
 
@@ -160,7 +150,7 @@ tight_over i a ts = if is_tightening ts then behind_prefix (tightening_of ts) (i
 unfoldable pub arguments_over : Reader → Parser (List Tree)
 arguments_over i ts = if next_is class.RightBracket ts then Ok ([], ts) else listed (i around.Brackets inside.Node) ts
 
-unfoldable pub brackets_over : Reader → Parser Stepped
+unfoldable pub brackets_over : Reader → Parser StepTree
 brackets_over i ts = do
   opened ← expect class.LeftBracket ts
   xs ← arguments_over i opened.1
@@ -170,7 +160,7 @@ brackets_over i ts = do
 unfoldable pub begins_step : List Seen → Bool
 begins_step ts = next_is class.Dot ts || next_is class.LeftBracket ts
 
-unfoldable pub step_over : Reader → Around → Parser Stepped
+unfoldable pub step_over : Reader → Around → Parser StepTree
 step_over i a ts = if next_is class.Dot ts then tight_over i a (after ts) >>= (λ x. Ok (joined (place_at ts) x.0, x.1)) else brackets_over i ts
 
 -- path = tight { "." tight | "[" [ node { "," node } ] "]" }
@@ -197,7 +187,7 @@ operator_of level.Override ts = operator.Override
 operator_of level.Meet ts = operator.Meet
 operator_of level.Restrict ts = if next_is class.DomainArrow ts then operator.Domain else operator.Range
 
-unfoldable pub link_over : Level → Parser Tree → Parser Linked
+unfoldable pub link_over : Level → Parser Tree → Parser LinkTree
 link_over l item ts = item (after ts) >>= λ x. Ok (record { operator = operator_of l ts; place = place_at ts; operand = x.0 }, x.1)
 
 -- operands with that level's operators between them; one alone stands for itself
@@ -208,20 +198,20 @@ chained l item ts = item ts >>= λ x.
 unfoldable pub restrict_over : Reader → Around → Parser Tree
 restrict_over i a = chained level.Restrict (path_over i a)
 
--- An arrow, or a multiplicity word before one. In braces a word that no arrow follows begins the next node.
-unfoldable pub begins_arrow : Around → List Seen → Bool
-begins_arrow a ts = next_is class.Arrow ts || (is_mark ts && (next_is class.Arrow (after ts) || next_is class.Set ts || not (in_braces a)))
+-- an arrow, or a multiplicity word and an arrow
+unfoldable pub begins_arrow : List Seen → Bool
+begins_arrow ts = next_is class.Arrow ts || (is_mark ts && next_is class.Arrow (after ts))
 
-unfoldable pub arrow_over : Reader → Around → Parser Linked
+unfoldable pub arrow_over : Reader → Around → Parser LinkTree
 arrow_over i a ts =
-    if is_mark ts then expect class.Arrow (after ts) >>= (λ x. Err (unsupported form.ArrowMultiplicity (place_at ts)))
-    else (if is_mark (after ts) then Err (unsupported form.ArrowMultiplicity (place_at (after ts)))
+    if is_mark ts then Err (unsupported form.ArrowMultiplicity ts)
+    else (if is_mark (after ts) then Err (unsupported form.ArrowMultiplicity (after ts))
     else restrict_over i a (after ts) >>= (λ x. Ok (record { operator = operator.Product; place = place_at ts; operand = x.0 }, x.1)))
 
 -- arrows = restrict { "->" restrict }
 unfoldable pub arrows_over : Reader → Around → Parser Tree
 arrows_over i a ts = restrict_over i a ts >>= λ x.
-    if begins_arrow a x.1 then many (begins_arrow a) (arrow_over i a) x.1 >>= (λ xs. Ok (chain x.0 (links_of xs.0), xs.1)) else Ok x
+    if begins_arrow x.1 then many begins_arrow (arrow_over i a) x.1 >>= (λ xs. Ok (chain x.0 (links_of xs.0), xs.1)) else Ok x
 
 unfoldable pub meet_over : Reader → Around → Parser Tree
 meet_over i a = chained level.Meet (arrows_over i a)
@@ -235,6 +225,14 @@ size_over i a ts = if next_is class.Hash ts then behind_prefix prefix.Size (i a 
 
 unfoldable pub sum_over : Reader → Around → Parser Tree
 sum_over i a = chained level.Sum (size_over i a)
+
+-- an expression in braces
+unfoldable pub braced_over : Reader → Parser Tree
+braced_over i ts = do
+  opened ← expect class.LeftBrace ts
+  x ← i around.Parens inside.Sum opened.1
+  closed ← expect class.RightBrace x.1
+  Ok (x.0, closed.1)
 
 -- ---- formulas
 
@@ -336,17 +334,20 @@ after_disj ts = if next_is class.Disj ts then after ts else ts
 
 -- a second variable where only one may be bound
 abbrev pub second_is_refused : {A : Type 0} → Parser A
-second_is_refused ts = name_at ts >>= λ x. Err (unsupported form.Several x.0.place)
+second_is_refused ts = name_at ts >>= λ x. Err (unsupported form.Several ts)
 
 -- behind `disj`: one name alone
 unfoldable pub one_name : Parser (List Name)
 one_name ts = name_at ts >>= λ x. if next_is class.Comma x.1 then second_is_refused (after x.1) else Ok (x.0 ∷ [], x.1)
 
--- names with a colon, of which there is one where only one may be bound
-abbrev pub one_alone : Bool → List Name → List Seen → Result (List Name × List Seen) Stop
-one_alone single [] rest = Ok ([], rest)
-one_alone single (first ∷ []) rest = Ok (first ∷ [], rest)
-one_alone single (first ∷ second ∷ more) rest = if single then Err (unsupported form.Several second.place) else Ok (first ∷ second ∷ more, rest)
+abbrev pub are_several : List Name → Bool
+are_several [] = false
+are_several (first ∷ []) = false
+are_several (first ∷ second ∷ more) = true
+
+-- the names that were read from ts, of which there is one where only one may be bound; the second stands behind the first comma
+abbrev pub one_alone : Bool → List Seen → List Name → List Seen → Result (List Name × List Seen) Stop
+one_alone single ts names rest = if single && are_several names then Err (unsupported form.Several (after (after ts))) else Ok (names, rest)
 
 -- the names that variables have
 unfoldable pub variable_names : Bool → Parser (List Name)
@@ -356,22 +357,22 @@ unfoldable pub variables_over : Bool → Parser (List Name)
 variables_over single ts = do
   names ← variable_names single ts
   colon ← expect class.Colon names.1
-  one_alone single names.0 colon.1
+  one_alone single ts names.0 colon.1
 
 -- declaration = [ "disj" ] names ":" [ mult ] sum
-unfoldable pub declaration_over : Reader → Bool → Parser Declared
+unfoldable pub declaration_over : Reader → Bool → Parser DeclarationTree
 declaration_over i single ts = do
   names ← variables_over single ts
   domain ← sum_over i around.Parens (after_mark names.1)
   Ok (record { disjoint = next_is class.Disj ts; names = names.0; mark = mark_at names.1; domain = domain.0 }, domain.1)
 
-unfoldable pub another_declaration : Reader → Bool → Parser Declared
+unfoldable pub another_declaration : Reader → Bool → Parser DeclarationTree
 another_declaration i single ts = if single then second_is_refused (after_disj (after ts)) else declaration_over i false (after ts)
 
-unfoldable pub more_declarations : Reader → Bool → Declared → Parser (List Declared)
+unfoldable pub more_declarations : Reader → Bool → DeclarationTree → Parser (List DeclarationTree)
 more_declarations i single first ts = with_front (first ∷ []) (many (next_is class.Comma) (another_declaration i single) ts)
 
-unfoldable pub declarations_over : Reader → Bool → Parser (List Declared)
+unfoldable pub declarations_over : Reader → Bool → Parser (List DeclarationTree)
 declarations_over i single ts = declaration_over i single ts >>= λ first. more_declarations i single first.0 first.1
 
 -- body = "|" node | block
@@ -384,14 +385,14 @@ quantified_over i a q p ts = do
   body ← body_over i a declared.1
   Ok (quantified q p (declarations_of declared.0) body.0, body.1)
 
-unfoldable pub binding_over : Reader → Parser Given
+unfoldable pub binding_over : Reader → Parser BindingTree
 binding_over i ts = do
   name ← name_at ts
   equal ← expect class.Equal name.1
   value ← sum_over i around.Parens equal.1
   Ok (record { name = name.0; value = value.0 }, value.1)
 
-unfoldable pub bindings_over : Reader → Parser (List Given)
+unfoldable pub bindings_over : Reader → Parser (List BindingTree)
 bindings_over i = listed (binding_over i)
 
 -- let = name "=" sum { "," name "=" sum } body
@@ -412,7 +413,6 @@ inside_over i a inside.Size = size_over i a
 inside_over i a inside.Tight = tight_over i a
 inside_over i a (inside.Quantified q p) = quantified_over i a q p
 inside_over i a (inside.Let p) = let_over i a p
-inside_over i a inside.Listing = listing_over
 
 -- what stands under constructs, where so many more tokens deep may be read; at 0 it lies too deep
 unfoldable pub within : ℕ → Reader

@@ -1,10 +1,10 @@
 -- How a model is read: its paragraphs, one after the other.
-use Rattle.std.specs.Prelude.{ℕ, suc, List, [], ◌∷◌, Bool, true, false, not, ◌&&◌, if◌then◌else◌, Option, Some, None, Result, Ok, Err}
+use Rattle.std.specs.Prelude.{ℕ, ◌-◌, List, [], ◌∷◌, Bool, true, false, not, ◌&&◌, if◌then◌else◌, Option, Some, None, Result, Ok, Err, codes, bytes_eq}
 use Rattle.alloy_lex.specs.declared.token.Place.{Place}
 use Rattle.alloy_syntax.specs.declared.class.Class.{Class}
 use Rattle.alloy_syntax.specs.declared.class.Class.TheVariants as class
 use Rattle.alloy_syntax.specs.declared.reading.Form.TheVariants as form
-use Rattle.alloy_syntax.specs.declared.reading.Standing.TheVariants as standing
+use Rattle.alloy_syntax.specs.declared.reading.Around.TheVariants as around
 use Rattle.alloy_syntax.specs.declared.tree.Name.{Name}
 use Rattle.alloy_syntax.specs.declared.tree.Number.{Number}
 use Rattle.alloy_syntax.specs.declared.tree.Mark.{Mark}
@@ -13,35 +13,31 @@ use Rattle.alloy_syntax.specs.declared.tree.Manner.TheVariants as manner
 use Rattle.alloy_syntax.specs.declared.tree.Entry.{Entry}
 use Rattle.alloy_syntax.specs.declared.tree.CommandKind.{CommandKind}
 use Rattle.alloy_syntax.specs.declared.tree.CommandKind.TheVariants as kind
+use Rattle.alloy_syntax.specs.declared.tree.Open.{Open}
 use Rattle.alloy_syntax.specs.declared.seen.Seen.{Seen}
-use Rattle.alloy_syntax.specs.Tree.{Declared, FieldTree, Braced, Aim, at_name, at_block, Bounding, Item, signatures, fact, predicate, assertion, command, ModelTree}
-use Rattle.alloy_syntax.specs.Readers.{Stop, unsupported, Parser, ◌>>=◌, next_is, after, place_at, expect, name_at, number_at, is_mark, mark_at, after_mark, many, listed, names_at}
-use Rattle.alloy_syntax.specs.Nodes.{Reader, within, block_over, declarations_over}
-use Rattle.alloy_syntax.specs.Bounds.{bound_within}
+use Rattle.alloy_syntax.specs.Tree.{DeclarationTree, FieldTree, BlockTree, TargetTree, at_name, at_block, ScopeTree, ParagraphTree, signatures, fact, predicate, function, assertion, command, ModelTree}
+use Rattle.alloy_syntax.specs.Readers.{Stop, unsupported, Parser, ◌>>=◌, next_is, after, place_at, expect, name_at, path_at, number_at, is_mark, mark_at, after_mark, many, listed, names_at}
+use Rattle.alloy_syntax.specs.Nodes.{within, block_over, sum_over, braced_over, declarations_over}
+use Rattle.alloy_syntax.specs.Bounds.{whole, bound_within}
 
--- So many constructs may nest, from the paragraph on. The brackets of a paragraph's own don't count.
-abbrev pub depth_limit : ℕ
-depth_limit = 200
-
-abbrev pub outermost : Reader
-outermost = within depth_limit
+-- So many constructs may nest, from the paragraph on: the brackets of its own are the first.
 
 -- a paragraph's own block
-abbrev pub own_block : Parser Braced
-own_block = block_over (within (suc depth_limit))
+abbrev pub own_block : ℕ → Parser BlockTree
+own_block limit = block_over (within limit)
 
 -- ---- signatures
 
 -- field = names ":" [ mult ] bound
-unfoldable pub field_at : Parser FieldTree
-field_at ts = do
+unfoldable pub field_at : ℕ → Parser FieldTree
+field_at limit ts = do
   names ← names_at ts
   colon ← expect class.Colon names.1
-  read ← bound_within (suc depth_limit) standing.Whole (after_mark colon.1)
+  read ← bound_within limit whole (after_mark colon.1)
   Ok (record { names = names.0; mark = mark_at colon.1; bound = read.0.bound }, read.1)
 
-unfoldable pub fields_at : Parser (List FieldTree)
-fields_at ts = if next_is class.RightBrace ts then Ok ([], ts) else listed field_at ts
+unfoldable pub fields_at : ℕ → Parser (List FieldTree)
+fields_at limit ts = if next_is class.RightBrace ts then Ok ([], ts) else listed (field_at limit) ts
 
 unfoldable pub parent_at : Parser (Option Parent)
 parent_at ts =
@@ -74,47 +70,54 @@ qualified ts =
     else record { is_abstract = next_is class.Abstract (after_qualifier ts); mark = qualifier_at ts; behind = after_abstract (after_qualifier ts) }
 
 -- a block directly behind a signature is refused
-unfoldable pub signatures_at : Parser Item
-signatures_at ts = do
+unfoldable pub signatures_at : ℕ → Parser ParagraphTree
+signatures_at limit ts = do
   word ← expect class.Sig (qualified ts).behind
   names ← names_at word.1
   parent ← parent_at names.1
   opened ← expect class.LeftBrace parent.1
-  fields ← fields_at opened.1
+  fields ← fields_at limit opened.1
   closed ← expect class.RightBrace fields.1
-  if next_is class.LeftBrace closed.1 then Err (unsupported form.Appended (place_at closed.1)) else Ok (signatures (qualified ts).is_abstract (qualified ts).mark names.0 parent.0 fields.0, closed.1)
+  if next_is class.LeftBrace closed.1 then Err (unsupported form.Appended closed.1) else Ok (signatures (qualified ts).is_abstract (qualified ts).mark names.0 parent.0 fields.0, closed.1)
 
--- ---- facts, predicates and assertions, behind their first word
+-- ---- facts, predicates, functions and assertions, behind their first word
 
-unfoldable pub fact_at : Parser Item
-fact_at ts = own_block (if next_is class.Name ts then after ts else ts) >>= λ b. Ok (fact b.0, b.1)
+unfoldable pub fact_at : ℕ → Parser ParagraphTree
+fact_at limit ts = own_block limit (if next_is class.Name ts then after ts else ts) >>= λ b. Ok (fact b.0, b.1)
 
-unfoldable pub parameters_at : Parser (List Declared)
-parameters_at = declarations_over outermost false
-
--- [ decls ] and the closing bracket
-abbrev pub parameters_to : Class → Parser (List Declared)
-parameters_to closing ts =
+-- [ decls ] and the closing bracket, in the list's own brackets
+abbrev pub parameters_to : ℕ → Class → Parser (List DeclarationTree)
+parameters_to limit closing ts =
     if next_is closing ts then Ok ([], after ts)
-    else parameters_at ts >>= (λ x. expect closing x.1 >>= λ c. Ok (x.0, c.1))
+    else declarations_over (within (limit - 1)) false ts >>= (λ x. expect closing x.1 >>= λ c. Ok (x.0, c.1))
 
-unfoldable pub parameter_list : Parser (List Declared)
-parameter_list ts =
-    if next_is class.LeftBracket ts then parameters_to class.RightBracket (after ts)
-    else (if next_is class.LeftParen ts then parameters_to class.RightParen (after ts)
+unfoldable pub parameter_list : ℕ → Parser (List DeclarationTree)
+parameter_list limit ts =
+    if next_is class.LeftBracket ts then parameters_to limit class.RightBracket (after ts)
+    else (if next_is class.LeftParen ts then parameters_to limit class.RightParen (after ts)
     else Ok ([], ts))
 
-unfoldable pub predicate_at : Parser Item
-predicate_at ts = do
+unfoldable pub predicate_at : ℕ → Parser ParagraphTree
+predicate_at limit ts = do
   name ← name_at ts
-  parameters ← parameter_list name.1
-  body ← own_block parameters.1
+  parameters ← parameter_list limit name.1
+  body ← own_block limit parameters.1
   Ok (predicate name.0 parameters.0 body.0, body.1)
 
-unfoldable pub assertion_at : Parser Item
-assertion_at ts = do
+-- name [ parameters ] ":" [ mult ] sum "{" sum "}"
+unfoldable pub function_at : ℕ → Parser ParagraphTree
+function_at limit ts = do
   name ← name_at ts
-  body ← own_block name.1
+  parameters ← parameter_list limit name.1
+  colon ← expect class.Colon parameters.1
+  range ← sum_over (within limit) around.Parens (after_mark colon.1)
+  body ← braced_over (within limit) range.1
+  Ok (function name.0 parameters.0 (mark_at colon.1) range.0 body.0, body.1)
+
+unfoldable pub assertion_at : ℕ → Parser ParagraphTree
+assertion_at limit ts = do
+  name ← name_at ts
+  body ← own_block limit name.1
   Ok (assertion name.0 body.0, body.1)
 
 -- ---- commands, behind their first word
@@ -138,7 +141,7 @@ unfoldable pub has_default : List Seen → Bool
 has_default ts = next_is class.Number ts && not (next_is class.Name (after ts))
 
 -- scope = "for" ( number [ "but" entries ] | entries )
-unfoldable pub scope_at : Parser (Option Bounding)
+unfoldable pub scope_at : Parser (Option ScopeTree)
 scope_at ts =
     if next_is class.For ts then
     (if has_default (after ts) then (number_at (after ts) >>= λ n. exceptions_at n.1 >>= λ es. Ok (Some (record { default = Some n.0; entries = es.0 }), es.1))
@@ -154,28 +157,29 @@ unfoldable pub label_at : Parser (Option Name)
 label_at ts = if next_is class.Name ts then name_at ts >>= (λ x. Ok (Some x.0, x.1)) else Ok (None, ts)
 
 -- a name, or a block, which may have a label
-unfoldable pub target_at : Parser Aim
-target_at ts =
+unfoldable pub target_at : ℕ → Parser TargetTree
+target_at limit ts =
     if next_is class.Name ts && not (next_is class.LeftBrace (after ts)) then name_at ts >>= (λ x. Ok (at_name x.0, x.1))
-    else label_at ts >>= (λ label. own_block label.1 >>= λ b. Ok (at_block label.0 b.0, b.1))
+    else label_at ts >>= (λ label. own_block limit label.1 >>= λ b. Ok (at_block label.0 b.0, b.1))
 
-unfoldable pub command_at : CommandKind → Place → Parser Item
-command_at k p ts = do
-  target ← target_at ts
+unfoldable pub command_at : ℕ → CommandKind → Place → Parser ParagraphTree
+command_at limit k p ts = do
+  target ← target_at limit ts
   scope ← scope_at target.1
   expected ← expected_at scope.1
   Ok (command k p target.0 scope.0 expected.0, expected.1)
 
 -- ---- a model
 
-unfoldable pub item_at : Parser Item
-item_at ts =
-    if next_is class.Fact ts then fact_at (after ts)
-    else (if next_is class.Pred ts then predicate_at (after ts)
-    else (if next_is class.Assert ts then assertion_at (after ts)
-    else (if next_is class.Run ts then command_at kind.Run (place_at ts) (after ts)
-    else (if next_is class.Check ts then command_at kind.Check (place_at ts) (after ts)
-    else signatures_at ts))))
+unfoldable pub paragraph_at : ℕ → Parser ParagraphTree
+paragraph_at limit ts =
+    if next_is class.Fact ts then fact_at limit (after ts)
+    else (if next_is class.Pred ts then predicate_at limit (after ts)
+    else (if next_is class.Fun ts then function_at limit (after ts)
+    else (if next_is class.Assert ts then assertion_at limit (after ts)
+    else (if next_is class.Run ts then command_at limit kind.Run (place_at ts) (after ts)
+    else (if next_is class.Check ts then command_at limit kind.Check (place_at ts) (after ts)
+    else signatures_at limit ts)))))
 
 unfoldable pub is_left : List Seen → Bool
 is_left [] = false
@@ -185,6 +189,32 @@ is_left (t ∷ ts) = true
 unfoldable pub heading_at : Parser (Option Name)
 heading_at ts = if next_is class.Module ts then name_at (after ts) >>= (λ x. Ok (Some x.0, x.1)) else Ok (None, ts)
 
--- the model that the tokens are, or where reading stops
-unfoldable pub model_of : List Seen → Result ModelTree Stop
-model_of ts = heading_at ts >>= λ h. many is_left item_at h.1 >>= λ x. Ok (record { heading = h.0; items = x.0 })
+-- the module whose paths an `open` gives; any other is refused
+unfoldable pub ordering_at : Parser Name
+ordering_at ts = path_at ts >>= λ x. if bytes_eq x.0.text (codes "util/ordering") then Ok x else Err (unsupported form.Open ts)
+
+-- "open" path "[" name "]" "as" name
+unfoldable pub open_at : Parser Open
+open_at ts = do
+  path ← ordering_at (after ts)
+  opened ← expect class.LeftBracket path.1
+  signature ← name_at opened.1
+  closed ← expect class.RightBracket signature.1
+  word ← expect class.As closed.1
+  alias ← name_at word.1
+  Ok (record { signature = signature.0; alias = alias.0 }, alias.1)
+
+-- the model that the tokens are, or where reading stops, if so many constructs may nest
+unfoldable pub model_at : ℕ → List Seen → Result ModelTree Stop
+model_at limit ts = do
+  heading ← heading_at ts
+  opens ← many (next_is class.Open) open_at heading.1
+  paragraphs ← many is_left (paragraph_at limit) opens.1
+  Ok (record { heading = heading.0; opens = opens.0; paragraphs = paragraphs.0 })
+
+-- so many constructs may nest in a model
+abbrev pub depth_limit : ℕ
+depth_limit = 200
+
+abbrev pub model_of : List Seen → Result ModelTree Stop
+model_of = model_at depth_limit

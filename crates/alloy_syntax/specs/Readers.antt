@@ -12,11 +12,11 @@ use Rattle.alloy_syntax.specs.declared.tree.Mark.{Mark}
 use Rattle.alloy_syntax.specs.declared.tree.Multiplicity.{Multiplicity}
 use Rattle.alloy_syntax.specs.declared.tree.Multiplicity.TheVariants as multiplicity
 
--- why reading stops: the tokens from one that can't stand there, or from one that lies too deep; or a refused form, with its place
+-- why reading stops: the tokens from one that can't stand there, from one that lies too deep, or from the one that a refused form is named by
 pub data Stop : Type 0 where
   refused : List Seen → Stop
   too_deep : List Seen → Stop
-  unsupported : Form → Place → Stop
+  unsupported : Form → List Seen → Stop
 
 abbrev pub Parser : Type 0 → Type 0
 Parser A = List Seen → Result (A × List Seen) Stop
@@ -49,8 +49,15 @@ one c f (t ∷ ts) = if is_class t.class c then Ok (f t, ts) else Err (refused (
 unfoldable pub expect : Class → Parser Place
 expect c = one c (λ t. t.place)
 
-unfoldable pub name_at : Parser Name
-name_at = one class.Name (λ t. record { text = t.text; place = t.place })
+-- what is spelled by a token of that class, as a name
+unfoldable pub spelled_at : Class → Parser Name
+spelled_at c = one c (λ t. record { text = t.text; place = t.place })
+
+abbrev pub name_at : Parser Name
+name_at = spelled_at class.Name
+
+abbrev pub path_at : Parser Name
+path_at = spelled_at class.Path
 
 -- a digit more, and never beyond 1,001
 abbrev pub with_digit : ℕ → ℕ → ℕ

@@ -12,6 +12,7 @@ use Rattle.alloy_syntax.specs.declared.tree.Comparing.{Comparing}
 use Rattle.alloy_syntax.specs.declared.tree.Parent.{Parent}
 use Rattle.alloy_syntax.specs.declared.tree.Entry.{Entry}
 use Rattle.alloy_syntax.specs.declared.tree.CommandKind.{CommandKind}
+use Rattle.alloy_syntax.specs.declared.tree.Open.{Open}
 
 -- an expression, a formula or a number
 mutual
@@ -52,25 +53,25 @@ mutual
     more_bindings : Name → Tree → Bindings → Bindings
 
 -- an operator of a chain, and the operand behind it
-pub record Linked : Type 0 where
+pub record LinkTree : Type 0 where
   pub operator : Operator
   pub place : Place
   pub operand : Tree
 
 -- a join or brackets behind an expression
-pub data Stepped : Type 0 where
-  joined : Place → Tree → Stepped
-  in_brackets : Place → List Tree → Stepped
+pub data StepTree : Type 0 where
+  joined : Place → Tree → StepTree
+  in_brackets : Place → List Tree → StepTree
 
 -- variables with their domain
-pub record Declared : Type 0 where
+pub record DeclarationTree : Type 0 where
   pub disjoint : Bool
   pub names : List Name
   pub mark : Option Mark
   pub domain : Tree
 
 -- a name of a `let`
-pub record Given : Type 0 where
+pub record BindingTree : Type 0 where
   pub name : Name
   pub value : Tree
 
@@ -78,23 +79,23 @@ abbrev pub trees_of : List Tree → Trees
 trees_of [] = no_trees
 trees_of (t ∷ ts) = more_trees t (trees_of ts)
 
-abbrev pub links_of : List Linked → Links
+abbrev pub links_of : List LinkTree → Links
 links_of [] = no_links
 links_of (l ∷ ls) = more_links l.operator l.place l.operand (links_of ls)
 
-abbrev pub step_first : Stepped → Steps → Steps
+abbrev pub step_first : StepTree → Steps → Steps
 step_first (joined p t) steps = join_first p t steps
 step_first (in_brackets p ts) steps = brackets_first p (trees_of ts) steps
 
-abbrev pub steps_of : List Stepped → Steps
+abbrev pub steps_of : List StepTree → Steps
 steps_of [] = no_steps
 steps_of (s ∷ ss) = step_first s (steps_of ss)
 
-abbrev pub declarations_of : List Declared → Declarations
+abbrev pub declarations_of : List DeclarationTree → Declarations
 declarations_of [] = no_declarations
 declarations_of (d ∷ ds) = more_declarations d.disjoint d.names d.mark d.domain (declarations_of ds)
 
-abbrev pub bindings_of : List Given → Bindings
+abbrev pub bindings_of : List BindingTree → Bindings
 bindings_of [] = no_bindings
 bindings_of (g ∷ gs) = more_bindings g.name g.value (bindings_of gs)
 
@@ -115,7 +116,7 @@ mutual
     more_arrows : Option Mark → Place → Option Mark → BoundTree → BoundArrows → BoundArrows
 
 -- an arrow of a bound, with the multiplicity words beside it and its right side
-pub record Arrowed : Type 0 where
+pub record BoundArrowTree : Type 0 where
   pub left : Option Mark
   pub place : Place
   pub right : Option Mark
@@ -125,7 +126,7 @@ abbrev pub unions_of : List (Place × BoundTree) → BoundUnions
 unions_of [] = no_unions
 unions_of (u ∷ us) = more_unions u.0 u.1 (unions_of us)
 
-abbrev pub arrows_of : List Arrowed → BoundArrows
+abbrev pub arrows_of : List BoundArrowTree → BoundArrows
 arrows_of [] = no_arrows
 arrows_of (a ∷ as') = more_arrows a.left a.place a.right a.side (arrows_of as')
 
@@ -136,29 +137,31 @@ pub record FieldTree : Type 0 where
   pub bound : BoundTree
 
 -- formulas in braces
-pub record Braced : Type 0 where
+pub record BlockTree : Type 0 where
   pub place : Place
   pub formulas : List Tree
 
 -- what a command runs or checks
-pub data Aim : Type 0 where
-  at_name : Name → Aim
-  at_block : Option Name → Braced → Aim
+pub data TargetTree : Type 0 where
+  at_name : Name → TargetTree
+  at_block : Option Name → BlockTree → TargetTree
 
 -- a command's default scope, and the sizes that it lists
-pub record Bounding : Type 0 where
+pub record ScopeTree : Type 0 where
   pub default : Option Number
   pub entries : List Entry
 
 -- a paragraph
-pub data Item : Type 0 where
-  signatures : Bool → Option Mark → List Name → Option Parent → List FieldTree → Item
-  fact : Braced → Item
-  predicate : Name → List Declared → Braced → Item
-  assertion : Name → Braced → Item
-  command : CommandKind → Place → Aim → Option Bounding → Option Number → Item
+pub data ParagraphTree : Type 0 where
+  signatures : Bool → Option Mark → List Name → Option Parent → List FieldTree → ParagraphTree
+  fact : BlockTree → ParagraphTree
+  predicate : Name → List DeclarationTree → BlockTree → ParagraphTree
+  function : Name → List DeclarationTree → Option Mark → Tree → Tree → ParagraphTree
+  assertion : Name → BlockTree → ParagraphTree
+  command : CommandKind → Place → TargetTree → Option ScopeTree → Option Number → ParagraphTree
 
--- a model: the name behind `module`, and the paragraphs
+-- a model: the name behind `module`, the orderings, and the paragraphs
 pub record ModelTree : Type 0 where
   pub heading : Option Name
-  pub items : List Item
+  pub opens : List Open
+  pub paragraphs : List ParagraphTree

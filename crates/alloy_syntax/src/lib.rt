@@ -1,7 +1,10 @@
-//! The tree of a model, the terminals of the grammar, and what reading a list of tokens means.
+//! The tree of a model, the terminals of the grammar, what reading a list of tokens means, and how single tokens are read.
 #![tactic(auto)]
 
 pub mod class;
+pub mod cursor;
+pub mod halt;
+pub mod laws;
 pub mod reading;
 pub mod seen;
 pub mod tree;

@@ -13,6 +13,8 @@ pub enum Form {
     ArrowMultiplicity,
     /// More than one variable of `lone` or `one`.
     Several,
+    /// A module other than `util/ordering`.
+    Open,
 }
 
 /// The innermost bracket round a node, which says what may follow it: in braces another node, in square brackets a comma.
@@ -54,16 +56,4 @@ pub enum Inside {
     Quantified(Quantifier, Place),
     /// Behind `let`, which stands at that place.
     Let(Place),
-    /// Names with commas in braces, which no colon follows.
-    Listing,
-}
-
-/// Where a part of a field's bound stands.
-#[derive(Clone, Copy)]
-pub enum Standing {
-    /// It may yet be the whole bound.
-    Whole,
-    Part,
-    /// It is a side of an arrow that has a multiplicity word, the first at that place.
-    Beside(Place),
 }

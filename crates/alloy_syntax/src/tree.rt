@@ -1,7 +1,7 @@
 // The tree of a model, as the grammar has it. Each part keeps the places that a later fault may name.
 use alloy_lex::{Place, Text};
 
-/// A name as it was written.
+/// A name as it was written. In a node it may be a path, with its slash; what is declared has none.
 #[derive(Drop)]
 pub struct Name {
     pub text: Text,
@@ -258,13 +258,32 @@ pub struct Command {
     pub expected: Option<Number>,
 }
 
+/// A function: its parameters, its range with the word before it, and the expression that it stands for.
+#[derive(Drop)]
+pub struct Function {
+    pub name: Name,
+    pub parameters: Vec<Declaration>,
+    pub mark: Option<Mark>,
+    pub range: Node,
+    pub body: Node,
+}
+
 #[derive(Drop)]
 pub enum Paragraph {
     Signatures(Signatures),
     Fact(Block),
     Predicate(Name, Vec<Declaration>, Block),
+    Function(Function),
     Assertion(Name, Block),
     Command(Command),
+}
+
+/// An ordering of a signature: `open util/ordering[S] as o`.
+#[derive(Drop)]
+pub struct Open {
+    pub signature: Name,
+    /// The name behind `as`, which stands before the slash of its paths.
+    pub alias: Name,
 }
 
 /// The tree of a model.
@@ -272,5 +291,6 @@ pub enum Paragraph {
 pub struct Model {
     /// The name behind `module`, which has no effect.
     pub heading: Option<Name>,
+    pub opens: Vec<Open>,
     pub paragraphs: Vec<Paragraph>,
 }

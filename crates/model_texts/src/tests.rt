@@ -22,6 +22,8 @@ fn tells_what_a_text_is(rt: HostRuntime) -> Result<(), Fail> {
     let rows = [
         ("", "other"),
         ("sig A {} fact {} run {}", "other"),
+        ("sig A {} fun f: A { A } run {}", "other"),
+        ("open util/ordering[A] as o sig A {} run {}", "other"),
         ("sig A {} run { some A } for 2", "short"),
         ("sig A {} /*", "1:10 open_comment"),
         ("sig A {} fact { A ? A }", "1:19 bad_character"),
@@ -30,7 +32,7 @@ fn tells_what_a_text_is(rt: HostRuntime) -> Result<(), Fail> {
         ("sig A }", "1:7 unexpected"),
         ("sig A {}\n\nfact }", "3:6 unexpected"),
         ("sig A {", "1:8 end_of_text"),
-        ("open x", "1:1 unsupported open"),
+        ("open util/ordered[T] as o", "1:6 unsupported open"),
         ("sig A {} run { always some A }", "1:16 unsupported always"),
         (
             "sig A { f: A lone -> A -> A }",

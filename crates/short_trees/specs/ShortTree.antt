@@ -11,7 +11,7 @@ use Rattle.alloy_syntax.specs.declared.tree.Prefix.{Prefix}
 use Rattle.alloy_syntax.specs.declared.tree.Prefix.TheVariants as prefix
 use Rattle.alloy_syntax.specs.declared.tree.Operator.{Operator}
 use Rattle.alloy_syntax.specs.declared.tree.Operator.TheVariants as sign
-use Rattle.alloy_syntax.specs.Tree.{Tree, named, prefixed, chain, Links, no_links, more_links, Linked, FieldTree, Aim, at_name, at_block, Bounding, Item, signatures, fact, predicate, assertion, command, ModelTree}
+use Rattle.alloy_syntax.specs.Tree.{Tree, named, prefixed, chain, Links, no_links, more_links, LinkTree, FieldTree, TargetTree, at_name, at_block, ScopeTree, ParagraphTree, signatures, fact, predicate, function, assertion, command, ModelTree}
 use Rattle.short_models.specs.declared.model.Count.{Count}
 use Rattle.short_models.specs.declared.model.Multiplicity.{Multiplicity}
 use Rattle.short_models.specs.declared.model.Multiplicity.TheVariants as multiplicity
@@ -43,11 +43,12 @@ abbrev pub is_plain : Bool → Option Mark → Option Parent → List FieldTree 
 is_plain is_abstract mark parent fields = not is_abstract && is_none mark && is_none parent && has_none fields
 
 -- the signatures that a paragraph declares; only these and commands are paragraphs of a short model
-abbrev pub names_in : Item → Option (List (List ℕ))
+abbrev pub names_in : ParagraphTree → Option (List (List ℕ))
 names_in (signatures is_abstract mark names parent fields) = if is_plain is_abstract mark parent fields then Some (map (λ n. n.text) names) else None
 names_in (command kind place aim scope expected) = Some []
 names_in (fact block) = None
 names_in (predicate name declarations block) = None
+names_in (function name declarations mark range body) = None
 names_in (assertion name block) = None
 
 -- ---- commands
@@ -64,12 +65,12 @@ size_in (Some number) [] = Some number.value
 size_in (Some number) (entry ∷ entries) = None
 
 -- the default size, which is 3 where no scope is given
-abbrev pub scope_in : Option Bounding → Option ℕ
+abbrev pub scope_in : Option ScopeTree → Option ℕ
 scope_in None = Some 3
 scope_in (Some scope) = size_in scope.default scope.entries
 
 -- a block without a label
-abbrev pub formulas_in : Aim → Option (List Tree)
+abbrev pub formulas_in : TargetTree → Option (List Tree)
 formulas_in (at_name name) = None
 formulas_in (at_block None block) = Some block.formulas
 formulas_in (at_block (Some label) block) = None
@@ -80,17 +81,18 @@ asked (Some formulas) None = None
 asked (Some formulas) (Some scope) = Some (record { formulas = formulas; scope = scope })
 
 -- a `run` of a block, without `expect`
-abbrev pub asked_by : CommandKind → Aim → Option Bounding → Option Number → Option Asked
+abbrev pub asked_by : CommandKind → TargetTree → Option ScopeTree → Option Number → Option Asked
 asked_by command_kind.Check aim scope expected = None
 asked_by command_kind.Run aim scope (Some number) = None
 asked_by command_kind.Run aim scope None = asked (formulas_in aim) (scope_in scope)
 
 -- the commands that a paragraph is
-abbrev pub commands_in : Item → Option (List Asked)
+abbrev pub commands_in : ParagraphTree → Option (List Asked)
 commands_in (command kind place aim scope expected) = alone (asked_by kind aim scope expected)
 commands_in (signatures is_abstract mark names parent fields) = Some []
 commands_in (fact block) = Some []
 commands_in (predicate name declarations block) = Some []
+commands_in (function name declarations mark range body) = Some []
 commands_in (assertion name block) = Some []
 
 -- ---- formulas
@@ -131,15 +133,15 @@ is_and sign.And = true
 is_and operator = false
 
 -- `&&` and a formula that counts
-abbrev pub count_behind : List (List ℕ) → Linked → Option (List Count)
+abbrev pub count_behind : List (List ℕ) → LinkTree → Option (List Count)
 count_behind names link = if is_and link.operator then alone (count_in names link.operand) else None
 
-abbrev pub links_in : Links → List Linked
+abbrev pub links_in : Links → List LinkTree
 links_in no_links = []
 links_in (more_links operator place operand links) = record { operator = operator; place = place; operand = operand } ∷ links_in links
 
 -- at least one of these
-abbrev pub counts_behind : List (List ℕ) → List Linked → Option (List Count)
+abbrev pub counts_behind : List (List ℕ) → List LinkTree → Option (List Count)
 counts_behind names [] = None
 counts_behind names (link ∷ links) = gather (count_behind names) (link ∷ links)
 
@@ -155,9 +157,9 @@ abbrev pub said : Option Name → Option (List (List ℕ)) → Option (List Aske
 said None (Some names) (Some (asked ∷ [])) = option_map (λ counts. record { signatures = names; counts = counts; scope = asked.scope }) (gather (counts_in names) asked.formulas)
 said heading names commands = None
 
--- what a tree without a heading says
+-- what a tree without a heading and orderings says
 abbrev pub said_by : ModelTree → Option Short
-said_by tree = said tree.heading (gather names_in tree.items) (gather commands_in tree.items)
+said_by tree = if has_none tree.opens then said tree.heading (gather names_in tree.paragraphs) (gather commands_in tree.paragraphs) else None
 
 -- the short model of a tree
 abbrev pub IsShortTree : ModelTree → Short → Type 0

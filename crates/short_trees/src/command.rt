@@ -1,6 +1,6 @@
 // The command of a short model.
 ghost use Rattle.std.specs.Prelude.{◌≡◌, map, IfOk, option_map};
-ghost use Rattle.alloy_syntax.specs.View.{item_view, target_view, scope_view, views};
+ghost use Rattle.alloy_syntax.specs.View.{paragraph_view, target_view, scope_view, views};
 ghost use Rattle.short_trees.specs.ShortTree.{gather, alone, commands_in, asked_by, asked, formulas_in, scope_in, size_in};
 ghost use Rattle.short_trees.specs.Read.{asked_of};
 
@@ -19,7 +19,7 @@ pub fn commands_of<'a>(
     alloc: Global,
     paragraphs: &'a [Paragraph],
 ) -> Result<Option<Vec<Asked<'a>>>, AllocError>
-    ensures { IfOk result (λ found. option_map (λ commands. map asked_of commands.items) found ≡ gather commands_in (map item_view paragraphs.now)) }
+    ensures { IfOk result (λ found. option_map (λ commands. map asked_of commands.items) found ≡ gather commands_in (map paragraph_view paragraphs.now)) }
 {
     let mut commands = Vec::new(alloc);
     for paragraph in paragraphs {
@@ -36,13 +36,14 @@ fn commands_in<'a>(
     alloc: Global,
     paragraph: &'a Paragraph,
 ) -> Result<Option<Vec<Asked<'a>>>, AllocError>
-    ensures { IfOk result (λ found. option_map (λ commands. map asked_of commands.items) found ≡ commands_in (item_view paragraph.now)) }
+    ensures { IfOk result (λ found. option_map (λ commands. map asked_of commands.items) found ≡ commands_in (paragraph_view paragraph.now)) }
 {
     match paragraph {
         Paragraph::Command(command) => Ok(alone(alloc, asked_by(command))?),
         Paragraph::Signatures(_) => Ok(Some(Vec::new(alloc))),
         Paragraph::Fact(_) => Ok(Some(Vec::new(alloc))),
         Paragraph::Predicate(_, _, _) => Ok(Some(Vec::new(alloc))),
+        Paragraph::Function(_) => Ok(Some(Vec::new(alloc))),
         Paragraph::Assertion(_, _) => Ok(Some(Vec::new(alloc))),
     }
 }

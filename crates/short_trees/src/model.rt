@@ -31,7 +31,7 @@ pub fn short_model(alloc: Global, tree: &Model) -> Result<Option<ShortModel>, Al
 fn said_by(alloc: Global, tree: &Model) -> Result<Option<ShortModel>, AllocError>
     ensures { IfOk result (λ found. MatchOption found ((m : Short) → said_by (model_view tree.now) ≡ Some m → length m.signatures ≤ 128 → ⊥) (λ model. said_by (model_view tree.now) ≡ Some (short_of model))) }
 {
-    if tree.heading.is_some() {
+    if tree.heading.is_some() || !tree.opens.is_empty() {
         return Ok(None);
     }
     let Some(signatures) = names_of(alloc, &tree.paragraphs)? else {

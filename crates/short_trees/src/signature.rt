@@ -1,6 +1,6 @@
 // The signatures of a short model.
 ghost use Rattle.std.specs.Prelude.{◌≡◌, ◌++◌, map, IfOk, option_map};
-ghost use Rattle.alloy_syntax.specs.View.{item_view, signatures_view, field_view};
+ghost use Rattle.alloy_syntax.specs.View.{paragraph_view, signatures_view, field_view};
 ghost use Rattle.short_trees.specs.ShortTree.{gather, names_in, is_plain};
 
 use alloy_syntax::tree::{Paragraph, Signatures};
@@ -9,7 +9,7 @@ use tuple_core::Name;
 
 /// The signatures that the paragraphs declare, in order; `None` where one is no paragraph of a short model.
 pub fn names_of(alloc: Global, paragraphs: &[Paragraph]) -> Result<Option<Vec<Name>>, AllocError>
-    ensures { IfOk result (λ found. option_map (λ names. names.items) found ≡ gather names_in (map item_view paragraphs.now)) }
+    ensures { IfOk result (λ found. option_map (λ names. names.items) found ≡ gather names_in (map paragraph_view paragraphs.now)) }
 {
     let mut names = Vec::new(alloc);
     for paragraph in paragraphs {
@@ -23,13 +23,14 @@ pub fn names_of(alloc: Global, paragraphs: &[Paragraph]) -> Result<Option<Vec<Na
 
 // The names of the signatures that a paragraph declares.
 fn names_in<'a>(paragraph: &'a Paragraph) -> Option<&'a [alloy_syntax::tree::Name]>
-    ensures { option_map (λ names. map (λ n. n.text) names.now) result ≡ names_in (item_view paragraph.now) }
+    ensures { option_map (λ names. map (λ n. n.text) names.now) result ≡ names_in (paragraph_view paragraph.now) }
 {
     match paragraph {
         Paragraph::Signatures(signatures) => declared(signatures),
         Paragraph::Command(_) => Some(&[]),
         Paragraph::Fact(_) => None,
         Paragraph::Predicate(_, _, _) => None,
+        Paragraph::Function(_) => None,
         Paragraph::Assertion(_, _) => None,
     }
 }

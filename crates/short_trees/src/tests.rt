@@ -89,6 +89,7 @@ fn tree(alloc: Global, names: &[&str], command: Command) -> Result<Model, AllocE
     paragraphs.push(Paragraph::Command(command))?;
     Ok(Model {
         heading: None,
+        opens: Vec::new(alloc),
         paragraphs,
     })
 }

@@ -7,7 +7,7 @@ use Rattle.alloy_syntax.specs.declared.reading.Inside.TheVariants.{Node}
 use Rattle.alloy_syntax.specs.Readers.{next_is, behind}
 use Rattle.alloy_syntax.specs.Nodes.{within, is_inner, begins_step, step_over, begins_link, link_over, begins_arrow, arrow_over, another_declaration, binding_over}
 use Rattle.alloy_syntax.specs.View.{view, views, step_view, link_view, declaration_view, binding_view}
-use Rattle.alloy_cursor.proofs.Loop.{loop_fails, reads_more, reads_ends}
+use Rattle.alloy_syntax.proofs.Loop.{loop_fails, reads_more, reads_ends}
 use Rattle.alloy_nodes.specs.Levels.{operand_over}
 use Rattle.alloy_nodes.proofs.nodes.+nodes.Goals as goal
 
@@ -103,23 +103,23 @@ pub arrow_links-returns-in_err-another-clause-value : goal.arrow_links-returns-i
 arrow_links-returns-in_err-another-clause-value t c =
     let p = err_from_is_err_and c.from_residual.result c.from_residual.ensures.1 in
     let read = c.in_err-another.ensures.value in
-    let going : (begins_arrow c.args.nest.around) c.each.rest.now ≡ true = cc in
-    rw (p.1, p.2) (loop_fails _ (begins_arrow c.args.nest.around) (arrow_over (within c.args.nest.room) c.args.nest.around) (map link_view c.each.all.items) c.each.rest.now _ c.each.invariant.reads going read)
+    let going : begins_arrow c.each.rest.now ≡ true = cc in
+    rw (p.1, p.2) (loop_fails _ begins_arrow (arrow_over (within c.args.nest.room) c.args.nest.around) (map link_view c.each.all.items) c.each.rest.now _ c.each.invariant.reads going read)
 
 pub arrow_links-each-preserved : goal.arrow_links-each-preserved
 arrow_links-each-preserved t c =
     let pushed : map link_view c.push.new.self.items ≡ map link_view c.each.all.items ++ link_view c.in_ok-another.another ∷ [] = rw c.in_ok-push.ensures.items (map_push _ c.each.all.items c.in_ok-another.another) in
     let read = c.in_ok-another.ensures.value in
-    let going : (begins_arrow c.args.nest.around) c.each.rest.now ≡ true = cc in
+    let going : begins_arrow c.each.rest.now ≡ true = cc in
     record {
-      reads = rw pushed (reads_more (begins_arrow c.args.nest.around) (arrow_over (within c.args.nest.room) c.args.nest.around) (map link_view c.each.all.items) c.each.rest.now c.in_ok-another.behind.now (link_view c.in_ok-another.another) _ c.each.invariant.reads going read (omega (arith, c.in_ok-another.ensures.shorter)));
+      reads = rw pushed (reads_more begins_arrow (arrow_over (within c.args.nest.room) c.args.nest.around) (map link_view c.each.all.items) c.each.rest.now c.in_ok-another.behind.now (link_view c.in_ok-another.another) _ c.each.invariant.reads going read (omega (arith, c.in_ok-another.ensures.shorter)));
       shorter = omega (arith, c.in_ok-another.ensures.shorter);
     }
 
 pub arrow_links-returns-clause-value : goal.arrow_links-returns-clause-value
 arrow_links-returns-clause-value t c =
-    let stops : (begins_arrow c.args.nest.around) c.each.rest.now ≡ false = cc in
-    reads_ends (begins_arrow c.args.nest.around) (arrow_over (within c.args.nest.room) c.args.nest.around) (map link_view c.each.all.items) c.each.rest.now _ c.each.invariant.reads stops
+    let stops : begins_arrow c.each.rest.now ≡ false = cc in
+    reads_ends begins_arrow (arrow_over (within c.args.nest.room) c.args.nest.around) (map link_view c.each.all.items) c.each.rest.now _ c.each.invariant.reads stops
 
 pub more_declarations-returns-in_err-another-clause-value : goal.more_declarations-returns-in_err-another-clause-value
 more_declarations-returns-in_err-another-clause-value t c =

@@ -5,7 +5,7 @@ use Rattle.alloy_syntax.specs.declared.reading.Inside.TheVariants.{Node}
 use Rattle.alloy_syntax.specs.Readers.{next_is, behind, others, many}
 use Rattle.alloy_syntax.specs.Nodes.{within, is_inner, begins_step, step_over, begins_link, link_over, begins_arrow, arrow_over, more_declarations, another_declaration, binding_over}
 use Rattle.alloy_syntax.specs.View.{view, views, step_view, link_view, declaration_view, binding_view}
-use Rattle.alloy_cursor.proofs.Loop.{Reads}
+use Rattle.alloy_syntax.proofs.Loop.{Reads}
 use Rattle.alloy_nodes.specs.Levels.{operand_over}
 use Rattle.alloy_nodes.proofs.Ranks.{rank}
 use Rattle.alloy_nodes.proofs.nodes.+nodes.Given as goal
@@ -162,7 +162,7 @@ decreases-links-each l = length l.rest
 
 abbrev pub invariant-arrow_links-each : goal.invariant-arrow_links-each
 invariant-arrow_links-each l = record {
-  reads : Reads (begins_arrow l.nest.around) (arrow_over (within l.nest.room) l.nest.around) (map link_view l.all.items) l.rest (many (begins_arrow l.nest.around) (arrow_over (within l.nest.room) l.nest.around) l.tokens);
+  reads : Reads begins_arrow (arrow_over (within l.nest.room) l.nest.around) (map link_view l.all.items) l.rest (many begins_arrow (arrow_over (within l.nest.room) l.nest.around) l.tokens);
   shorter : length l.rest ≤ length l.tokens;
 }
 

@@ -5,7 +5,7 @@ use Rattle.alloy_syntax.specs.declared.class.Class.TheVariants.{Plus}
 use Rattle.alloy_syntax.specs.Readers.{next_is, place_at}
 use Rattle.alloy_syntax.specs.Bounds.{begins_bound_arrow}
 use Rattle.alloy_syntax.specs.View.{arrow_view, bound_view}
-use Rattle.alloy_cursor.proofs.Loop.{loop_fails, reads_more, reads_ends}
+use Rattle.alloy_syntax.proofs.Loop.{loop_fails, reads_more, reads_ends}
 use Rattle.alloy_parse.specs.Bounds.{bounded, operand_view}
 use Rattle.alloy_parse.proofs.Operands.{gathers_start, gathers_more, gathers_ends, gathers_fails}
 use Rattle.alloy_parse.proofs.bounds.+bounds.Goals as goal

@@ -1,8 +1,8 @@
 use Rattle.std.proofs.Common.{◌+◌, ◌*◌, ◌≤◌, map, length}
 use Rattle.alloy_syntax.specs.View.{arrow_view}
 use Rattle.alloy_syntax.specs.Bounds.{begins_bound_arrow, bound_arrow_over, more_bound_arrows, bound_within}
-use Rattle.alloy_cursor.proofs.Loop.{Reads}
-use Rattle.alloy_parse.specs.Bounds.{operand_view}
+use Rattle.alloy_syntax.proofs.Loop.{Reads}
+use Rattle.alloy_parse.specs.Bounds.{standing_view, word_view, operand_view}
 use Rattle.alloy_parse.proofs.Operands.{Gathers}
 use Rattle.alloy_parse.proofs.bounds.+bounds.Given as goal
 
@@ -32,7 +32,7 @@ decreases-bound l = 64 * l.room + 7
 
 abbrev pub invariant-more_bound_arrows-each : goal.invariant-more_bound_arrows-each
 invariant-more_bound_arrows-each l = record {
-  reads : Reads begins_bound_arrow (bound_arrow_over (bound_within l.room) l.before.standing l.before.marked l.before.has_arrow) (map arrow_view l.all.items) l.rest (more_bound_arrows (bound_within l.room) l.fn.standing (arrow_view l.fn.first) l.tokens);
+  reads : Reads begins_bound_arrow (bound_arrow_over (bound_within l.room) (standing_view l.before.standing) (word_view l.before.marked) l.before.has_arrow) (map arrow_view l.all.items) l.rest (more_bound_arrows (bound_within l.room) (standing_view l.fn.standing) (word_view l.fn.marked) (arrow_view l.fn.first) l.tokens);
   shorter : length l.rest ≤ length l.tokens;
 }
 
@@ -41,7 +41,7 @@ decreases-more_bound_arrows-each l = length l.rest
 
 abbrev pub invariant-operands-each : goal.invariant-operands-each
 invariant-operands-each l = record {
-  gathers : Gathers (bound_within l.room) l.standing (map operand_view l.all.items) l.has_arrow l.rest l.tokens;
+  gathers : Gathers (bound_within l.room) (standing_view l.standing) (map operand_view l.all.items) l.has_arrow l.rest l.tokens;
   shorter : length l.rest ≤ length l.tokens;
 }
 

@@ -2,7 +2,7 @@ use Rattle.std.proofs.Common.{◌≡◌, true, false, arith}
 use Rattle.std.proofs.lemmas.Result.{err_from_is_err_and}
 use Rattle.alloy_syntax.specs.declared.class.Class.TheVariants.{Comma}
 use Rattle.alloy_syntax.specs.Readers.{next_is}
-use Rattle.alloy_cursor.proofs.Loop.{loop_fails, reads_more, reads_ends}
+use Rattle.alloy_syntax.proofs.Loop.{loop_fails, reads_more, reads_ends}
 use Rattle.alloy_parse.proofs.paragraphs.more_entries.Goals as goal
 
 pub returns-in_err-another-clause-value : goal.returns-in_err-another-clause-value

@@ -2,7 +2,7 @@ use Rattle.std.proofs.Common.{◌≤◌, length}
 use Rattle.alloy_syntax.specs.declared.class.Class.TheVariants.{Comma}
 use Rattle.alloy_syntax.specs.Readers.{next_is, behind, others}
 use Rattle.alloy_syntax.specs.Paragraphs.{entry_at}
-use Rattle.alloy_cursor.proofs.Loop.{Reads}
+use Rattle.alloy_syntax.proofs.Loop.{Reads}
 use Rattle.alloy_parse.proofs.paragraphs.more_entries.Given as goal
 
 abbrev pub invariant-each : goal.invariant-each

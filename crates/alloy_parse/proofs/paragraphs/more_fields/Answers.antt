@@ -4,7 +4,7 @@ use Rattle.std.proofs.lemmas.List.{map_push}
 use Rattle.alloy_syntax.specs.declared.class.Class.TheVariants.{Comma}
 use Rattle.alloy_syntax.specs.Readers.{next_is}
 use Rattle.alloy_syntax.specs.View.{field_view}
-use Rattle.alloy_cursor.proofs.Loop.{loop_fails, reads_more, reads_ends}
+use Rattle.alloy_syntax.proofs.Loop.{loop_fails, reads_more, reads_ends}
 use Rattle.alloy_parse.proofs.paragraphs.more_fields.Goals as goal
 
 pub returns-in_err-another-clause-value : goal.returns-in_err-another-clause-value

@@ -1,14 +1,14 @@
 use Rattle.std.proofs.Common.{◌≤◌, map, length}
 use Rattle.alloy_syntax.specs.declared.class.Class.TheVariants.{Comma}
 use Rattle.alloy_syntax.specs.Readers.{next_is, behind, others}
-use Rattle.alloy_syntax.specs.Paragraphs.{field_at}
+use Rattle.alloy_syntax.specs.Paragraphs.{depth_limit, field_at}
 use Rattle.alloy_syntax.specs.View.{field_view}
-use Rattle.alloy_cursor.proofs.Loop.{Reads}
+use Rattle.alloy_syntax.proofs.Loop.{Reads}
 use Rattle.alloy_parse.proofs.paragraphs.more_fields.Given as goal
 
 abbrev pub invariant-each : goal.invariant-each
 invariant-each l = record {
-  reads : Reads (next_is Comma) (behind field_at) (map field_view l.all.items) l.rest (others field_at (field_view l.fn.first) l.tokens);
+  reads : Reads (next_is Comma) (behind (field_at depth_limit)) (map field_view l.all.items) l.rest (others (field_at depth_limit) (field_view l.fn.first) l.tokens);
   shorter : length l.rest ≤ length l.tokens;
 }
 

@@ -1,0 +1,27 @@
+use Rattle.std.proofs.Common.{◌≡◌, true, false, arith}
+use Rattle.std.proofs.lemmas.Result.{err_from_is_err_and}
+use Rattle.alloy_syntax.specs.declared.class.Class.TheVariants.{Comma}
+use Rattle.alloy_syntax.specs.Readers.{next_is, behind, name_at}
+use Rattle.alloy_syntax.proofs.Loop.{loop_fails, reads_more, reads_ends}
+use Rattle.alloy_syntax.proofs.cursor.more_names.Goals as goal
+
+pub returns-in_err-another-clause-value : goal.returns-in_err-another-clause-value
+returns-in_err-another-clause-value c =
+    let p = err_from_is_err_and c.from_residual-in_err-another.result c.from_residual-in_err-another.ensures.1 in
+    let read = rw c.after.ensures.value at c.in_err-another.ensures.value in
+    let going : next_is Comma c.each.rest.now ≡ true = cc in
+    rw (p.1, p.2) (loop_fails _ (next_is Comma) (behind name_at) c.each.all.items c.each.rest.now _ c.each.invariant.reads going read)
+
+pub each-preserved : goal.each-preserved
+each-preserved c =
+    let read = rw c.after.ensures.value at c.in_ok-another.ensures.value in
+    let going : next_is Comma c.each.rest.now ≡ true = cc in
+    record {
+      reads = rw c.in_ok-push-2.ensures.items (reads_more (next_is Comma) (behind name_at) c.each.all.items c.each.rest.now c.in_ok-another.behind.now c.in_ok-another.another _ c.each.invariant.reads going read (omega (arith, c.in_ok-another.ensures.shorter)));
+      shorter = omega (arith, c.in_ok-another.ensures.shorter);
+    }
+
+pub returns-clause-value : goal.returns-clause-value
+returns-clause-value c =
+    let stops : next_is Comma c.each.rest.now ≡ false = cc in
+    reads_ends (next_is Comma) (behind name_at) c.each.all.items c.each.rest.now _ c.each.invariant.reads stops

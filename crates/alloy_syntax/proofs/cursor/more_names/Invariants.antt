@@ -1,0 +1,14 @@
+use Rattle.std.proofs.Common.{◌≤◌, length}
+use Rattle.alloy_syntax.specs.declared.class.Class.TheVariants.{Comma}
+use Rattle.alloy_syntax.specs.Readers.{next_is, behind, name_at, others}
+use Rattle.alloy_syntax.proofs.Loop.{Reads}
+use Rattle.alloy_syntax.proofs.cursor.more_names.Given as goal
+
+abbrev pub invariant-each : goal.invariant-each
+invariant-each l = record {
+  reads : Reads (next_is Comma) (behind name_at) l.all.items l.rest (others name_at l.fn.first l.tokens);
+  shorter : length l.rest ≤ length l.tokens;
+}
+
+abbrev pub decreases-each : goal.decreases-each
+decreases-each l = length l.rest

@@ -1,0 +1,64 @@
+// Tokens as readers see them, and why reading stops.
+ghost use Rattle.std.specs.Prelude.{◌≡◌, IfOk};
+ghost use Rattle.alloy_syntax.specs.Seen.{seen, seen_all};
+
+use crate::reading::Form;
+use crate::{Seen, class_of};
+use alloy_lex::Token;
+use std::alloc::{AllocError, AllocFailed, Global};
+
+/// The tokens that are left.
+pub type Tokens<'a> = &'a [Seen];
+
+/// Why no tree is answered.
+#[derive(Drop)]
+pub enum Halt<'a> {
+    Memory,
+    /// The tokens from the first that can't stand there.
+    Refused(Tokens<'a>),
+    /// The tokens from the first that lies too deep.
+    Deep(Tokens<'a>),
+    /// A refused form, and the tokens from the one that it is named by.
+    Unsupported(Form, Tokens<'a>),
+}
+
+impl From<AllocError> for Halt<'_> {
+    ghost use Rattle.alloy_syntax.specs.declared.halt.Halt.TheVariants.{Memory};
+
+    ghost from_gives = { λ _ e. e ≡ Memory };
+
+    fn from(_e: AllocError) -> Self {
+        Halt::Memory
+    }
+}
+
+impl<T: Drop> From<AllocFailed<T>> for Halt<'_> {
+    ghost use Rattle.alloy_syntax.specs.declared.halt.Halt.TheVariants.{Memory};
+
+    ghost from_gives = { λ _ e. e ≡ Memory };
+
+    fn from(_e: AllocFailed<T>) -> Self {
+        Halt::Memory
+    }
+}
+
+/// Each token as a reader sees it.
+pub fn seen_tokens(alloc: Global, tokens: &[Token]) -> Result<Vec<Seen>, AllocError>
+    ensures { IfOk result (λ found. found.items ≡ seen_all tokens.now) }
+{
+    let mut found = Vec::new(alloc);
+    for token in tokens {
+        found.push(seen(alloc, token)?)?;
+    }
+    Ok(found)
+}
+
+fn seen(alloc: Global, token: &Token) -> Result<Seen, AllocError>
+    ensures { IfOk result (λ found. found ≡ seen token.now) }
+{
+    Ok(Seen {
+        class: class_of(token),
+        place: token.place,
+        text: token.text.copy(alloc)?,
+    })
+}
