@@ -19,6 +19,6 @@ run_more p s m t replies new reply e run step =
 
 -- a reply to a next fits the problem
 pub step_fits : (p : Bounded) (m t : State) (reply : Reply) → MachineStep p m Next reply t → FitsProblem p reply
-step_fits p m t (Shown number scenario) step = step.due.minimal.scenario.cells
+step_fits p m t (Shown number scenario) step = step.due.minimal.instance_of.scenario.cells
 step_fits p m t (End number) step = tt
 step_fits p m t Memory step = tt

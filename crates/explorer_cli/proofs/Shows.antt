@@ -5,15 +5,13 @@ use Rattle.std.proofs.lemmas.Bool.{cases_lt}
 use Rattle.std.proofs.lemmas.List.{append-nil, map-append}
 use Rattle.std.proofs.lemmas.List.Elements.{filter-append, Contains-append_right, Contains-append_cases}
 use Rattle.std.proofs.lemmas.Slice.Eq.{bytes_eq-Decides}
-use Rattle.tuple_core.specs.declared.atom.Atom.{Atom}
 use Rattle.rel_formula.specs.Bounds.{Bounded}
-use Rattle.rel_formula.specs.Order.{IsDue}
-use Rattle.rel_formula.specs.Renaming.{IsRenaming, IsImage}
+use Rattle.swap_symmetry.specs.Due.{IsDue}
 use Rattle.session_rules.specs.declared.reply.Step.TheVariants.{Next}
 use Rattle.session_rules.specs.declared.reply.Reply.{Reply}
 use Rattle.session_rules.specs.declared.reply.Reply.TheVariants.{Shown, End, Memory}
 use Rattle.session_rules.specs.Machine.{ShownAt, State, Start, top_floor, shown_here, ShowsNext, EndsNow, EndedBefore, MachineStep, MachineRun}
-use Rattle.explorer_cli.specs.Runs.{to_next, AreRepliesOn, scenarios_in, IsShownBefore, IsRenamingOfShown}
+use Rattle.explorer_cli.specs.Runs.{to_next, AreRepliesOn, scenarios_in, IsShownBefore}
 
 -- at this floor just these scenarios were shown, and all that are due if it has ended
 pub record HasShown (p : Bounded) (floor : List ℕ) (front : List (List ℕ)) (s : State) : Type 0 where
@@ -145,14 +143,3 @@ module _ (p : Bounded) (replies : List Reply) (run : AreRepliesOn p replies) whe
   end_number end number e =
       let h = reached end (End number) e in
       h.3.0 ∙ ap length h.2.shown_is
-
-  pub end_renames : (end number : ℕ) → slice_get replies end ≡ Some (End number) → (scenario image : List ℕ) (there back : Atom → Atom)
-      → IsRenaming p there back → IsImage p there scenario image → IsDue p [] image → IsRenamingOfShown p replies end scenario
-  end_renames end number e scenario image there back renaming is_image due = record {
-    there = there;
-    back = back;
-    image = image;
-    renaming = renaming;
-    is_image = is_image;
-    shown = end_all end number e image due;
-  }

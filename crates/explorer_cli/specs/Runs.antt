@@ -1,15 +1,14 @@
 -- Runs of a session that is always asked for the next scenario.
 use Rattle.std.specs.Prelude.{◌≡◌, ◌<◌, ℕ, List, [], ◌∷◌, map, length, slice_get, Some}
-use Rattle.tuple_core.specs.declared.atom.Atom.{Atom}
 use Rattle.rel_formula.specs.Bounds.{Bounded}
-use Rattle.rel_formula.specs.Renaming.{IsRenaming, IsImage}
+use Rattle.rel_formula.specs.Renaming.{IsRenamingOf}
 use Rattle.session_rules.specs.declared.reply.Step.TheVariants.{Next}
 use Rattle.session_rules.specs.declared.reply.Reply.{Reply}
 use Rattle.session_rules.specs.declared.reply.Reply.TheVariants.{Shown, End, Memory}
 use Rattle.session_rules.specs.Machine.{State, Start, Exchange, MachineRun}
 use Rattle.script_text.specs.Replies.{IsSessionText}
 use Rattle.short_scripts.specs.Script.{Script}
-use Rattle.short_models.specs.Problem.{Short, IsShort, IsProblemOf}
+use Rattle.short_models.specs.Problem.{Short, IsShort, problem_of}
 
 -- replies to a session that is always asked for the next scenario
 abbrev pub to_next : Reply → Exchange
@@ -22,12 +21,10 @@ AreRepliesOn p replies = (last : State) × MachineRun p (Start 20000) (map to_ne
 -- the text of the script's session on the problem of a short model: the replies are a run of the session machine, one for each `next`
 pub record IsRunOf (s : Script) (m : Short) (text : List ℕ) : Type 0 where
   pub short : IsShort m
-  pub problem : Bounded
-  pub of : IsProblemOf m problem
   pub replies : List Reply
   pub count : length replies ≡ s.nexts
-  pub run : AreRepliesOn problem replies
-  pub written : IsSessionText problem s.session replies text
+  pub run : AreRepliesOn (problem_of m) replies
+  pub written : IsSessionText (problem_of m) s.session replies text
 
 -- the scenarios that replies show, in order
 abbrev pub scenarios_in : List Reply → List (List ℕ)
@@ -40,11 +37,6 @@ scenarios_in (Memory ∷ others) = scenarios_in others
 abbrev pub IsShownBefore : List Reply → ℕ → List ℕ → Type 0
 IsShownBefore replies before scenario = (place : ℕ) × (number : ℕ) × (place < before) × (slice_get replies place ≡ Some (Shown number scenario))
 
--- a renaming, there and back, takes the scenario to one that was shown before
-pub record IsRenamingOfShown (p : Bounded) (replies : List Reply) (before : ℕ) (scenario : List ℕ) : Type 0 where
-  pub there : Atom → Atom
-  pub back : Atom → Atom
-  pub image : List ℕ
-  pub renaming : IsRenaming p there back
-  pub is_image : IsImage p there scenario image
-  pub shown : IsShownBefore replies before image
+-- a renaming takes the scenario to one that was shown before
+abbrev pub IsRenamingOfShown : Bounded → List Reply → ℕ → List ℕ → Type 0
+IsRenamingOfShown p replies before scenario = (image : List ℕ) × IsRenamingOf p scenario image × IsShownBefore replies before image

@@ -8,7 +8,7 @@ ghost use Rattle.explorer_cli.specs.Runs.{to_next, IsRunOf};
 ghost use Rattle.explorer_cli.specs.Outcome.{model_line, IsAnswerTo, IsAnswerToScript};
 
 use model_texts::{ModelText, read_model};
-use script_text::session_text;
+use script_text::text_of_replies;
 use session_rules::Reply;
 use session_state::Session;
 use short_models::{ShortModel, problem_of};
@@ -79,7 +79,7 @@ fn run(alloc: Global, script: &ShortScript, model: &ShortModel) -> Result<Vec<u8
     let problem = problem_of(alloc, model)?;
     let mut session = Session::new(alloc, problem, DEFAULT_BUDGET)?;
     let answered = replies(alloc, &mut session, script.nexts)?;
-    Ok(session_text(alloc, script.session.as_str(), session.problem(), &answered)?)
+    Ok(text_of_replies(alloc, script.session.as_str(), session.problem(), &answered)?)
 }
 
 // The replies of a session that is asked for so many scenarios.

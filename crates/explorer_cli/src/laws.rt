@@ -1,14 +1,12 @@
 // Laws of the definitions: each is the contract of a function that does nothing.
 ghost use Rattle.std.specs.Prelude.{◌≡◌, ◌+◌, ℕ, List, [], length, take, slice_get, Some};
-ghost use Rattle.tuple_core.specs.declared.atom.Atom.{Atom};
 ghost use Rattle.rel_formula.specs.Bounds.{Bounded};
 ghost use Rattle.rel_formula.specs.Instance.{IsMinimalAbove};
-ghost use Rattle.rel_formula.specs.Order.{IsDue};
-ghost use Rattle.rel_formula.specs.Renaming.{IsRenaming, IsImage};
+ghost use Rattle.swap_symmetry.specs.Due.{IsDue};
 ghost use Rattle.session_rules.specs.declared.reply.Reply.{Reply};
 ghost use Rattle.session_rules.specs.declared.reply.Reply.TheVariants.{Shown, End};
 ghost use Rattle.short_scripts.specs.Script.{Script, IsShortScript};
-ghost use Rattle.short_models.specs.Problem.{Short};
+ghost use Rattle.short_models.specs.Problem.{Short, problem_of};
 ghost use Rattle.model_texts.specs.ModelText.{SaysShort};
 ghost use Rattle.explorer_cli.specs.Outcome.{IsAnswerTo};
 ghost use Rattle.explorer_cli.specs.Runs.{AreRepliesOn, IsRunOf, scenarios_in, IsShownBefore, IsRenamingOfShown};
@@ -24,12 +22,10 @@ pub fn short_models_are_run()
         → IsShortScript bytes s → SaysShort s.text m → IsAnswerTo bytes status text → status ≡ 0 }
 {}
 
-/// Each scenario that is shown is due and minimal, and its number is its place, from 1, among those that are shown.
-pub fn shown_are_minimal()
+/// Each scenario that is shown is due, and its number is its place, from 1, among those that are shown.
+pub fn shown_are_due()
     ensures due { (p : Bounded) (replies : List Reply) → AreRepliesOn p replies
         → (place number : ℕ) (scenario : List ℕ) → slice_get replies place ≡ Some (Shown number scenario) → IsDue p [] scenario }
-    ensures minimal { (p : Bounded) (replies : List Reply) → AreRepliesOn p replies
-        → (place number : ℕ) (scenario : List ℕ) → slice_get replies place ≡ Some (Shown number scenario) → IsMinimalAbove p [] scenario }
     ensures number { (p : Bounded) (replies : List Reply) → AreRepliesOn p replies
         → (place number : ℕ) (scenario : List ℕ) → slice_get replies place ≡ Some (Shown number scenario)
         → number ≡ length (scenarios_in (take place replies)) + 1 }
@@ -43,16 +39,11 @@ pub fn none_is_shown_twice()
         → first ≡ second }
 {}
 
-/// At an end every scenario that is due was shown before, with it whatever is a renaming of it, and the end's number is
-/// how many were shown.
+/// At an end every scenario that is due was shown before, and the end's number is how many were shown.
 pub fn end_says_all()
     ensures all { (p : Bounded) (replies : List Reply) → AreRepliesOn p replies
         → (end number : ℕ) → slice_get replies end ≡ Some (End number)
         → (scenario : List ℕ) → IsDue p [] scenario → IsShownBefore replies end scenario }
-    ensures renamings { (p : Bounded) (replies : List Reply) → AreRepliesOn p replies
-        → (end number : ℕ) → slice_get replies end ≡ Some (End number)
-        → (scenario image : List ℕ) (there back : Atom → Atom) → IsRenaming p there back → IsImage p there scenario image
-        → IsDue p [] image → IsRenamingOfShown p replies end scenario }
     ensures number { (p : Bounded) (replies : List Reply) → AreRepliesOn p replies
         → (end number : ℕ) → slice_get replies end ≡ Some (End number)
         → number ≡ length (scenarios_in (take end replies)) }
@@ -62,5 +53,5 @@ pub fn end_says_all()
 pub fn nothing_is_left_after_an_end()
     ensures { (s : Script) (m : Short) (text : List ℕ) (run : IsRunOf s m text)
         → (end number : ℕ) → slice_get run.replies end ≡ Some (End number)
-        → (scenario : List ℕ) → IsMinimalAbove run.problem [] scenario → IsRenamingOfShown run.problem run.replies end scenario }
+        → (scenario : List ℕ) → IsMinimalAbove (problem_of m) [] scenario → IsRenamingOfShown (problem_of m) run.replies end scenario }
 {}

@@ -94,6 +94,8 @@ fn refuses_other_models(rt: HostRuntime) -> Result<(), Fail> {
         "sig A {} run show {}",
         "sig A {} run {} expect 1",
         "module m sig A {} run {}",
+        "sig A {} fun f: A { A } run {}",
+        "open util/ordering[A] as o sig A {} run {}",
         "sig A {} run { (some A) }",
         "sig A {} run { some A || no A }",
         "sig A {} run {} for 2 A",
