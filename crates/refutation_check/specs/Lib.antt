@@ -5,4 +5,6 @@ pub mod Lift
 pub mod Log
 pub mod Marks
 pub mod Part
+pub mod Renumbering
+pub mod SearchLog
 pub mod Verdict

@@ -2,6 +2,7 @@
 #![tactic(auto)]
 
 mod assumptions;
+mod laws;
 mod lifting;
 mod log;
 mod marks;
@@ -10,6 +11,10 @@ mod refutation;
 #[cfg(test)]
 mod tests;
 
+pub use laws::{
+    chains_are_renumbered, free_steps_are_accepted, lifted_pool_and_log_are_accepted,
+    novel_steps_are_counted,
+};
 pub use lifting::lift;
 pub use log::{Hints, Log, Step};
 pub use marks::{Sight, look};

@@ -14,12 +14,13 @@ use Rattle.cnf_core.specs.Valuation.{clause_value, value_of, Satisfies}
 use Rattle.refutation_check.specs.declared.log.Step.{Step}
 use Rattle.refutation_check.specs.Chain.{IsChain, members_of, IsAccepted, IsNovel, EndsEmpty}
 use Rattle.refutation_check.proofs.Entailment.{each_entailed, no_valuation}
+use Rattle.refutation_check.specs.SearchLog.{IsSearchLog, IsVarOf, HasVarsOf, IsAllNovel, IsNovelButLast, IsDirect}
 use Rattle.sat_trail.specs.Trailed.{Trailed, IsTrail, IsVarLimit, level_of}
-use Rattle.sat_trail.specs.Learnt.{IsFlat, IsAbove, IsVarOf}
+use Rattle.sat_trail.specs.Learnt.{IsFlat, IsAbove}
 use Rattle.sat_trail.specs.Closed.{IsClosedBelow}
 use Rattle.sat_trail.proofs.Trails.{All-front}
 use Rattle.sat_core.proofs.Descents.{flat_or_above, flat_at_zero}
-use Rattle.sat_core.specs.Answers.{HasVarsOf, IsAllNovel, IsNovelButLast, IsDirect, IsModel}
+use Rattle.sat_core.specs.Answers.{IsModel}
 use Rattle.sat_core.specs.Search.{Searching, IsStuck, IsEnd, IsProgress}
 
 -- the members with one more step
@@ -196,6 +197,19 @@ module _ (given : List (List Lit)) (first : ℕ) (old mid : Trailed) (log : List
       end_direct hints chain =
           let none : log ≡ [] = was.direct hints chain in
           inr (end.extended.step, end.extended.added ∙ ap (λ (ss : List Step). ss ++ end.extended.step ∷ []) none, end.empty)
+
+      pub end_log : IsSearchLog given after
+      end_log = record { accepted = end_accepted; vars = end_vars; novel = end_novel; direct = end_direct }
+
+-- the log while the search goes on
+pub log_so_far : (given : List (List Lit)) (first : ℕ) (trail : Trailed) (log : List Step) → Searching given first trail log → IsSearchLog given log
+log_so_far given first trail log s =
+    record {
+      accepted = s.accepted;
+      vars = s.vars_of;
+      novel = novel_all given log s.novel;
+      direct = λ hints chain. inl (s.direct hints chain);
+    }
 
 -- a valuation that satisfies the formula and the local clauses satisfies the pool too
 pool_holds : (clauses local : List (List Lit)) (pool : List Step) → IsAccepted clauses pool → (v : ℕ → Bool) → Satisfies v (clauses ++ local) → Satisfies v (members_of (clauses ++ local) pool)

@@ -6,8 +6,7 @@ use Rattle.refutation_check.specs.Chain.{members_of, IsAccepted, IsChain, IsNove
 use Rattle.refutation_check.specs.Assumed.{IsOpen}
 use Rattle.sat_trail.specs.Trailed.{Trailed, falses_of, level_of, IsVarLimit}
 use Rattle.sat_trail.specs.Closed.{IsClosed, IsClosedBelow}
-use Rattle.sat_trail.specs.Learnt.{IsVarOf}
-use Rattle.sat_core.specs.Answers.{HasVarsOf, HasNoEmpty, IsAllNovel}
+use Rattle.refutation_check.specs.SearchLog.{IsVarOf, HasVarsOf, HasNoEmpty, IsAllNovel}
 
 -- each variable from 1 to this one has a value
 abbrev pub HasAllValues : ℕ → List Lit → Type 0

@@ -1,7 +1,8 @@
 ghost use Rattle.std.specs.Prelude.{◌≡◌, ◌+◌, ◌≤◌, ◌<◌, ◌^◌, ◌++◌, [], ℕ, List, All, IfOk, MatchBool, length};
 ghost use Rattle.cnf_core.specs.Literal.{HasVarsUpTo};
-ghost use Rattle.refutation_check.specs.Chain.{members_of, IsAccepted, IsChain};
-ghost use Rattle.sat_core.specs.Answers.{log_of, HasVarsOf, IsNovelButLast, IsDirect, IsRight};
+ghost use Rattle.refutation_check.specs.Chain.{members_of, IsAccepted};
+ghost use Rattle.refutation_check.specs.SearchLog.{IsSearchLog};
+ghost use Rattle.sat_core.specs.Answers.{log_of, IsRight};
 ghost use Rattle.sat_core.specs.Search.{IsStuck, IsEnd, IsProgress};
 ghost use Rattle.cnf_core.specs.declared.literal.Lit.{Lit};
 
@@ -35,13 +36,10 @@ pub fn solve(
 ) -> Result<Answer, NoMemory>
     requires pool { IsAccepted f.now.clauses pool.now }
     requires few { length f.now.clauses + length local.now + length pool.now + budget < 2 ^ 30 }
-    ensures accepted { IfOk result (λ a. IsAccepted (members_of (f.now.clauses ++ local.now) pool.now) (log_of a)) }
-    ensures vars { IfOk result (λ a. HasVarsOf (members_of (f.now.clauses ++ local.now) pool.now) (log_of a)) }
+    ensures log { IfOk result (λ a. IsSearchLog (members_of (f.now.clauses ++ local.now) pool.now) (log_of a)) }
     ensures in_range { (n : ℕ) → All (HasVarsUpTo n) f.now.clauses → All (HasVarsUpTo n) local.now → All (λ s. HasVarsUpTo n s.clause) pool.now → IfOk result (λ a. All (λ s. HasVarsUpTo n s.clause) (log_of a)) }
-    ensures novel { IfOk result (λ a. IsNovelButLast (members_of (f.now.clauses ++ local.now) pool.now) (log_of a)) }
     ensures budget { IfOk result (λ a. length (log_of a) ≤ budget) }
     ensures answer { IfOk result (IsRight f.now.vars (f.now.clauses ++ local.now) pool.now budget) }
-    ensures direct { (hints : List ℕ) → IsChain (members_of (f.now.clauses ++ local.now) pool.now) [] hints → IfOk result (λ a. IsDirect (log_of a)) }
 {
     let mut trail = Trail::of(alloc, f, pool, local)?;
     let mut log = Log::new(alloc);

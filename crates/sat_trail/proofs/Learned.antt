@@ -11,11 +11,12 @@ use Rattle.cnf_core.specs.Literal.{negation_of, IsTautology, HasSameLiterals}
 use Rattle.refutation_check.specs.Chain.{IsUnit, Names, Refutes, Forces, IsChain, IsNovel}
 use Rattle.refutation_check.proofs.Sights.{lit_equal, lit_cases, not_not, not_fixed}
 use Rattle.refutation_check.proofs.Chains.{names_one}
+use Rattle.refutation_check.specs.SearchLog.{IsVarOf}
 use Rattle.sat_trail.specs.declared.trail.Assigned.{Assigned}
 use Rattle.refutation_check.specs.Assumed.{IsOpen}
 use Rattle.sat_trail.specs.Trailed.{falses_of, level_of, IsPlaced, IsTrail, IsVarUpTo}
 use Rattle.sat_trail.specs.Closed.{IsClosedBelow}
-use Rattle.sat_trail.specs.Learnt.{IsAbove, IsAsserting, IsFlat, IsVarOf}
+use Rattle.sat_trail.specs.Learnt.{IsAbove, IsAsserting, IsFlat}
 use Rattle.sat_trail.specs.Learning.{IsMarked, Learning, Marking, IsHigh, IsPointed, IsResolved}
 use Rattle.sat_trail.proofs.Trails.{placed_open, placed_level, level_of_take}
 

@@ -26,11 +26,3 @@ pub record IsAsserting (assigned : List Assigned) (clause : List Lit) : Type 0 w
   pub above : (d : Assigned) → 0 < (slice_index_or assigned place d).level
   pub has : (d : Assigned) → Contains clause (negation_of (slice_index_or assigned place d).lit)
   pub others : (l : Lit) (d : Assigned) → Contains clause l → (negation_of (slice_index_or assigned place d).lit ≡ l) ⊎ ((k : ℕ) × (k < length assigned) × ((slice_index_or assigned k d).level < (slice_index_or assigned place d).level) × (negation_of (slice_index_or assigned k d).lit ≡ l))
-
--- some clause has a literal of this variable
-pub record IsVarOf (clauses : List (List Lit)) (var : ℕ) : Type 0 where
-  pub clause : List Lit
-  pub literal : Lit
-  pub given : Contains clauses clause
-  pub member : Contains clause literal
-  pub same : literal.var ≡ var

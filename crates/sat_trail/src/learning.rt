@@ -2,9 +2,10 @@ ghost use Rattle.std.specs.Prelude.{◌≡◌, false, ◌<◌, ◌+◌, [], All,
 ghost use Rattle.cnf_core.specs.Literal.{HasVarsUpTo};
 ghost use Rattle.refutation_check.specs.Chain.{Refutes, IsChain, IsNovel};
 ghost use Rattle.refutation_check.specs.Marks.{IsWithin};
+ghost use Rattle.refutation_check.specs.SearchLog.{IsVarOf};
 ghost use Rattle.sat_trail.specs.Trailed.{falses_of};
 ghost use Rattle.sat_trail.specs.Closed.{IsClosedBelow};
-ghost use Rattle.sat_trail.specs.Learnt.{IsAbove, IsAsserting, IsFlat, IsVarOf};
+ghost use Rattle.sat_trail.specs.Learnt.{IsAbove, IsAsserting, IsFlat};
 ghost use Rattle.sat_trail.specs.Learning.{Learning, Marking, IsResolved, HasAnother, HasNoOther};
 
 use super::trail::{Assigned, Trail};

@@ -1,5 +1,5 @@
-use Rattle.std.proofs.Common.{◌≡◌, ◌≤◌, ◌+◌, ◌++◌, length, arith, ap, ◌∙◌, inl, length-append}
-use Rattle.sat_core.proofs.Searches.{searching_start, searching_more, end_accepted, end_vars, end_novel, end_empty, end_direct, cannot_hold, asked_model, novel_all, vars_bounded}
+use Rattle.std.proofs.Common.{◌≡◌, ◌≤◌, ◌+◌, ◌++◌, length, arith, ap, ◌∙◌, length-append}
+use Rattle.sat_core.proofs.Searches.{searching_start, searching_more, end_accepted, end_vars, end_log, log_so_far, end_empty, cannot_hold, asked_model, vars_bounded}
 use Rattle.sat_core.proofs.search.solve.Goals as goal
 
 pub learning-init : goal.learning-init
@@ -21,48 +21,12 @@ learning-preserved c =
       few = omega (arith, more, ap length c.steps.ensures.steps, was.few, c.if-steps-budget.false);
     }
 
-pub returns-in-None-clause-novel : goal.returns-in-None-clause-novel
-returns-in-None-clause-novel c = novel_all _ _ c.learning.invariant.searching.novel
-
-pub returns-in-None-clause-direct : goal.returns-in-None-clause-direct
-returns-in-None-clause-direct c = λ hints chain. inl (c.learning.invariant.searching.direct hints chain)
-
 pub returns-in-None-clause-answer : goal.returns-in-None-clause-answer
 returns-in-None-clause-answer c =
     let was = c.learning.invariant.searching in
     let now = c.in-None.ensures in
     let le : c.args.f.now.vars ≤ c.descend.new.trail.vars = omega (arith, was.vars.at_least, now.vars) in
     (asked_model c.args.f.now.vars c.descend.new.trail.vars (c.args.f.now.clauses ++ c.args.local.now) c.args.pool.now c.learning.log _ _ (now.clauses ∙ was.clauses) le c.in_ok-valuation-in-None.ensures, was.no_empty)
-
-pub returns-in-Some-clause-novel : goal.returns-in-Some-clause-novel
-returns-in-Some-clause-novel c = novel_all _ _ c.learning.invariant.searching.novel
-
-pub returns-in-Some-clause-direct : goal.returns-in-Some-clause-direct
-returns-in-Some-clause-direct c = λ hints chain. inl (c.learning.invariant.searching.direct hints chain)
-
-pub returns-then-branch-clause-accepted : goal.returns-then-branch-clause-accepted
-returns-then-branch-clause-accepted c =
-    let now = c.in-Some-2.ensures in
-    let end = rw c.if-branch.true at c.in_ok-learn_from-in-Some-2.ensures in
-    end_accepted _ _ _ _ _ c.learning.invariant.searching now.clauses now.vars _ now.end _ end
-
-pub returns-then-branch-clause-vars : goal.returns-then-branch-clause-vars
-returns-then-branch-clause-vars c =
-    let now = c.in-Some-2.ensures in
-    let end = rw c.if-branch.true at c.in_ok-learn_from-in-Some-2.ensures in
-    end_vars _ _ _ _ _ c.learning.invariant.searching now.clauses now.vars _ now.end _ end
-
-pub returns-then-branch-clause-novel : goal.returns-then-branch-clause-novel
-returns-then-branch-clause-novel c =
-    let now = c.in-Some-2.ensures in
-    let end = rw c.if-branch.true at c.in_ok-learn_from-in-Some-2.ensures in
-    end_novel _ _ _ _ _ c.learning.invariant.searching now.clauses now.vars _ now.end _ end
-
-pub returns-then-branch-clause-direct : goal.returns-then-branch-clause-direct
-returns-then-branch-clause-direct c =
-    let now = c.in-Some-2.ensures in
-    let end = rw c.if-branch.true at c.in_ok-learn_from-in-Some-2.ensures in
-    end_direct _ _ _ _ _ c.learning.invariant.searching now.clauses now.vars _ now.end _ end
 
 pub returns-then-branch-clause-answer : goal.returns-then-branch-clause-answer
 returns-then-branch-clause-answer c =
@@ -83,3 +47,15 @@ returns-then-branch-clause-in_range c =
     let now = c.in-Some-2.ensures in
     let end = rw c.if-branch.true at c.in_ok-learn_from-in-Some-2.ensures in
     vars_bounded c.args.f.now.clauses c.args.local.now c.args.pool.now _ (end_vars _ _ _ _ _ c.learning.invariant.searching now.clauses now.vars _ now.end _ end)
+
+pub returns-in-None-clause-log : goal.returns-in-None-clause-log
+returns-in-None-clause-log c = log_so_far _ _ _ _ c.learning.invariant.searching
+
+pub returns-in-Some-clause-log : goal.returns-in-Some-clause-log
+returns-in-Some-clause-log c = log_so_far _ _ _ _ c.learning.invariant.searching
+
+pub returns-then-branch-clause-log : goal.returns-then-branch-clause-log
+returns-then-branch-clause-log c =
+    let now = c.in-Some-2.ensures in
+    let end = rw c.if-branch.true at c.in_ok-learn_from-in-Some-2.ensures in
+    end_log _ _ _ _ _ c.learning.invariant.searching now.clauses now.vars _ now.end _ end
