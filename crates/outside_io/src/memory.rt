@@ -69,6 +69,7 @@ impl Source for MemSource {
         // It fails in the calls whose numbers it was told, and in no other.
         ensures fails { IsErr result ↔ ((0 < length into.old) × Contains self.old.fails (raised self.old.calls)) }
         ensures counted { OnErr result (self.new ≡ record self.old { calls = raised self.old.calls; faults = raised self.old.faults }) }
+        ensures untouched { OnErr result (into.new ≡ into.old) }
 
         // Else it gives as much as there is room for.
         ensures count { IfOk result (λ n. n ≡ min (length into.old) (min self.old.most (length self.old.left))) }

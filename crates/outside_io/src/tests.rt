@@ -2,6 +2,7 @@
 use crate::{
     Failed, MemSink, MemSource, ReadFault, Sink, Source, StdSink, StdSource, read_all, write_all,
 };
+use std::io::{self, ErrorKind, Write};
 use std::test::Fail;
 
 #[test]
@@ -85,4 +86,26 @@ fn a_writer_gets_all_bytes_until_it_is_full(rt: HostRuntime) -> Result<(), Fail>
     assert_eq!(rt; sink.write(b"ng"), Err(Failed));
     assert_eq!(rt; sink.write(b""), Ok(0));
     Ok(())
+}
+
+// A writer that takes what it is given and can't be flushed.
+#[derive(Drop)]
+struct Unflushed;
+
+impl Write for Unflushed {
+    fn write(&mut self, piece: &[u8]) -> io::Result<usize> {
+        Ok(piece.len())
+    }
+
+    fn flush(&mut self) -> io::Result<()> {
+        Err(ErrorKind::Other.into())
+    }
+}
+
+#[test]
+fn a_writer_that_can_t_be_flushed_is_at_fault(rt: HostRuntime) {
+    let mut sink = StdSink::new(Unflushed);
+    assert!(rt; sink.write(b"ab").is_err());
+    assert!(rt; write_all(&mut sink, b"ab").is_err());
+    assert!(rt; sink.write(b"").is_ok());
 }
