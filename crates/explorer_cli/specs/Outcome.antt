@@ -41,6 +41,14 @@ IsAnswerTo bytes status text =
     ((s : Script) × IsShortScript bytes s × IsAnswerToScript s status text)
     ⊎ (((s : Script) → IsShortScript bytes s → ⊥) × (status ≡ 3) × (text ≡ script_line))
 
+-- the answer to these bytes has this status
+abbrev pub IsStatusOf : List ℕ → ℕ → Type 0
+IsStatusOf bytes status = (text : List ℕ) × IsAnswerTo bytes status text
+
+-- the answer to these bytes has this status, and its text was appended
+abbrev pub Wrote : List ℕ → ℕ → List ℕ → List ℕ → Type 0
+Wrote bytes status old new = (text : List ℕ) × IsAnswerTo bytes status text × (new ≡ old ++ text)
+
 -- some bytes of an answer to these bytes were appended, and not all of it
 abbrev pub IsPartOfAnswer : List ℕ → List ℕ → List ℕ → Type 0
 IsPartOfAnswer bytes old new = (status : ℕ) × (text : List ℕ) × IsAnswerTo bytes status text × AppendsPart old new text
@@ -52,3 +60,7 @@ IsRunWord words = map string_bytes words ≡ codes "run" ∷ []
 -- done, refused words, a refused script, a refused model, a source that failed, a sink that failed, want of memory
 abbrev pub IsStatus : ℕ → Type 0
 IsStatus n = (n ≡ 0) ⊎ (n ≡ 2) ⊎ (n ≡ 3) ⊎ (n ≡ 4) ⊎ (n ≡ 5) ⊎ (n ≡ 6) ⊎ (n ≡ 7)
+
+-- the source failed, the sink failed, or memory was wanting
+abbrev pub HasFailed : ℕ → Type 0
+HasFailed n = (n ≡ 5) ⊎ (n ≡ 6) ⊎ (n ≡ 7)

@@ -2,7 +2,7 @@
 ghost use Rattle.std.specs.Prelude.{◌≡◌, ◌≢◌, ◌⊎◌, ◌↔◌, ◌++◌, ℕ, List, drop, IsTrue};
 ghost use Rattle.outside_io.specs.Count.{Rose};
 ghost use Rattle.outside_io.specs.Front.{AppendsPart};
-ghost use Rattle.explorer_cli.specs.Outcome.{IsRunWord, IsStatus, IsAnswerTo, IsPartOfAnswer, words_line};
+ghost use Rattle.explorer_cli.specs.Outcome.{IsRunWord, IsStatus, HasFailed, IsStatusOf, Wrote, IsPartOfAnswer, words_line};
 
 use crate::answer::answer_to;
 use outside_io::{ReadFault, Sink, Source, read_all, write_all};
@@ -35,12 +35,17 @@ pub fn explore<S: Source, K: Sink>(
     ensures read { S.tells source.old → IsRunWord words.now → ((result ≡ 5) ⊎ (result ≡ 7)) ⊎ (S.left source.new ≡ drop 1048577 (S.left source.old)) }
 
     // What is written is the answer to all that the source had, and under 6 a part of it.
-    ensures answer { S.tells source.old → K.tells sink.old → IsRunWord words.now → ((result ≡ 5) ⊎ (result ≡ 6) ⊎ (result ≡ 7)) ⊎ ((text : List ℕ) × IsAnswerTo (S.left source.old) result text × (K.written sink.new ≡ K.written sink.old ++ text)) }
+    ensures answer { S.tells source.old → K.tells sink.old → IsRunWord words.now
+        → HasFailed result ⊎ Wrote (S.left source.old) result (K.written sink.old) (K.written sink.new) }
     ensures part { S.tells source.old → K.tells sink.old → IsRunWord words.now → result ≡ 6 → IsPartOfAnswer (S.left source.old) (K.written sink.old) (K.written sink.new) }
     ensures words_part { K.tells sink.old → (IsRunWord words.now → ⊥) → result ≡ 6 → AppendsPart (K.written sink.old) (K.written sink.new) words_line }
 
+    // Also where the sink doesn't tell its bytes, the status is that of this answer.
+    ensures told { S.tells source.old → IsRunWord words.now → HasFailed result ⊎ IsStatusOf (S.left source.old) result }
+
     // Also where the source doesn't tell its bytes, it is the answer to some bytes.
-    ensures untold { K.tells sink.old → IsRunWord words.now → ((result ≡ 5) ⊎ (result ≡ 6) ⊎ (result ≡ 7)) ⊎ ((bytes : List ℕ) × (text : List ℕ) × IsAnswerTo bytes result text × (K.written sink.new ≡ K.written sink.old ++ text)) }
+    ensures untold { K.tells sink.old → IsRunWord words.now
+        → HasFailed result ⊎ ((bytes : List ℕ) × Wrote bytes result (K.written sink.old) (K.written sink.new)) }
     ensures untold_part { K.tells sink.old → IsRunWord words.now → result ≡ 6 → (bytes : List ℕ) × IsPartOfAnswer bytes (K.written sink.old) (K.written sink.new) }
 {
     if !are_run(words) {
@@ -65,7 +70,8 @@ fn write_answer<K: Sink>(alloc: Global, bytes: &[u8], sink: &mut K) -> u8
     ensures status { (result ≡ 0) ⊎ (result ≡ 3) ⊎ (result ≡ 4) ⊎ (result ≡ 6) ⊎ (result ≡ 7) }
     ensures failed { result ≡ 6 → Rose (K.faults sink.old) (K.faults sink.new) }
     ensures no_memory { result ≡ 7 → sink.new ≡ sink.old }
-    ensures answer { K.tells sink.old → ((result ≡ 6) ⊎ (result ≡ 7)) ⊎ ((text : List ℕ) × IsAnswerTo bytes.now result text × (K.written sink.new ≡ K.written sink.old ++ text)) }
+    ensures answer { K.tells sink.old → ((result ≡ 6) ⊎ (result ≡ 7)) ⊎ Wrote bytes.now result (K.written sink.old) (K.written sink.new) }
+    ensures told { ((result ≡ 6) ⊎ (result ≡ 7)) ⊎ IsStatusOf bytes.now result }
     ensures part { K.tells sink.old → result ≡ 6 → IsPartOfAnswer bytes.now (K.written sink.old) (K.written sink.new) }
 {
     match answer_to(alloc, bytes) {

@@ -14,6 +14,17 @@ returns-in-Ok-clause-answer g c =
       | inr done ↦ inr (done.0, answers_whole left status done.0 (subst (λ (xs : List ℕ). IsAnswerTo xs status done.0) front done.1), done.2)
     ]
 
+pub returns-in-Ok-clause-told : goal.returns-in-Ok-clause-told
+returns-in-Ok-clause-told g c =
+    let left = g.S.Source.left c.args.source.now in
+    let status = c.write_answer.result in
+    λ tells word.
+    let front : c.deref.result.now ≡ take 1048577 left = c.deref.ensures.value ∙ c.in-Ok.ensures.bytes tells in
+    elim c.write_answer.ensures.told [
+      | inl failed ↦ elim failed [ inl six ↦ inl (inr (inl six)) | inr seven ↦ inl (inr (inr seven)) ]
+      | inr done ↦ inr (done.0, answers_whole left status done.0 (subst (λ (xs : List ℕ). IsAnswerTo xs status done.0) front done.1))
+    ]
+
 pub returns-in-Ok-clause-part : goal.returns-in-Ok-clause-part
 returns-in-Ok-clause-part g c =
     let left = g.S.Source.left c.args.source.now in

@@ -12,3 +12,11 @@ returns-in-Ok-clause-answer g c =
         | inr failed ↦ inl (inl failed)
       ]
     ]
+
+pub returns-in-Ok-clause-told : goal.returns-in-Ok-clause-told
+returns-in-Ok-clause-told g c =
+    let text = c.in-Ok.answer.text.items in
+    elim c.finish.ensures.status [
+      | inl same ↦ inr (text, subst (λ (n : ℕ). IsAnswerTo c.args.bytes.now n text) (sym same) c.in-Ok.ensures)
+      | inr failed ↦ inl (inl failed)
+    ]
