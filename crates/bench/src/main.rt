@@ -46,6 +46,9 @@ fn measured<R: Threads + Wait + Sync>(
     if name == "lex" {
         return Ok(texts::tokens(alloc, count)?);
     }
+    if name == "parse" {
+        return Ok(texts::paragraphs(alloc, count)?);
+    }
     match name {
         "turns" => Ok(Some(turns::taken(rt, alloc, 1, count)?)),
         "turns_of_two" => Ok(Some(turns::taken(rt, alloc, 2, count)?)),
