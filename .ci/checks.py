@@ -14,9 +14,9 @@ RUNNER = Path("crates/run_examples")
 def examples():
     """Each example is run, as it stands, and its output is what the run has to print."""
     names = sorted(path.stem for path in Path("examples").glob("*.explore"))
-    run = (RUNNER / "args").read_text().split()
+    run = (RUNNER / "args").read_text(encoding="utf-8").split()
     yield "the examples are those that are run", names == run
-    printed = (RUNNER / "stdout").read_text()
+    printed = (RUNNER / "stdout").read_text(encoding="utf-8")
     expected = ""
     for name in names:
         script = Path(f"examples/{name}.explore").read_bytes()
@@ -27,14 +27,14 @@ def examples():
         found = output.is_file() and status is not None
         yield f"the example {name} has an output and a status", found
         if found:
-            expected += f"# {name}: status {status[1]}\n{output.read_text()}"
+            expected += f"# {name}: status {status[1]}\n" + output.read_text(encoding="utf-8")
     yield "what the run of the examples prints is their outputs", printed == expected
 
 
 def pairs(edit):
     """The file, the old text and the new one of each change of an edit."""
     file = old = None
-    for line in edit.read_text().splitlines():
+    for line in edit.read_text(encoding="utf-8").splitlines():
         field, _, text = line.partition(": ")
         if field == "file":
             file = text
@@ -51,7 +51,9 @@ def edits(log):
         alive = True
         for file, old, new in pairs(edit):
             path = edit.parent.parent / file
-            text = texts.get(path) or path.read_text()
+            if path not in texts:
+                texts[path] = path.read_text(encoding="utf-8") if path.is_file() else ""
+            text = texts[path]
             alive = alive and text.count(old) == 1 and not old.startswith(" ")
             texts[path] = text.replace(old, new)
         yield f"the edit {edit} applies", bool(texts) and alive
@@ -59,7 +61,7 @@ def edits(log):
 
 
 def main():
-    log = Path(sys.argv[1]).read_text(errors="replace")
+    log = Path(sys.argv[1]).read_text(encoding="utf-8", errors="replace")
     passed, failed = 0, 0
     for line in log.splitlines():
         counted = re.match(r"(\d+) passed, (\d+) failed", line)
