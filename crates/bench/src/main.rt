@@ -3,6 +3,7 @@
 #![tactic(auto)]
 
 mod gates;
+mod proof_texts;
 mod refutations;
 mod texts;
 mod turns;
@@ -40,6 +41,9 @@ fn measured<R: Threads + Wait + Sync>(
     if name == "gates" {
         return Ok(Some(gates::made(alloc, count)?));
     }
+    if name == "clauses" {
+        return Ok(Some(gates::clauses(alloc, count)?));
+    }
     if name == "hints" {
         return Ok(refutations::failing_step(alloc, count)?);
     }
@@ -48,6 +52,15 @@ fn measured<R: Threads + Wait + Sync>(
     }
     if name == "parse" {
         return Ok(texts::paragraphs(alloc, count)?);
+    }
+    if name == "read_proof" {
+        return Ok(proof_texts::read(alloc, count)?);
+    }
+    if name == "proof_text" {
+        return Ok(proof_texts::made(alloc, count)?);
+    }
+    if name == "check_proof" {
+        return Ok(proof_texts::checked(alloc, count)?);
     }
     match name {
         "turns" => Ok(Some(turns::taken(rt, alloc, 1, count)?)),

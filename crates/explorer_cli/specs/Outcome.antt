@@ -1,6 +1,7 @@
 -- What the program answers: its words, its texts and its statuses.
-use Rattle.std.specs.Prelude.{◌≡◌, ◌⊎◌, ℕ, List, [], ◌∷◌, ◌++◌, map, codes, string_bytes}
-use Rattle.std.specs.declared.string.String.{String}
+use Rattle.std.specs.Prelude.{◌≡◌, ◌⊎◌, ℕ, List, ◌++◌, codes}
+use Rattle.command_words.specs.declared.reading.Command.TheVariants.{Run}
+use Rattle.command_words.specs.Words.{Says}
 use Rattle.outside_io.specs.Front.{AppendsPart}
 use Rattle.short_scripts.specs.Script.{Script, IsShortScript}
 use Rattle.short_models.specs.Problem.{Short}
@@ -53,13 +54,18 @@ Wrote bytes status old new = (text : List ℕ) × IsAnswerTo bytes status text �
 abbrev pub IsPartOfAnswer : List ℕ → List ℕ → List ℕ → Type 0
 IsPartOfAnswer bytes old new = (status : ℕ) × (text : List ℕ) × IsAnswerTo bytes status text × AppendsPart old new text
 
--- the words are the one word `run`
-abbrev pub IsRunWord : {Z : Type 0} → List (String Z) → Type 0
-IsRunWord words = map string_bytes words ≡ codes "run" ∷ []
+-- the words say `run`, with some options
+abbrev pub SaysRun : List (List ℕ) → Type 0
+SaysRun words = (workers : ℕ) × (budget : ℕ) × Says words (Run workers budget)
 
--- done, refused words, a refused script, a refused model, a source that failed, a sink that failed, want of memory
+-- of `run`: done, a refused script, a refused model, a source that failed, a sink that failed, want of memory
+abbrev pub IsRunStatus : ℕ → Type 0
+IsRunStatus n = (n ≡ 0) ⊎ (n ≡ 3) ⊎ (n ≡ 4) ⊎ (n ≡ 5) ⊎ (n ≡ 6) ⊎ (n ≡ 7)
+
+-- done, a proof that isn't accepted, refused words, a refused script or proof text, a refused model, a source that failed,
+-- a sink that failed, want of memory
 abbrev pub IsStatus : ℕ → Type 0
-IsStatus n = (n ≡ 0) ⊎ (n ≡ 2) ⊎ (n ≡ 3) ⊎ (n ≡ 4) ⊎ (n ≡ 5) ⊎ (n ≡ 6) ⊎ (n ≡ 7)
+IsStatus n = (n ≡ 0) ⊎ (n ≡ 1) ⊎ (n ≡ 2) ⊎ (n ≡ 3) ⊎ (n ≡ 4) ⊎ (n ≡ 5) ⊎ (n ≡ 6) ⊎ (n ≡ 7)
 
 -- the source failed, the sink failed, or memory was wanting
 abbrev pub HasFailed : ℕ → Type 0

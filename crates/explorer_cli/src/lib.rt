@@ -1,8 +1,10 @@
-//! The top call of the program: it reads a script, runs its session and writes the replies.
+//! The top call of the program: it does what the words say. It reads a script, runs its session and writes the replies,
+//! or reads a proof text, checks it and writes the verdict.
 #![tactic(auto)]
 
 mod answer;
 pub mod laws;
+mod run_command;
 #[cfg(test)]
 mod tests;
 mod top_call;

@@ -191,12 +191,13 @@ fn reads_scripts(rt: HostRuntime) -> Result<(), Fail> {
 fn tells_what_failed(rt: HostRuntime) -> Result<(), Fail> {
     let alloc = rt.alloc();
     let script = b"== model m\nsig A {} run {} for 2\n== session a m 1\nnext\nnext\n";
-    let rows: [(&[&str], &[u32], &[u32], u8, &str); 7] = [
+    let rows: [(&[&str], &[u32], &[u32], u8, &str); 8] = [
         (&["run"], &[], &[], 0, "== a\nscenario 1\nA = {}\nend 1\n"),
         (&["run"], &[2], &[], 5, ""),
         (&["run"], &[], &[2], 6, "== a\nscena"),
         (&[], &[1], &[], 2, "fault words\n"),
         (&["run", "run"], &[1], &[], 2, "fault words\n"),
+        (&["run", "--workers", "0"], &[1], &[], 2, "fault words\n"),
         (&["walk"], &[1], &[], 2, "fault words\n"),
         (&["walk"], &[1], &[2], 6, "fault word"),
     ];
@@ -224,5 +225,73 @@ fn reads_a_mebibyte(rt: HostRuntime) -> Result<(), Fail> {
         assert_eq!(rt; text.as_str(), expected);
         assert_eq!(rt; found, status);
     }
+    Ok(())
+}
+
+// The rows of proof texts, and of words with options.
+#[test]
+fn checks_proof_texts(rt: HostRuntime) -> Result<(), Fail> {
+    let alloc = rt.alloc();
+    let square = "c 1 2 0\nc 1 -2 0\nc -1 2 0\nc -1 -2 0\ns 1 0 1 2 0\n";
+    let rows = [
+        ("", "s 0 5 3 4 0\n", 0, "accepted\n"),
+        ("", "s 0 3 4 0\n", 1, "refused step 2 hint 1\n"),
+        ("", "", 1, "no empty clause\n"),
+        (
+            "c 1 -1 0\n",
+            "s 0 5 3 4 0\n",
+            3,
+            "fault proof line 1 tautology\n",
+        ),
+        ("", "s 0 5 3 4", 3, "fault proof line 6 bad_line\n"),
+    ];
+    for (first, last, status, line) in rows {
+        let text = format!(in alloc; "{first}{square}{last}")?;
+        let (found, written) = explored(alloc, &["check"], text.as_bytes(), &[], &[])?;
+        assert_eq!(rt; written.as_str(), line, "{text}");
+        assert_eq!(rt; found, status, "{text}");
+    }
+    for (text, status, line) in [
+        ("", 1, "no empty clause\n"),
+        ("s 1 0 0\n", 1, "refused step 1 hint 0\n"),
+        ("s 1 0 2 0\n", 1, "refused step 1 hint 1\n"),
+    ] {
+        let (found, written) = explored(alloc, &["check"], text.as_bytes(), &[], &[])?;
+        assert_eq!(rt; written.as_str(), line, "{text}");
+        assert_eq!(rt; found, status, "{text}");
+    }
+    let (found, written) = explored(alloc, &["check"], b"c 0\ns 0 1 0\n", &[2], &[])?;
+    assert_eq!(rt; (found, written.as_str()), (5, ""));
+    let (found, written) = explored(alloc, &["check"], b"c 0 \ns 0 1 0\n", &[], &[1])?;
+    assert_eq!(rt; (found, written.as_str()), (6, ""));
+    Ok(())
+}
+
+// Whether the words are refused, and nothing is read, where the first read would fail.
+fn is_refused(alloc: Global, words: &[&str]) -> Result<bool, AllocError> {
+    let (status, text) = explored(alloc, words, b"== model m\n", &[1], &[])?;
+    Ok(status == 2 && text.as_str() == "fault words\n")
+}
+
+#[test]
+fn takes_options_of_run(rt: HostRuntime) -> Result<(), Fail> {
+    let alloc = rt.alloc();
+    let script = "== model m\nsig A {} run { some A } for 2\n== session a m 1\nnext\nnext\n";
+    let (status, text) = explored(
+        alloc,
+        &["run", "--workers=4", "--budget", "007"],
+        script.as_bytes(),
+        &[],
+        &[],
+    )?;
+    assert_eq!(rt; status, 0);
+    assert_eq!(rt; text.as_str(), "== a\nscenario 1\nA = {A$0}\nend 1\n");
+    assert!(rt; is_refused(alloc, &["run", "--workers", "4", "--workers", "4"])?);
+    assert!(rt; is_refused(alloc, &["run", "--"])?);
+    assert!(rt; is_refused(alloc, &["run", "-h"])?);
+    assert!(rt; is_refused(alloc, &["help"])?);
+    assert!(rt; is_refused(alloc, &["run", "--workers", "0"])?);
+    assert!(rt; is_refused(alloc, &["run", "--workers="])?);
+    assert!(rt; is_refused(alloc, &[])?);
     Ok(())
 }

@@ -1,18 +1,24 @@
 // The top call.
-ghost use Rattle.std.specs.Prelude.{◌≡◌, ◌≢◌, ◌⊎◌, ◌↔◌, ◌++◌, ℕ, List, drop, IsTrue};
+ghost use Rattle.std.specs.Prelude.{◌≡◌, ◌≢◌, ◌⊎◌, ◌++◌, ℕ, List, drop};
+ghost use Rattle.command_words.specs.declared.reading.Command.{Command as Said};
+ghost use Rattle.command_words.specs.declared.reading.Command.TheVariants.{Check};
+ghost use Rattle.command_words.specs.Words.{Says, SaysNone};
+ghost use Rattle.command_words.specs.Read.{texts};
 ghost use Rattle.outside_io.specs.Count.{Rose};
 ghost use Rattle.outside_io.specs.Front.{AppendsPart};
-ghost use Rattle.explorer_cli.specs.Outcome.{IsRunWord, IsStatus, HasFailed, IsStatusOf, Wrote, IsPartOfAnswer, words_line};
+ghost use Rattle.explorer_cli.specs.Outcome.{SaysRun, IsStatus, HasFailed, IsStatusOf, Wrote, IsPartOfAnswer, words_line};
+ghost use Rattle.proof_command.specs.Answer as check;
 
-use crate::answer::answer_to;
-use outside_io::{ReadFault, Sink, Source, read_all, write_all};
-use short_scripts::MOST_BYTES;
+use crate::run_command::{finish, run_script};
+use command_words::{Command, command_of};
+use outside_io::{Sink, Source};
+use proof_command::check_proof;
 use std::alloc::Global;
 
-/// Reads what the source has, does what the words say, writes to the sink, and gives the program's status:
-/// 0 done, 2 the words are refused, 3 the script is, 4 a model is, 5 the source failed, 6 the sink failed, 7 want of memory.
-/// The right words are the one word `run`. Where the source or the sink doesn't tell its bytes, the clauses about them
-/// say nothing.
+/// Reads what the source has, does what the words say, writes to the sink, and gives the program's status: 0 done, or
+/// accepted; 1 a proof text isn't accepted; 2 the words are refused, 3 the script or the proof text is, 4 a model is; 5 the
+/// source failed, 6 the sink failed, 7 want of memory. Where the source or the sink doesn't tell its bytes, the clauses
+/// about them say nothing.
 pub fn explore<S: Source, K: Sink>(
     alloc: Global,
     words: &[String],
@@ -21,74 +27,44 @@ pub fn explore<S: Source, K: Sink>(
 ) -> u8
     ensures status { IsStatus result }
 
-    // The words are refused exactly where they aren't the one word `run`; then nothing is read.
-    ensures refused { (IsRunWord words.now → ⊥) → ((result ≡ 2) ⊎ (result ≡ 6)) × (source.new ≡ source.old) }
-    ensures taken { IsRunWord words.now → result ≢ 2 }
+    // The words are refused exactly where they say no command; then nothing is read.
+    ensures refused { SaysNone (texts words.now) → ((result ≡ 2) ⊎ (result ≡ 6)) × (source.new ≡ source.old) }
+    ensures taken { (c : Said) → Says (texts words.now) c → result ≢ 2 }
     ensures words_line { K.tells sink.old → result ≡ 2 → K.written sink.new ≡ K.written sink.old ++ words_line }
+    ensures words_part { K.tells sink.old → SaysNone (texts words.now) → result ≡ 6 → AppendsPart (K.written sink.old) (K.written sink.new) words_line }
 
     // A fault comes only where the count of the object that was handed in rose; want of memory writes nothing.
     ensures source_failed { result ≡ 5 → Rose (S.faults source.old) (S.faults source.new) × (sink.new ≡ sink.old) }
     ensures sink_failed { result ≡ 6 → Rose (K.faults sink.old) (K.faults sink.new) }
     ensures no_memory { result ≡ 7 → sink.new ≡ sink.old }
 
-    // All that the source had is read, and of more than a script may have just one byte beyond that.
-    ensures read { S.tells source.old → IsRunWord words.now → ((result ≡ 5) ⊎ (result ≡ 7)) ⊎ (S.left source.new ≡ drop 1048577 (S.left source.old)) }
-
-    // What is written is the answer to all that the source had, and under 6 a part of it.
-    ensures answer { S.tells source.old → K.tells sink.old → IsRunWord words.now
+    // `run` reads all that the source had, and of more than a script may have just one byte beyond that. What is written
+    // is the answer to it, and under 6 a part of that.
+    ensures read { S.tells source.old → SaysRun (texts words.now) → ((result ≡ 5) ⊎ (result ≡ 7)) ⊎ (S.left source.new ≡ drop 1048577 (S.left source.old)) }
+    ensures answer { S.tells source.old → K.tells sink.old → SaysRun (texts words.now)
         → HasFailed result ⊎ Wrote (S.left source.old) result (K.written sink.old) (K.written sink.new) }
-    ensures part { S.tells source.old → K.tells sink.old → IsRunWord words.now → result ≡ 6 → IsPartOfAnswer (S.left source.old) (K.written sink.old) (K.written sink.new) }
-    ensures words_part { K.tells sink.old → (IsRunWord words.now → ⊥) → result ≡ 6 → AppendsPart (K.written sink.old) (K.written sink.new) words_line }
+    ensures part { S.tells source.old → K.tells sink.old → SaysRun (texts words.now) → result ≡ 6 → IsPartOfAnswer (S.left source.old) (K.written sink.old) (K.written sink.new) }
 
-    // Also where the sink doesn't tell its bytes, the status is that of this answer.
-    ensures told { S.tells source.old → IsRunWord words.now → HasFailed result ⊎ IsStatusOf (S.left source.old) result }
-
-    // Also where the source doesn't tell its bytes, it is the answer to some bytes.
-    ensures untold { K.tells sink.old → IsRunWord words.now
+    // Also where the sink doesn't tell its bytes, the status is that of this answer; and where the source doesn't tell its
+    // bytes, it is the answer to some bytes.
+    ensures told { S.tells source.old → SaysRun (texts words.now) → HasFailed result ⊎ IsStatusOf (S.left source.old) result }
+    ensures untold { K.tells sink.old → SaysRun (texts words.now)
         → HasFailed result ⊎ ((bytes : List ℕ) × Wrote bytes result (K.written sink.old) (K.written sink.new)) }
-    ensures untold_part { K.tells sink.old → IsRunWord words.now → result ≡ 6 → (bytes : List ℕ) × IsPartOfAnswer bytes (K.written sink.old) (K.written sink.new) }
-{
-    if !are_run(words) {
-        return finish(sink, 2, b"fault words\n");
-    }
-    match read_all(alloc, source, MOST_BYTES) {
-        Ok(bytes) => write_answer(alloc, &bytes, sink),
-        Err(ReadFault::Failed) => 5,
-        Err(ReadFault::Memory) => 7,
-    }
-}
+    ensures untold_part { K.tells sink.old → SaysRun (texts words.now) → result ≡ 6 → (bytes : List ℕ) × IsPartOfAnswer bytes (K.written sink.old) (K.written sink.new) }
 
-// Whether the words are the one word `run`.
-fn are_run(words: &[String]) -> bool
-    ensures { IsTrue result ↔ IsRunWord words.now }
+    // `check` does the same with a proof text.
+    ensures check_read { S.tells source.old → Says (texts words.now) Check → ((result ≡ 5) ⊎ (result ≡ 7)) ⊎ (S.left source.new ≡ drop 268435457 (S.left source.old)) }
+    ensures check_answer { S.tells source.old → K.tells sink.old → Says (texts words.now) Check
+        → HasFailed result ⊎ check.Wrote (S.left source.old) result (K.written sink.old) (K.written sink.new) }
+    ensures check_part { S.tells source.old → K.tells sink.old → Says (texts words.now) Check → result ≡ 6 → check.IsPartOfAnswer (S.left source.old) (K.written sink.old) (K.written sink.new) }
+    ensures check_told { S.tells source.old → Says (texts words.now) Check → HasFailed result ⊎ check.IsStatusOf (S.left source.old) result }
+    ensures check_untold { K.tells sink.old → Says (texts words.now) Check
+        → HasFailed result ⊎ ((bytes : List ℕ) × check.Wrote bytes result (K.written sink.old) (K.written sink.new)) }
+    ensures check_untold_part { K.tells sink.old → Says (texts words.now) Check → result ≡ 6 → (bytes : List ℕ) × check.IsPartOfAnswer bytes (K.written sink.old) (K.written sink.new) }
 {
-    words.len() == 1 && words[0].as_str() == "run"
-}
-
-// Writes the answer to what was read.
-fn write_answer<K: Sink>(alloc: Global, bytes: &[u8], sink: &mut K) -> u8
-    ensures status { (result ≡ 0) ⊎ (result ≡ 3) ⊎ (result ≡ 4) ⊎ (result ≡ 6) ⊎ (result ≡ 7) }
-    ensures failed { result ≡ 6 → Rose (K.faults sink.old) (K.faults sink.new) }
-    ensures no_memory { result ≡ 7 → sink.new ≡ sink.old }
-    ensures answer { K.tells sink.old → ((result ≡ 6) ⊎ (result ≡ 7)) ⊎ Wrote bytes.now result (K.written sink.old) (K.written sink.new) }
-    ensures told { ((result ≡ 6) ⊎ (result ≡ 7)) ⊎ IsStatusOf bytes.now result }
-    ensures part { K.tells sink.old → result ≡ 6 → IsPartOfAnswer bytes.now (K.written sink.old) (K.written sink.new) }
-{
-    match answer_to(alloc, bytes) {
-        Ok(answer) => finish(sink, answer.status, &answer.text),
-        Err(_) => 7,
-    }
-}
-
-// Writes a text, and gives its status, or 6 where that failed.
-fn finish<K: Sink>(sink: &mut K, status: u8, text: &[u8]) -> u8
-    ensures status { (result ≡ status) ⊎ (result ≡ 6) }
-    ensures failed { result ≡ 6 → (status ≡ 6) ⊎ Rose (K.faults sink.old) (K.faults sink.new) }
-    ensures all { K.tells sink.old → (result ≡ 6) ⊎ (K.written sink.new ≡ K.written sink.old ++ text.now) }
-    ensures part { K.tells sink.old → result ≡ 6 → (status ≡ 6) ⊎ AppendsPart (K.written sink.old) (K.written sink.new) text.now }
-{
-    match write_all(sink, text) {
-        Ok(()) => status,
-        Err(_) => 6,
+    match command_of(words) {
+        None => finish(sink, 2, b"fault words\n"),
+        Some(Command::Run { .. }) => run_script(alloc, source, sink),
+        Some(Command::Check) => check_proof(alloc, source, sink),
     }
 }

@@ -6,3 +6,12 @@ pub mod Raising
 pub mod Renumbered
 pub mod Sights
 pub mod Verdicts
+pub mod LineWords
+pub mod ReadWords
+pub mod Fronts
+pub mod ReadLines
+pub mod TextLines
+pub mod ReadProgress
+pub mod ProofVars
+pub mod ProofLaws
+pub mod WrittenTexts

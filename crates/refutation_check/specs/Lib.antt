@@ -8,3 +8,8 @@ pub mod Part
 pub mod Renumbering
 pub mod SearchLog
 pub mod Verdict
+pub mod ProofText
+pub mod ProofFault
+pub mod WrittenProof
+pub mod Scanned
+pub mod Progress

@@ -1,6 +1,11 @@
-ghost use Rattle.std.specs.Prelude.{◌≡◌, ◌≤◌, ◌+◌, ◌++◌, ◌∷◌, ◌↔◌, [], true, ℕ, List, length, map};
+ghost use Rattle.std.specs.Prelude.{◌≡◌, ◌≤◌, ◌+◌, ◌⊎◌, ◌++◌, ◌∷◌, ◌↔◌, [], true, ℕ, List, length, map};
 ghost use Rattle.cnf_core.specs.declared.literal.Lit.{Lit};
+ghost use Rattle.cnf_core.specs.Formula.{Formula};
 ghost use Rattle.refutation_check.specs.declared.log.Step.{Step};
+ghost use Rattle.refutation_check.specs.declared.proof_text.fault.ProofFault.{ProofFault};
+ghost use Rattle.refutation_check.specs.declared.proof_text.fault.ProofFault.TheVariants.{Memory};
+ghost use Rattle.refutation_check.specs.ProofText.{IsProofText};
+ghost use Rattle.refutation_check.specs.ProofFault.{HasFault};
 ghost use Rattle.refutation_check.specs.Chain.{members_of, IsChain, IsNovel, IsAccepted, IsRefutation, EndsEmpty};
 ghost use Rattle.refutation_check.specs.Lift.{lifted};
 ghost use Rattle.refutation_check.specs.Renumbering.{Renumbers, not_local, free_steps};
@@ -30,4 +35,11 @@ pub fn novel_steps_are_counted()
     ensures at_most { (given : List (List Lit)) (log : List Step) → novel_steps given log ≤ length log }
     ensures all { (given : List (List Lit)) (log : List Step) → IsAllNovel given log → novel_steps given log ≡ length log }
     ensures but_last { (given : List (List Lit)) (log : List Step) → IsNovelButLast given log → length log ≤ novel_steps given log + 1 }
+{}
+
+/// Bytes say one formula and one log at most; those that do have no fault; and others have one fault at most.
+pub fn bytes_say_one_proof()
+    ensures proof { (bytes : List ℕ) (f g : Formula) (log other : List Step) → IsProofText bytes f log → IsProofText bytes g other → (f ≡ g) × (log ≡ other) }
+    ensures no_fault { (bytes : List ℕ) (f : Formula) (log : List Step) (fault : ProofFault) → IsProofText bytes f log → HasFault bytes fault → fault ≡ Memory }
+    ensures fault { (bytes : List ℕ) (first second : ProofFault) → HasFault bytes first → HasFault bytes second → (first ≡ second) ⊎ (first ≡ Memory) ⊎ (second ≡ Memory) }
 {}

@@ -7,16 +7,18 @@ mod lifting;
 mod log;
 mod marks;
 mod part;
+mod proof_text;
 mod refutation;
 #[cfg(test)]
 mod tests;
 
 pub use laws::{
-    chains_are_renumbered, free_steps_are_accepted, lifted_pool_and_log_are_accepted,
-    novel_steps_are_counted,
+    bytes_say_one_proof, chains_are_renumbered, free_steps_are_accepted,
+    lifted_pool_and_log_are_accepted, novel_steps_are_counted,
 };
 pub use lifting::lift;
 pub use log::{Hints, Log, Step};
 pub use marks::{Sight, look};
 pub use part::Part;
+pub use proof_text::{MOST_BYTES, ProofFault, read_proof, write_proof};
 pub use refutation::{Scratch, Verdict, accepted_is_entailed, check};

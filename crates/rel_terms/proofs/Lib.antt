@@ -2,3 +2,11 @@ pub mod Numbers
 pub mod Sized
 pub mod Once
 pub mod Uppers
+pub mod Adding
+pub mod Meetings
+pub mod Starting
+pub mod Walked
+pub mod Counted
+pub mod Leaves
+pub mod Parted
+pub mod Compared

@@ -1,15 +1,10 @@
 -- Numbers that are said by a fact.
 use Rattle.std.proofs.Common.{◌≡◌, ℕ, ◌+◌, ◌*◌, refl, sym, ◌∙◌}
-use Rattle.rel_terms.specs.Numbers.{Number, Is, ◌⊕◌, ◌⊗◌}
+use Rattle.rel_terms.specs.Numbers.{Number, Is, ◌⊕◌, ◌⊗◌, Only}
 
 -- at most one number has the fact
 abbrev pub Once : Number → Type 0
 Once C = (n m : ℕ) → C n → C m → n ≡ m
-
--- k has it, and no other number
-pub record Only (C : Number) (k : ℕ) : Type 0 where
-  pub has : C k
-  pub no_other : (n : ℕ) → C n → n ≡ k
 
 pub sum_once : (C D : Number) → Once C → Once D → Once (C ⊕ D)
 sum_once C D c d n m h g = h.4 ∙ (λ i. c h.0 g.0 h.2 g.2 i + d h.1 g.1 h.3 g.3 i) ∙ sym g.4

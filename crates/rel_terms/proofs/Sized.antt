@@ -13,7 +13,8 @@ use Rattle.tuple_core.proofs.Ascending.{same_lists}
 use Rattle.rel_formula.specs.Sizes.{IsListOf, HasSize}
 use Rattle.rel_formula.proofs.Lists.{pairs_append}
 use Rattle.rel_formula.proofs.Counts.{distinct}
-use Rattle.rel_terms.proofs.Numbers.{Once, Only, only}
+use Rattle.rel_terms.specs.Numbers.{Only}
+use Rattle.rel_terms.proofs.Numbers.{Once, only}
 
 -- a list with no element twice is no longer than one that has its elements
 pub fewer : {X : Type 0} (xs ys : List X) → AllPairs (λ x y. x ≢ y) xs → ((x : X) → Contains xs x → Contains ys x) → length xs ≤ length ys

@@ -1,3 +1,4 @@
 pub mod Numbers
 pub mod Upper
 pub mod Terms
+pub mod Counting

@@ -18,3 +18,8 @@ abbrev pub ◌⊕◌ : Number → Number → Number
 -- their product
 abbrev pub ◌⊗◌ : Number → Number → Number
 ◌⊗◌ C D n = (k l : ℕ) × C k × D l × (n ≡ k * l)
+
+-- k has the fact, and no other number
+pub record Only (C : Number) (k : ℕ) : Type 0 where
+  pub has : C k
+  pub no_other : (n : ℕ) → C n → n ≡ k

@@ -1,4 +1,15 @@
 //! The number of terms of a problem: how much a translation of its formula looks at.
 #![tactic(auto)]
 
+mod expression;
+mod formula;
 pub mod laws;
+mod operators;
+mod pairs;
+mod tally;
+#[cfg(test)]
+mod tests;
+
+pub use crate::formula::terms;
+pub use crate::tally::MOST_TERMS;
+pub use std::alloc::AllocError as NoMemory;

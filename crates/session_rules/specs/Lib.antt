@@ -1,1 +1,11 @@
 pub mod Machine
+pub mod ProofOfEnd
+pub mod States
+pub mod Naming
+pub mod Steps
+pub mod Sound
+pub mod Proofs
+pub mod Work
+pub mod Evidence
+pub mod Transcripts
+pub mod NextAlone

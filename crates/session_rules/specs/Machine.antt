@@ -1,16 +1,12 @@
--- The session machine: which reply each step may have, and the state that it leaves.
+-- The machine of `next` alone, which is what the program runs today: which reply the step may have, and the state that it leaves.
 use Rattle.std.specs.Prelude.{◌≡◌, ◌⊎◌, ◌+◌, ℕ, List, [], ◌∷◌, ◌++◌, length, map, filter, slice_index_or, bytes_eq, Contains}
 use Rattle.rel_formula.specs.Bounds.{Bounded}
 use Rattle.swap_symmetry.specs.Due.{IsDue}
+pub use Rattle.session_rules.specs.States.{ShownAt}
 use Rattle.session_rules.specs.declared.reply.Step.{Step}
 use Rattle.session_rules.specs.declared.reply.Step.TheVariants.{Next}
 use Rattle.session_rules.specs.declared.reply.Reply.{Reply}
 use Rattle.session_rules.specs.declared.reply.Reply.TheVariants.{Shown, End, Memory}
-
--- a scenario, and the floor above which it was shown
-pub record ShownAt : Type 0 where
-  pub floor : List ℕ
-  pub scenario : List ℕ
 
 -- the floors, the top one first; what was shown, in order; the floors at which all that is due was shown; and the budget
 pub record State : Type 0 where

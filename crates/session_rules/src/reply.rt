@@ -1,4 +1,4 @@
-// Steps and replies.
+// The step and the replies of `next` alone.
 use rel_formula::Scenario;
 
 /// What a session is asked for.

@@ -1,35 +1,112 @@
-use Rattle.std.proofs.Common.{◌≡◌, ℕ, List, inl, inr, take, subst, ◌∙◌}
-use Rattle.explorer_cli.specs.Outcome.{IsAnswerTo, IsPartOfAnswer}
-use Rattle.explorer_cli.proofs.Fronts.{answers_whole, part_of_whole}
+use Rattle.command_words.specs.Read.{texts}
+use Rattle.command_words.specs.declared.reading.Command.TheVariants.{Run, Check}
+use Rattle.explorer_cli.proofs.Commands.{none_run, none_check, run_check, check_run, says_this}
 use Rattle.explorer_cli.proofs.top_call.explore.Goals as goal
 
-pub returns-in-Ok-clause-answer : goal.returns-in-Ok-clause-answer
-returns-in-Ok-clause-answer g c =
-    let left = g.S.Source.left c.args.source.now in
-    let status = c.write_answer.result in
-    λ tells_left tells_written word.
-    let front : c.deref.result.now ≡ take 1048577 left = c.deref.ensures.value ∙ c.in-Ok.ensures.bytes tells_left in
-    elim (c.write_answer.ensures.answer tells_written) [
-      | inl failed ↦ elim failed [ inl six ↦ inl (inr (inl six)) | inr seven ↦ inl (inr (inr seven)) ]
-      | inr done ↦ inr (done.0, answers_whole left status done.0 (subst (λ (xs : List ℕ). IsAnswerTo xs status done.0) front done.1), done.2)
-    ]
+pub returns-in-None-clause-read : goal.returns-in-None-clause-read
+returns-in-None-clause-read g c = λ tells run. absurd (none_run (texts c.args.words.now) c.in-None.ensures.none run)
 
-pub returns-in-Ok-clause-told : goal.returns-in-Ok-clause-told
-returns-in-Ok-clause-told g c =
-    let left = g.S.Source.left c.args.source.now in
-    let status = c.write_answer.result in
-    λ tells word.
-    let front : c.deref.result.now ≡ take 1048577 left = c.deref.ensures.value ∙ c.in-Ok.ensures.bytes tells in
-    elim c.write_answer.ensures.told [
-      | inl failed ↦ elim failed [ inl six ↦ inl (inr (inl six)) | inr seven ↦ inl (inr (inr seven)) ]
-      | inr done ↦ inr (done.0, answers_whole left status done.0 (subst (λ (xs : List ℕ). IsAnswerTo xs status done.0) front done.1))
-    ]
+pub returns-in-None-clause-answer : goal.returns-in-None-clause-answer
+returns-in-None-clause-answer g c = λ tells_left tells_written run. absurd (none_run (texts c.args.words.now) c.in-None.ensures.none run)
 
-pub returns-in-Ok-clause-part : goal.returns-in-Ok-clause-part
-returns-in-Ok-clause-part g c =
-    let left = g.S.Source.left c.args.source.now in
-    let old = g.K.Sink.written c.args.sink.now in
-    let new = g.K.Sink.written c.write_answer.new.sink in
-    λ tells_left tells_written word six.
-    let front : c.deref.result.now ≡ take 1048577 left = c.deref.ensures.value ∙ c.in-Ok.ensures.bytes tells_left in
-    part_of_whole left old new (subst (λ (xs : List ℕ). IsPartOfAnswer xs old new) front (c.write_answer.ensures.part tells_written six))
+pub returns-in-None-clause-part : goal.returns-in-None-clause-part
+returns-in-None-clause-part g c = λ tells_left tells_written run six. absurd (none_run (texts c.args.words.now) c.in-None.ensures.none run)
+
+pub returns-in-None-clause-told : goal.returns-in-None-clause-told
+returns-in-None-clause-told g c = λ tells run. absurd (none_run (texts c.args.words.now) c.in-None.ensures.none run)
+
+pub returns-in-None-clause-untold : goal.returns-in-None-clause-untold
+returns-in-None-clause-untold g c = λ tells run. absurd (none_run (texts c.args.words.now) c.in-None.ensures.none run)
+
+pub returns-in-None-clause-untold_part : goal.returns-in-None-clause-untold_part
+returns-in-None-clause-untold_part g c = λ tells run six. absurd (none_run (texts c.args.words.now) c.in-None.ensures.none run)
+
+pub returns-in-None-clause-check_read : goal.returns-in-None-clause-check_read
+returns-in-None-clause-check_read g c = λ tells check. absurd (none_check (texts c.args.words.now) c.in-None.ensures.none check)
+
+pub returns-in-None-clause-check_answer : goal.returns-in-None-clause-check_answer
+returns-in-None-clause-check_answer g c = λ tells_left tells_written check. absurd (none_check (texts c.args.words.now) c.in-None.ensures.none check)
+
+pub returns-in-None-clause-check_part : goal.returns-in-None-clause-check_part
+returns-in-None-clause-check_part g c = λ tells_left tells_written check six. absurd (none_check (texts c.args.words.now) c.in-None.ensures.none check)
+
+pub returns-in-None-clause-check_told : goal.returns-in-None-clause-check_told
+returns-in-None-clause-check_told g c = λ tells check. absurd (none_check (texts c.args.words.now) c.in-None.ensures.none check)
+
+pub returns-in-None-clause-check_untold : goal.returns-in-None-clause-check_untold
+returns-in-None-clause-check_untold g c = λ tells check. absurd (none_check (texts c.args.words.now) c.in-None.ensures.none check)
+
+pub returns-in-None-clause-check_untold_part : goal.returns-in-None-clause-check_untold_part
+returns-in-None-clause-check_untold_part g c = λ tells check six. absurd (none_check (texts c.args.words.now) c.in-None.ensures.none check)
+
+pub returns-in-Some-Run-clause-read : goal.returns-in-Some-Run-clause-read
+returns-in-Some-Run-clause-read g c = λ tells run. c.run_script.ensures.read tells
+
+pub returns-in-Some-Run-clause-answer : goal.returns-in-Some-Run-clause-answer
+returns-in-Some-Run-clause-answer g c = λ tells_left tells_written run. c.run_script.ensures.answer tells_left tells_written
+
+pub returns-in-Some-Run-clause-part : goal.returns-in-Some-Run-clause-part
+returns-in-Some-Run-clause-part g c = λ tells_left tells_written run six. c.run_script.ensures.part tells_left tells_written six
+
+pub returns-in-Some-Run-clause-told : goal.returns-in-Some-Run-clause-told
+returns-in-Some-Run-clause-told g c = λ tells run. c.run_script.ensures.told tells
+
+pub returns-in-Some-Run-clause-untold : goal.returns-in-Some-Run-clause-untold
+returns-in-Some-Run-clause-untold g c = λ tells run. c.run_script.ensures.untold tells
+
+pub returns-in-Some-Run-clause-untold_part : goal.returns-in-Some-Run-clause-untold_part
+returns-in-Some-Run-clause-untold_part g c = λ tells run six. c.run_script.ensures.untold_part tells six
+
+pub returns-in-Some-Run-clause-check_read : goal.returns-in-Some-Run-clause-check_read
+returns-in-Some-Run-clause-check_read g c = λ tells check. absurd (run_check (texts c.args.words.now) c.in-Some-Run.field-0-0 c.in-Some-Run.field-0-1 (says_this (texts c.args.words.now) c.in-Some-Run.field-0 (Run c.in-Some-Run.field-0-0 c.in-Some-Run.field-0-1) c.in-Some-Run.field-0-is c.in-Some-Run.ensures.some) check)
+
+pub returns-in-Some-Run-clause-check_answer : goal.returns-in-Some-Run-clause-check_answer
+returns-in-Some-Run-clause-check_answer g c = λ tells_left tells_written check. absurd (run_check (texts c.args.words.now) c.in-Some-Run.field-0-0 c.in-Some-Run.field-0-1 (says_this (texts c.args.words.now) c.in-Some-Run.field-0 (Run c.in-Some-Run.field-0-0 c.in-Some-Run.field-0-1) c.in-Some-Run.field-0-is c.in-Some-Run.ensures.some) check)
+
+pub returns-in-Some-Run-clause-check_part : goal.returns-in-Some-Run-clause-check_part
+returns-in-Some-Run-clause-check_part g c = λ tells_left tells_written check six. absurd (run_check (texts c.args.words.now) c.in-Some-Run.field-0-0 c.in-Some-Run.field-0-1 (says_this (texts c.args.words.now) c.in-Some-Run.field-0 (Run c.in-Some-Run.field-0-0 c.in-Some-Run.field-0-1) c.in-Some-Run.field-0-is c.in-Some-Run.ensures.some) check)
+
+pub returns-in-Some-Run-clause-check_told : goal.returns-in-Some-Run-clause-check_told
+returns-in-Some-Run-clause-check_told g c = λ tells check. absurd (run_check (texts c.args.words.now) c.in-Some-Run.field-0-0 c.in-Some-Run.field-0-1 (says_this (texts c.args.words.now) c.in-Some-Run.field-0 (Run c.in-Some-Run.field-0-0 c.in-Some-Run.field-0-1) c.in-Some-Run.field-0-is c.in-Some-Run.ensures.some) check)
+
+pub returns-in-Some-Run-clause-check_untold : goal.returns-in-Some-Run-clause-check_untold
+returns-in-Some-Run-clause-check_untold g c = λ tells check. absurd (run_check (texts c.args.words.now) c.in-Some-Run.field-0-0 c.in-Some-Run.field-0-1 (says_this (texts c.args.words.now) c.in-Some-Run.field-0 (Run c.in-Some-Run.field-0-0 c.in-Some-Run.field-0-1) c.in-Some-Run.field-0-is c.in-Some-Run.ensures.some) check)
+
+pub returns-in-Some-Run-clause-check_untold_part : goal.returns-in-Some-Run-clause-check_untold_part
+returns-in-Some-Run-clause-check_untold_part g c = λ tells check six. absurd (run_check (texts c.args.words.now) c.in-Some-Run.field-0-0 c.in-Some-Run.field-0-1 (says_this (texts c.args.words.now) c.in-Some-Run.field-0 (Run c.in-Some-Run.field-0-0 c.in-Some-Run.field-0-1) c.in-Some-Run.field-0-is c.in-Some-Run.ensures.some) check)
+
+pub returns-in-Some-Check-clause-read : goal.returns-in-Some-Check-clause-read
+returns-in-Some-Check-clause-read g c = λ tells run. absurd (check_run (texts c.args.words.now) (says_this (texts c.args.words.now) c.in-Some-Check.field-0 Check c.in-Some-Check.field-0-is c.in-Some-Check.ensures.some) run)
+
+pub returns-in-Some-Check-clause-answer : goal.returns-in-Some-Check-clause-answer
+returns-in-Some-Check-clause-answer g c = λ tells_left tells_written run. absurd (check_run (texts c.args.words.now) (says_this (texts c.args.words.now) c.in-Some-Check.field-0 Check c.in-Some-Check.field-0-is c.in-Some-Check.ensures.some) run)
+
+pub returns-in-Some-Check-clause-part : goal.returns-in-Some-Check-clause-part
+returns-in-Some-Check-clause-part g c = λ tells_left tells_written run six. absurd (check_run (texts c.args.words.now) (says_this (texts c.args.words.now) c.in-Some-Check.field-0 Check c.in-Some-Check.field-0-is c.in-Some-Check.ensures.some) run)
+
+pub returns-in-Some-Check-clause-told : goal.returns-in-Some-Check-clause-told
+returns-in-Some-Check-clause-told g c = λ tells run. absurd (check_run (texts c.args.words.now) (says_this (texts c.args.words.now) c.in-Some-Check.field-0 Check c.in-Some-Check.field-0-is c.in-Some-Check.ensures.some) run)
+
+pub returns-in-Some-Check-clause-untold : goal.returns-in-Some-Check-clause-untold
+returns-in-Some-Check-clause-untold g c = λ tells run. absurd (check_run (texts c.args.words.now) (says_this (texts c.args.words.now) c.in-Some-Check.field-0 Check c.in-Some-Check.field-0-is c.in-Some-Check.ensures.some) run)
+
+pub returns-in-Some-Check-clause-untold_part : goal.returns-in-Some-Check-clause-untold_part
+returns-in-Some-Check-clause-untold_part g c = λ tells run six. absurd (check_run (texts c.args.words.now) (says_this (texts c.args.words.now) c.in-Some-Check.field-0 Check c.in-Some-Check.field-0-is c.in-Some-Check.ensures.some) run)
+
+pub returns-in-Some-Check-clause-check_read : goal.returns-in-Some-Check-clause-check_read
+returns-in-Some-Check-clause-check_read g c = λ tells check. c.check_proof.ensures.read tells
+
+pub returns-in-Some-Check-clause-check_answer : goal.returns-in-Some-Check-clause-check_answer
+returns-in-Some-Check-clause-check_answer g c = λ tells_left tells_written check. c.check_proof.ensures.answer tells_left tells_written
+
+pub returns-in-Some-Check-clause-check_part : goal.returns-in-Some-Check-clause-check_part
+returns-in-Some-Check-clause-check_part g c = λ tells_left tells_written check six. c.check_proof.ensures.part tells_left tells_written six
+
+pub returns-in-Some-Check-clause-check_told : goal.returns-in-Some-Check-clause-check_told
+returns-in-Some-Check-clause-check_told g c = λ tells check. c.check_proof.ensures.told tells
+
+pub returns-in-Some-Check-clause-check_untold : goal.returns-in-Some-Check-clause-check_untold
+returns-in-Some-Check-clause-check_untold g c = λ tells check. c.check_proof.ensures.untold tells
+
+pub returns-in-Some-Check-clause-check_untold_part : goal.returns-in-Some-Check-clause-check_untold_part
+returns-in-Some-Check-clause-check_untold_part g c = λ tells check six. c.check_proof.ensures.untold_part tells six

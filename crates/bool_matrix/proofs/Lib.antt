@@ -1,0 +1,16 @@
+pub mod Places
+pub mod Edits
+pub mod Loops
+pub mod Nodes
+pub mod Terms
+pub mod Distinct
+pub mod Closure
+pub mod Squares
+pub mod Keys
+pub mod Compared
+pub mod Turns
+pub mod Rows
+pub mod Counting
+pub mod Merges
+pub mod Small
+pub mod Meetings

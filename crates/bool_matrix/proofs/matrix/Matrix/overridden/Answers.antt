@@ -1,0 +1,46 @@
+use Rattle.std.proofs.Common.{◌<◌, length, List, ℕ, Bool, subst, arith}
+use Rattle.tuple_core.specs.declared.atom.Atom.{Atom}
+use Rattle.tuple_core.specs.Operators.{BeginsWith, IsFirstIn}
+use Rattle.tuple_core.specs.Gains.{Same, SomeGives}
+use Rattle.tuple_core.proofs.Congruence.{same_itself}
+use Rattle.bool_circuit.proofs.CallerLemmas.{Extends-trans}
+use Rattle.bool_matrix.specs.declared.entry.Entry.{Entry}
+use Rattle.bool_matrix.specs.Cells.{Cells, AtEntry, TrueAt, TrueIn, MatrixGains}
+use Rattle.bool_matrix.proofs.Loops.{matrix_more, matrix_all, matrix_same, matrix_kept, entry_of, entries_same, kept_true, fits_tuple}
+use Rattle.bool_matrix.proofs.Nodes.{true_unless_kept, true_at_kept}
+use Rattle.bool_matrix.proofs.Keys.{first_found}
+use Rattle.bool_matrix.proofs.matrix.Matrix.overridden.Goals as goal
+
+pub loop-entry-preserved : goal.loop-entry-preserved
+loop-entry-preserved c =
+    let old = c.args.circuit.now in
+    let v = c.firsts.new.circuit in
+    let w = c.loop-entry.circuit in
+    let x = c.entry-item.result in
+    let xs : List Entry = c.entries-entry-items.result.now in
+    let F = c.in_ok-firsts.firsts in
+    let b = entry_of old c.args.self.now xs c.loop-entry.entry-index x c.entries-entry-items.ensures.value c.requires.of c.loop-entry-test.true c.entry-item.is in
+    let b' : x.node < length v.shapes = omega (arith, c.firsts.ensures.extends.longer) in
+    let found = λ (s : ℕ → Bool). first_found (TrueIn v F s) (TrueIn old c.args.other.now s) c.first.result x.tuple c.single.result c.first.ensures c.single.ensures (c.in_ok-firsts.ensures.is.value s) in
+    let kept : (s : ℕ → Bool) → Same (λ t. TrueAt w s x t × (TrueIn w F s c.single.result → ⊥)) (λ t. TrueAt old s x t × ((y : Atom) → BeginsWith y x.tuple → IsFirstIn (TrueIn old c.args.other.now s) y → ⊥)) = λ s.
+    let one = true_unless_kept v w c.loop-entry.invariant.firsts s x F c.single.result b' c.in_ok-firsts.ensures.is.of in
+    let two = true_at_kept old v c.firsts.ensures.extends s x b in
+    record { to = λ t h. let g = one.to t h in (two.to t g.0, (found s).0 g.1); back = λ t h. one.back t (two.back t h.0, (found s).1 h.1) } in
+    record {
+      extends = Extends-trans old w c.add_unless.new.circuit c.loop-entry.invariant.extends c.add_unless.ensures.extends;
+      gains = matrix_more xs (λ inputs e t. TrueAt old inputs e t × ((x : Atom) → BeginsWith x e.tuple → IsFirstIn (TrueIn old c.args.other.now inputs) x → ⊥)) AtEntry c.loop-entry.entry-index x old w c.add_unless.new.circuit c.in_ok-out.out c.loop-entry.out c.add_unless.new.self c.loop-entry-test.true c.entry-item.is c.loop-entry.invariant.gains
+          (matrix_same kept (same_itself _) c.in_ok-add_unless.ensures.gains);
+      firsts = Extends-trans v w c.add_unless.new.circuit c.loop-entry.invariant.firsts c.add_unless.ensures.extends;
+      size = omega (arith, c.loop-entry.invariant.size, c.in_ok-add_unless.ensures.size);
+    }
+
+pub returns-clause-is : goal.returns-clause-is
+returns-clause-is c =
+    let old = c.args.circuit.now in
+    let other = c.args.other.now in
+    let xs : List Entry = c.entries-entry-items.result.now in
+    let g = matrix_all xs (λ inputs e t. TrueAt old inputs e t × ((x : Atom) → BeginsWith x e.tuple → IsFirstIn (TrueIn old other inputs) x → ⊥)) AtEntry c.loop-entry.entry-index old c.loop-entry.circuit c.in_ok-out.out c.loop-entry.out (omega arith) c.loop-entry.invariant.gains in
+    matrix_kept old c.loop-entry.circuit other c.loop-entry.out 2 _ _ _ _ c.requires.right
+    (subst (λ (m : Cells). MatrixGains old c.loop-entry.circuit m c.loop-entry.out (λ inputs. SomeGives xs (λ e t. TrueAt old inputs e t × ((x : Atom) → BeginsWith x e.tuple → IsFirstIn (TrueIn old other inputs) x → ⊥))) (SomeGives xs AtEntry)) c.in_ok-out.ensures g)
+    (λ s. kept_true old c.args.self.now s xs (λ e. (x : Atom) → BeginsWith x e.tuple → IsFirstIn (TrueIn old other s) x → ⊥) (λ t. (x : Atom) → BeginsWith x t → IsFirstIn (TrueIn old other s) x → ⊥) c.entries-entry-items.ensures.value (λ e t h. fits_tuple (λ t. (x : Atom) → BeginsWith x t → IsFirstIn (TrueIn old other s) x → ⊥) e t h))
+    (entries_same AtEntry c.entries-entry-items.ensures.value)

@@ -1,0 +1,20 @@
+//! Matrices of circuit nodes: which node says that a tuple is in a relation, with the relational operators.
+#![tactic(auto)]
+
+mod adding;
+mod boolean;
+mod comparing;
+mod counter;
+mod entry;
+mod filters;
+mod joins;
+mod matrix;
+mod undo;
+mod walks;
+
+pub use crate::entry::Entry;
+pub use crate::matrix::Matrix;
+pub use std::alloc::AllocError as NoMemory;
+
+#[cfg(test)]
+mod tests;

@@ -1,0 +1,6 @@
+-- The clauses so far.
+use Rattle.std.proofs.Common.{◌≡◌}
+use Rattle.circuit_cnf.proofs.clauses.formula_of.Given as goal
+
+abbrev pub invariant-loop-clause : goal.invariant-loop-clause
+invariant-loop-clause l = l.formula ≡ record { vars = l.fn.vars; clauses = l.yielded }

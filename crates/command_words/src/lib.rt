@@ -1,0 +1,8 @@
+//! The words of the command line.
+#![tactic(auto)]
+
+mod reading;
+#[cfg(test)]
+mod tests;
+
+pub use reading::{Command, DEFAULT_BUDGET, DEFAULT_WORKERS, command_of, words_say_one_command};

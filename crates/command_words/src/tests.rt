@@ -1,0 +1,91 @@
+// Words that are right, and words that aren't.
+use super::*;
+use std::alloc::{AllocError, Global};
+use std::test::Fail;
+
+fn said(alloc: Global, words: &[&str]) -> Result<Option<Command>, AllocError> {
+    let mut owned = Vec::new(alloc);
+    for word in words {
+        owned.push(String::from_str(alloc, word)?)?;
+    }
+    Ok(command_of(&owned))
+}
+
+fn run(workers: u32, budget: u32) -> Option<Command> {
+    Some(Command::Run { workers, budget })
+}
+
+#[test]
+fn right_words_say_a_command(rt: HostRuntime) -> Result<(), Fail> {
+    let rows: [(&[&str], Option<Command>); 12] = [
+        (&["check"], Some(Command::Check)),
+        (&["run"], run(4, 20000)),
+        (&["run", "--workers", "1"], run(1, 20000)),
+        (&["run", "--workers=16"], run(16, 20000)),
+        (&["run", "--budget", "0"], run(4, 0)),
+        (&["run", "--budget=100000"], run(4, 100_000)),
+        (&["run", "--workers=4", "--budget", "007"], run(4, 7)),
+        (
+            &["run", "--budget=000000000", "--workers", "000000016"],
+            run(16, 0),
+        ),
+        (&["run", "--workers", "2", "--budget", "3"], run(2, 3)),
+        (&["run", "--budget", "3", "--workers", "2"], run(2, 3)),
+        (&["run", "--budget=3", "--workers=2"], run(2, 3)),
+        (&["run", "--workers", "2", "--budget=3"], run(2, 3)),
+    ];
+    for (words, command) in rows {
+        assert_eq!(rt; said(rt.alloc(), words)?, command);
+    }
+    Ok(())
+}
+
+#[test]
+fn other_words_say_none(rt: HostRuntime) -> Result<(), Fail> {
+    let rows: [&[&str]; 40] = [
+        &[],
+        &[""],
+        &["help"],
+        &["--help"],
+        &["-h"],
+        &["--"],
+        &["runs"],
+        &["Run"],
+        &["load", "1"],
+        &["check", "check"],
+        &["check", "--workers", "4"],
+        &["check", ""],
+        &["--workers", "4", "run"],
+        &["run", "run"],
+        &["run", ""],
+        &["run", "--"],
+        &["run", "-h"],
+        &["run", "--help"],
+        &["run", "help"],
+        &["run", "--", "--workers", "4"],
+        &["run", "--workers", "4", "--"],
+        &["run", "--workers"],
+        &["run", "--workers="],
+        &["run", "--workers", ""],
+        &["run", "--workers", "--budget", "1"],
+        &["run", "--workers", "0"],
+        &["run", "--workers", "17"],
+        &["run", "--workers", "0000000004"],
+        &["run", "--workers", "+4"],
+        &["run", "--workers", "-4"],
+        &["run", "--workers", " 4"],
+        &["run", "--workers", "4a"],
+        &["run", "--workers==4"],
+        &["run", "--worker", "4"],
+        &["run", "-workers", "4"],
+        &["run", "--budget", "100001"],
+        &["run", "--workers", "4", "--workers", "4"],
+        &["run", "--budget=1", "--workers=2", "--budget=1"],
+        &["run", "--workers", "4", "5"],
+        &["run", "--workers=4", "--budget=1", "x"],
+    ];
+    for words in rows {
+        assert_eq!(rt; said(rt.alloc(), words)?, None);
+    }
+    Ok(())
+}

@@ -1,0 +1,5 @@
+mod Prefixes
+mod Pools
+mod Imports
+mod Firsts
+mod Replays

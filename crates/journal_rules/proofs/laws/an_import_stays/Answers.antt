@@ -1,0 +1,19 @@
+use Rattle.std.proofs.Common.{◌++◌, take, drop, take-append-drop, sym, subst}
+use Rattle.refutation_check.specs.Chain.{IsAccepted}
+use Rattle.journal_rules.specs.Journal.{pool_of}
+use Rattle.journal_rules.proofs.Pools.{front_accepted, pool_right}
+use Rattle.journal_rules.proofs.Imports.{as_long, stays}
+use Rattle.journal_rules.proofs.laws.an_import_stays.Goals as goal
+
+pub returns-clause-length : goal.returns-clause-length
+returns-clause-length c = as_long
+
+pub returns-clause-stays : goal.returns-clause-stays
+returns-clause-stays c = stays
+
+pub returns-clause-accepted : goal.returns-clause-accepted
+returns-clause-accepted c problems journal legal by key t pool has =
+    let whole = pool_of key journal in
+    let right = pool_right problems key journal legal t has.published in
+    let parts : IsAccepted t.cnf.clauses (take has.steps whole ++ drop has.steps whole) = subst (IsAccepted t.cnf.clauses) (sym (take-append-drop has.steps whole)) right.accepted in
+    subst (IsAccepted t.cnf.clauses) (sym has.prefix) (front_accepted t.cnf.clauses (take has.steps whole) (drop has.steps whole) parts)

@@ -1,0 +1,9 @@
+//! The journal of what sessions did to what they share, and when it is legal.
+#![tactic(auto)]
+
+mod event;
+pub mod laws;
+#[cfg(test)]
+mod tests;
+
+pub use crate::event::{Entry, Event};

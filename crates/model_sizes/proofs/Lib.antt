@@ -1,0 +1,4 @@
+pub mod Numbers
+pub mod Listings
+pub mod Sums
+pub mod Tops

@@ -1,0 +1,5 @@
+pub mod Bounding
+pub mod Sorts
+pub mod Typing
+pub mod Models
+pub mod Rows

@@ -1,0 +1,10 @@
+pub mod Answers
+pub mod Phrase
+pub mod Model
+pub mod View
+pub mod Signatures
+pub mod Names
+pub mod Declarations
+pub mod Faults
+pub mod Texts
+pub mod Rows

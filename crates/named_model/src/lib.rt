@@ -1,0 +1,10 @@
+//! The resolved tree of a model, in which every name is tied to its declaration, and what is wrong with names.
+#![tactic(auto)]
+
+pub mod fault;
+pub mod laws;
+pub mod named;
+pub mod phrase;
+
+pub use fault::NameFault;
+pub use named::Named;

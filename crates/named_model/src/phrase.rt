@@ -1,0 +1,69 @@
+// The tree of a part of a model, with every name tied to its declaration.
+use alloy_lex::Place;
+use alloy_syntax::tree::{Comparing, Constant, Mark, Number, Operator, Prefix, Quantifier};
+
+/// What a name stands for that is no predicate and no function. Signatures and fields are numbered from 0 in order of
+/// declaration.
+#[derive(Clone, Copy)]
+pub enum Referent {
+    Signature(usize),
+    Field(usize),
+    /// Several fields of one name, the first of which has this number.
+    Shared(usize),
+    /// A variable, a name of a `let`, or a parameter, counted outward from 0.
+    Local(usize),
+}
+
+/// An operator of a chain, and the operand behind it.
+#[derive(Drop)]
+#[cycle(phrase)]
+pub struct Link {
+    pub operator: Operator,
+    pub place: Place,
+    pub operand: Phrase,
+}
+
+/// What stands behind an expression and belongs to no call: `.` and an expression, or brackets with what is in them.
+#[derive(Drop)]
+#[cycle(phrase)]
+pub enum Step {
+    Join(Place, Phrase),
+    Brackets(Place, Vec<Phrase>),
+}
+
+/// So many variables with their domain, and whether they are disjoint.
+#[derive(Drop)]
+#[cycle(phrase)]
+pub struct Domain {
+    pub disjoint: bool,
+    pub count: usize,
+    pub mark: Option<Mark>,
+    pub domain: Phrase,
+}
+
+/// An expression, a formula or a number.
+#[derive(Drop)]
+#[cycle(phrase)]
+pub enum Phrase {
+    Refers(Place, Referent),
+    /// A call of the predicate or function of that number, with its arguments.
+    Called(Place, usize, Vec<Phrase>),
+    Numbered(Number),
+    Constant(Constant, Place),
+    /// In round brackets, with the place of the opening one.
+    Bracketed(Place, Box<Phrase>),
+    /// In braces, with the place of the opening one.
+    Block(Place, Vec<Phrase>),
+    Prefixed(Prefix, Place, Box<Phrase>),
+    /// A chain: the first operand, and the others with their operators.
+    Chain(Box<Phrase>, Vec<Link>),
+    /// An expression, and the joins and brackets behind it.
+    Path(Box<Phrase>, Vec<Step>),
+    Compared(Box<Phrase>, Comparing, Box<Phrase>),
+    Implies(Box<Phrase>, Place, Box<Phrase>),
+    /// `=>` with a part behind `else`.
+    ImpliesElse(Box<Phrase>, Place, Box<Phrase>, Box<Phrase>),
+    Quantified(Quantifier, Place, Vec<Domain>, Box<Phrase>),
+    /// The values of the names, each of which sees those before it, and the part that sees all.
+    Let(Place, Vec<Phrase>, Box<Phrase>),
+}

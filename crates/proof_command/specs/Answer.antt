@@ -1,0 +1,84 @@
+-- What the command `check` answers: its lines and its statuses.
+use Rattle.std.specs.Prelude.{◌≡◌, ◌≢◌, ◌⊎◌, ◌++◌, [], ℕ, List, codes, decimal}
+use Rattle.cnf_core.specs.Formula.{Formula}
+use Rattle.outside_io.specs.Front.{AppendsPart}
+use Rattle.refutation_check.specs.declared.log.Step.{Step}
+use Rattle.refutation_check.specs.declared.refutation.Verdict.{Verdict}
+use Rattle.refutation_check.specs.declared.refutation.Verdict.TheVariants.{Accepted, Refused, NoEmptyClause}
+use Rattle.refutation_check.specs.declared.proof_text.fault.ProofFault.{ProofFault}
+use Rattle.refutation_check.specs.declared.proof_text.fault.ProofFault.TheVariants.{BadLine, NumberTooLarge, Tautology, TooLong, Memory}
+use Rattle.refutation_check.specs.Verdict.{Fits}
+use Rattle.refutation_check.specs.ProofText.{IsProofText}
+use Rattle.refutation_check.specs.ProofFault.{HasFault}
+
+-- ---- lines
+
+abbrev pub refused_line : ℕ → ℕ → List ℕ
+refused_line step hint = codes "refused step " ++ decimal step ++ codes " hint " ++ decimal hint ++ codes "\n"
+
+abbrev pub verdict_line : Verdict → List ℕ
+verdict_line Accepted = codes "accepted\n"
+verdict_line (Refused step hint) = refused_line step hint
+verdict_line NoEmptyClause = codes "no empty clause\n"
+
+-- the fault of a line, with its kind
+abbrev pub line_fault : ℕ → List ℕ → List ℕ
+line_fault line kind = codes "fault proof line " ++ decimal line ++ kind
+
+-- the line that tells a fault; want of memory has none
+abbrev pub fault_line : ProofFault → List ℕ
+fault_line TooLong = codes "fault proof too_long\n"
+fault_line (BadLine line) = line_fault line (codes " bad_line\n")
+fault_line (NumberTooLarge line) = line_fault line (codes " number_too_large\n")
+fault_line (Tautology line) = line_fault line (codes " tautology\n")
+fault_line Memory = []
+
+-- ---- answers
+
+-- 0 for an accepted log, and 1 for any other
+abbrev pub verdict_status : Verdict → ℕ
+verdict_status Accepted = 0
+verdict_status (Refused step hint) = 1
+verdict_status NoEmptyClause = 1
+
+-- the text says a formula and a log, and the verdict is right of these
+pub record IsVerdictAnswer (bytes : List ℕ) (status : ℕ) (text : List ℕ) : Type 0 where
+  pub formula : Formula
+  pub log : List Step
+  pub verdict : Verdict
+  pub proof : IsProofText bytes formula log
+  pub fits : Fits formula.clauses log verdict
+  pub under : status ≡ verdict_status verdict
+  pub line : text ≡ verdict_line verdict
+
+-- the text is no proof text, for its first fault
+pub record IsFaultAnswer (bytes : List ℕ) (status : ℕ) (text : List ℕ) : Type 0 where
+  pub fault : ProofFault
+  pub first : HasFault bytes fault
+  pub told : fault ≢ Memory
+  pub under : status ≡ 3
+  pub line : text ≡ fault_line fault
+
+-- a status and a text answer the bytes of the input
+abbrev pub IsAnswerTo : List ℕ → ℕ → List ℕ → Type 0
+IsAnswerTo bytes status text = IsVerdictAnswer bytes status text ⊎ IsFaultAnswer bytes status text
+
+-- the answer to these bytes has this status
+abbrev pub IsStatusOf : List ℕ → ℕ → Type 0
+IsStatusOf bytes status = (text : List ℕ) × IsAnswerTo bytes status text
+
+-- the answer to these bytes has this status, and its text was appended
+abbrev pub Wrote : List ℕ → ℕ → List ℕ → List ℕ → Type 0
+Wrote bytes status old new = (text : List ℕ) × IsAnswerTo bytes status text × (new ≡ old ++ text)
+
+-- some bytes of an answer to these bytes were appended, and not all of it
+abbrev pub IsPartOfAnswer : List ℕ → List ℕ → List ℕ → Type 0
+IsPartOfAnswer bytes old new = (status : ℕ) × (text : List ℕ) × IsAnswerTo bytes status text × AppendsPart old new text
+
+-- accepted, not accepted, no proof text, a source that failed, a sink that failed, want of memory
+abbrev pub IsCheckStatus : ℕ → Type 0
+IsCheckStatus n = (n ≡ 0) ⊎ (n ≡ 1) ⊎ (n ≡ 3) ⊎ (n ≡ 5) ⊎ (n ≡ 6) ⊎ (n ≡ 7)
+
+-- the source failed, the sink failed, or memory was wanting
+abbrev pub HasFailed : ℕ → Type 0
+HasFailed n = (n ≡ 5) ⊎ (n ≡ 6) ⊎ (n ≡ 7)

@@ -1,0 +1,11 @@
+//! The command `check`: a proof text is read and checked, and the verdict is written.
+#![tactic(auto)]
+
+mod answer;
+mod command;
+mod laws;
+#[cfg(test)]
+mod tests;
+
+pub use command::check_proof;
+pub use laws::one_answer;

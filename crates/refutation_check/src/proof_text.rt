@@ -1,0 +1,12 @@
+// Proof texts: a formula and a log as lines of words.
+mod fault;
+mod line;
+mod reading;
+#[cfg(test)]
+mod tests;
+mod word;
+mod writing;
+
+pub use fault::ProofFault;
+pub use reading::{MOST_BYTES, read_proof};
+pub use writing::write_proof;

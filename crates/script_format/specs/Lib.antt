@@ -1,0 +1,9 @@
+pub mod Words
+pub mod Tuples
+pub mod Lines
+pub mod Keys
+pub mod Reading
+pub mod Read
+pub mod Script
+pub mod Sound
+pub mod Generated

@@ -1,0 +1,4 @@
+pub mod Tests
+mod FreeLemmas
+mod Joining
+mod Said

@@ -1,0 +1,6 @@
+pub mod Free
+pub mod Translation
+pub mod Offers
+pub mod Locals
+pub mod Parts
+pub mod Descents
