@@ -1,6 +1,8 @@
 pub mod Commands
 pub mod Fronts
+pub mod Refusals
 pub mod RunLemmas
-pub mod Scripts
+pub mod Served
 pub mod Shows
 pub mod Statuses
+pub mod Usables

@@ -6,6 +6,7 @@ use Rattle.session_rules.specs.declared.reply.Step.TheVariants.{Next}
 use Rattle.session_rules.specs.declared.reply.Reply.{Reply}
 use Rattle.session_rules.specs.declared.reply.Reply.TheVariants.{Shown, End, Memory}
 use Rattle.session_rules.specs.Machine.{State, Exchange, MachineStep, MachineRun}
+use Rattle.script_text.specs.Printed.{printed_next}
 use Rattle.script_text.specs.Replies.{FitsProblem}
 use Rattle.explorer_cli.specs.Runs.{to_next}
 
@@ -18,7 +19,7 @@ run_more p s m t replies new reply e run step =
     subst (λ xs. MachineRun p s xs t) (sym (ap (map to_next) e ∙ map-append to_next replies (reply ∷ []))) (run_push p s (map to_next replies) m (to_next reply) t run step)
 
 -- a reply to a next fits the problem
-pub step_fits : (p : Bounded) (m t : State) (reply : Reply) → MachineStep p m Next reply t → FitsProblem p reply
+pub step_fits : (p : Bounded) (m t : State) (reply : Reply) → MachineStep p m Next reply t → FitsProblem p (printed_next reply)
 step_fits p m t (Shown number scenario) step = step.due.minimal.instance_of.scenario.cells
 step_fits p m t (End number) step = tt
 step_fits p m t Memory step = tt

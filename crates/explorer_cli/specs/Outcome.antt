@@ -1,46 +1,52 @@
 -- What the program answers: its words, its texts and its statuses.
-use Rattle.std.specs.Prelude.{◌≡◌, ◌⊎◌, ℕ, List, ◌++◌, codes}
+use Rattle.std.specs.Prelude.{◌≡◌, ◌⊎◌, ℕ, List, ◌++◌, codes, All}
 use Rattle.command_words.specs.declared.reading.Command.TheVariants.{Run}
 use Rattle.command_words.specs.Words.{Says}
 use Rattle.outside_io.specs.Front.{AppendsPart}
-use Rattle.short_scripts.specs.Script.{Script, IsShortScript}
+use Rattle.session_words.specs.declared.commands.Command.TheVariants.{Step}
+use Rattle.session_words.specs.declared.steps.Step.TheVariants.{Next}
+use Rattle.script_format.specs.declared.entries.Script.{Script}
+use Rattle.script_format.specs.declared.entries.SessionEntry.{SessionEntry}
+use Rattle.script_format.specs.declared.fault.ScriptFault.{ScriptFault}
+use Rattle.script_format.specs.Script.{IsScript, HasFault}
+use Rattle.script_text.specs.Faults.{script_line, fault_words}
 use Rattle.short_models.specs.Problem.{Short}
-use Rattle.model_texts.specs.ModelText.{SaysShort, IsOther, IsFaulty}
-use Rattle.explorer_cli.specs.Runs.{IsRunOf}
+use Rattle.explorer_cli.specs.Models.{AreUsable, IsFirstRefused, model_line}
+use Rattle.explorer_cli.specs.Runs.{AreRunsOf}
 
 -- the line that names refused words
 abbrev pub words_line : List ℕ
 words_line = codes "fault words\n"
 
--- the line that refuses a script
-abbrev pub script_line : List ℕ
-script_line = codes "fault script not_yet\n"
+-- each command of each session is `next`
+abbrev pub AskNextAlone : List SessionEntry → Type 0
+AskNextAlone sessions = All (λ x. All (λ c. c ≡ Step Next) x.commands) sessions
 
--- the line that refuses the model of this name, with what is wrong with it
-abbrev pub model_line : List ℕ → List ℕ → List ℕ
-model_line name words = codes "fault model " ++ name ++ codes " " ++ words ++ codes "\n"
+-- the bytes are no script, and under 3 the text is the line that tells their fault
+abbrev pub IsFaultAnswer : List ℕ → ℕ → List ℕ → Type 0
+IsFaultAnswer bytes status text = (f : ScriptFault) × HasFault bytes f × (status ≡ 3) × (text ≡ script_line (fault_words f))
 
--- the model's text says a short model, and under 0 the text is that of a run of the script's session on it
-abbrev pub IsRunAnswer : Script → ℕ → List ℕ → Type 0
-IsRunAnswer s status text = (status ≡ 0) × ((m : Short) × SaysShort s.text m × IsRunOf s m text)
-
--- the model's text is a model that isn't a short one, and under 4 the text is the line that says so
+-- some command is another one than `next`, and under 3 the text is the line that says so
 abbrev pub IsOtherAnswer : Script → ℕ → List ℕ → Type 0
-IsOtherAnswer s status text = (status ≡ 4) × IsOther s.text × (text ≡ model_line s.model (codes "not_yet"))
+IsOtherAnswer s status text = (¬ AskNextAlone s.sessions) × (status ≡ 3) × (text ≡ script_line (codes "not_yet"))
 
--- the model's text is no model, and under 4 the text is the line that tells its first fault
-abbrev pub IsFaultAnswer : Script → ℕ → List ℕ → Type 0
-IsFaultAnswer s status text = (status ≡ 4) × ((words : List ℕ) × IsFaulty s.text words × (text ≡ model_line s.model words))
+-- a model can't be used, and under 4 the text is the line that refuses the first of these
+abbrev pub IsModelAnswer : Script → ℕ → List ℕ → Type 0
+IsModelAnswer s status text =
+    AskNextAlone s.sessions × (status ≡ 4) × ((name : List ℕ) × (words : List ℕ) × IsFirstRefused s.sessions s.models name words × (text ≡ model_line name words))
 
--- a status and a text answer a short script
+-- the models can be used, and under 0 the text is that of runs of the sessions on them, in order
+abbrev pub IsRunAnswer : Script → ℕ → List ℕ → Type 0
+IsRunAnswer s status text =
+    AskNextAlone s.sessions × (status ≡ 0) × ((models : List Short) × AreUsable s.sessions 0 s.models models × AreRunsOf s.sessions models text)
+
+-- a status and a text answer a script
 abbrev pub IsAnswerToScript : Script → ℕ → List ℕ → Type 0
-IsAnswerToScript s status text = IsRunAnswer s status text ⊎ IsOtherAnswer s status text ⊎ IsFaultAnswer s status text
+IsAnswerToScript s status text = IsOtherAnswer s status text ⊎ IsModelAnswer s status text ⊎ IsRunAnswer s status text
 
--- a status and a text answer the bytes of the input: those of a short script as it says, and others with a line under 3
+-- a status and a text answer the bytes of the input: those of a script as it says, and others with the line of their fault
 abbrev pub IsAnswerTo : List ℕ → ℕ → List ℕ → Type 0
-IsAnswerTo bytes status text =
-    ((s : Script) × IsShortScript bytes s × IsAnswerToScript s status text)
-    ⊎ (((s : Script) → IsShortScript bytes s → ⊥) × (status ≡ 3) × (text ≡ script_line))
+IsAnswerTo bytes status text = IsFaultAnswer bytes status text ⊎ ((s : Script) × IsScript bytes s × IsAnswerToScript s status text)
 
 -- the answer to these bytes has this status
 abbrev pub IsStatusOf : List ℕ → ℕ → Type 0

@@ -1,13 +1,15 @@
--- Runs of a session that is always asked for the next scenario.
+-- Runs of sessions that are always asked for the next scenario.
 use Rattle.std.specs.Prelude.{◌≡◌, ◌<◌, ℕ, List, [], ◌∷◌, map, length, slice_get, Some}
+use Rattle.std.specs.List.{AllZip}
 use Rattle.rel_formula.specs.Bounds.{Bounded}
 use Rattle.rel_formula.specs.Renaming.{IsRenamingOf}
 use Rattle.session_rules.specs.declared.reply.Step.TheVariants.{Next}
 use Rattle.session_rules.specs.declared.reply.Reply.{Reply}
 use Rattle.session_rules.specs.declared.reply.Reply.TheVariants.{Shown, End, Memory}
 use Rattle.session_rules.specs.Machine.{State, Start, Exchange, MachineRun}
-use Rattle.script_text.specs.Replies.{IsSessionText}
-use Rattle.short_scripts.specs.Script.{Script}
+use Rattle.script_text.specs.Printed.{printed_next}
+use Rattle.script_text.specs.Replies.{PrintedSession, IsOutput}
+use Rattle.script_format.specs.declared.entries.SessionEntry.{SessionEntry}
 use Rattle.short_models.specs.Problem.{Short, IsShort, problem_of}
 
 -- replies to a session that is always asked for the next scenario
@@ -18,13 +20,21 @@ to_next reply = record { step = Next; reply = reply }
 abbrev pub AreRepliesOn : Bounded → List Reply → Type 0
 AreRepliesOn p replies = (last : State) × MachineRun p (Start 20000) (map to_next replies) last
 
--- the text of the script's session on the problem of a short model: the replies are a run of the session machine, one for each `next`
-pub record IsRunOf (s : Script) (m : Short) (text : List ℕ) : Type 0 where
+-- what is printed of the session is that of a run on the problem of a short model, with one reply for each command
+pub record IsRunOf (x : SessionEntry) (m : Short) (s : PrintedSession) : Type 0 where
   pub short : IsShort m
   pub replies : List Reply
-  pub count : length replies ≡ s.nexts
+  pub count : length replies ≡ length x.commands
   pub run : AreRepliesOn (problem_of m) replies
-  pub written : IsSessionText (problem_of m) s.session replies text
+  pub is : s ≡ record { problem = problem_of m; name = x.name; replies = map printed_next replies }
+
+-- the session runs on that of the models on which it is
+abbrev pub IsRunAmong : List Short → SessionEntry → PrintedSession → Type 0
+IsRunAmong models x s = (m : Short) × (slice_get models x.model ≡ Some m) × IsRunOf x m s
+
+-- the text is the output of runs of the sessions, in order
+abbrev pub AreRunsOf : List SessionEntry → List Short → List ℕ → Type 0
+AreRunsOf sessions models text = (runs : List PrintedSession) × AllZip (IsRunAmong models) sessions runs × IsOutput runs text
 
 -- the scenarios that replies show, in order
 abbrev pub scenarios_in : List Reply → List (List ℕ)

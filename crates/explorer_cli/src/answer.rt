@@ -1,22 +1,15 @@
 // What the program answers to what it read.
-ghost use Rattle.std.specs.Prelude.{◌≡◌, ◌≤◌, map, length, string_bytes, All, IfOk};
-ghost use Rattle.session_rules.specs.Machine.{MachineRun};
-ghost use Rattle.script_text.specs.Replies.{FitsProblem};
-ghost use Rattle.short_scripts.specs.Read.{script_of};
-ghost use Rattle.short_models.specs.Problem.{IsShort, short_of};
-ghost use Rattle.explorer_cli.specs.Runs.{to_next, IsRunOf};
-ghost use Rattle.explorer_cli.specs.Outcome.{model_line, IsAnswerTo, IsAnswerToScript};
+ghost use Rattle.std.specs.Prelude.{◌≡◌, ◌≤◌, ◌<◌, ◌↔◌, length, All, IsTrue, IfOk};
+ghost use Rattle.session_words.specs.declared.commands.Command.TheVariants.{Step as ToStep};
+ghost use Rattle.session_words.specs.declared.steps.Step.TheVariants.{Next};
+ghost use Rattle.explorer_cli.specs.Outcome.{AskNextAlone, IsAnswerTo, IsAnswerToScript};
 
-use model_texts::{ModelText, read_model};
-use script_text::text_of_replies;
-use session_rules::Reply;
-use session_state::Session;
-use short_models::{ShortModel, problem_of};
-use short_scripts::{ShortScript, read_script};
+use crate::models::{Models, read_models};
+use crate::sessions::text_of_sessions;
+use script_format::{Script, SessionEntry, read_script};
+use script_text::{fault_line, script_line};
+use session_words::{Command, Step};
 use std::alloc::{AllocError, Global};
-
-/// The budget of a session that is given none.
-const DEFAULT_BUDGET: u32 = 20_000;
 
 /// A status, and the text that is written under it.
 #[derive(Drop)]
@@ -29,70 +22,59 @@ pub struct Answer {
 pub fn answer_to(alloc: Global, bytes: &[u8]) -> Result<Answer, AllocError>
     ensures { IfOk result (λ a. IsAnswerTo bytes.now a.status a.text.items) }
 {
-    match read_script(alloc, bytes)? {
-        Some(script) => Ok(answer_script(alloc, &script)?),
-        None => Ok(Answer {
+    match read_script(alloc, bytes) {
+        Ok(script) => Ok(answer_script(alloc, &script)?),
+        Err(fault) => Ok(Answer {
             status: 3,
-            text: Vec::from_slice(alloc, b"fault script not_yet\n")?,
+            text: fault_line(alloc, fault)?,
         }),
     }
 }
 
-// The answer to a short script.
-fn answer_script(alloc: Global, script: &ShortScript) -> Result<Answer, AllocError>
-    requires { length (string_bytes script.now.text) ≤ 1048576 }
-    ensures { IfOk result (λ a. IsAnswerToScript (script_of script.now) a.status a.text.items) }
+// The answer to a script.
+fn answer_script(alloc: Global, script: &Script) -> Result<Answer, AllocError>
+    requires named { All (λ x. x.model < length script.now.models) script.now.sessions }
+    requires small { All (λ m. length m.text ≤ 1048576) script.now.models }
+    ensures { IfOk result (λ a. IsAnswerToScript script.now a.status a.text.items) }
 {
-    match read_model(alloc, script.text.as_str())? {
-        ModelText::Short(model) => Ok(Answer {
+    let sessions = script.sessions.entries();
+    if !ask_next_alone(sessions) {
+        return Ok(Answer {
+            status: 3,
+            text: script_line(alloc, b"not_yet")?,
+        });
+    }
+    match read_models(alloc, script.models.entries(), sessions)? {
+        Models::Short(models) => Ok(Answer {
             status: 0,
-            text: run(alloc, script, &model)?,
+            text: text_of_sessions(alloc, sessions, &models)?,
         }),
-        ModelText::Other => Ok(Answer {
+        Models::Refused(line) => Ok(Answer {
             status: 4,
-            text: model_line(alloc, script.model.as_str(), b"not_yet")?,
-        }),
-        ModelText::Faulty(words) => Ok(Answer {
-            status: 4,
-            text: model_line(alloc, script.model.as_str(), &words)?,
+            text: line,
         }),
     }
 }
 
-// The line that names a model, with what is wrong with it.
-fn model_line(alloc: Global, name: &str, words: &[u8]) -> Result<Vec<u8>, AllocError>
-    ensures { IfOk result (λ text. text.items ≡ model_line name.now words.now) }
+// Whether each command of each session is `next`.
+fn ask_next_alone(sessions: &[SessionEntry]) -> bool
+    ensures { IsTrue result ↔ AskNextAlone sessions.now }
 {
-    let mut text = Vec::from_slice(alloc, b"fault model ")?;
-    text.extend_from_slice(name.as_bytes())?;
-    text.extend_from_slice(b" ")?;
-    text.extend_from_slice(words)?;
-    text.extend_from_slice(b"\n")?;
-    Ok(text)
+    sessions.iter().all(|session| asks_next_alone(session))
 }
 
-// The text of the script's session on the problem of a short model.
-fn run(alloc: Global, script: &ShortScript, model: &ShortModel) -> Result<Vec<u8>, AllocError>
-    requires { IsShort (short_of model.now) }
-    ensures { IfOk result (λ text. IsRunOf (script_of script.now) (short_of model.now) text.items) }
+fn asks_next_alone(session: &SessionEntry) -> bool
+    ensures { IsTrue result ↔ All (λ c. c ≡ ToStep Next) session.now.commands }
 {
-    let problem = problem_of(alloc, model)?;
-    let mut session = Session::new(alloc, problem, DEFAULT_BUDGET)?;
-    let answered = replies(alloc, &mut session, script.nexts)?;
-    Ok(text_of_replies(alloc, script.session.as_str(), session.problem(), &answered)?)
+    session
+        .commands
+        .commands()
+        .iter()
+        .all(|command| is_next(command))
 }
 
-// The replies of a session that is asked for so many scenarios.
-fn replies(alloc: Global, session: &mut Session, nexts: u32) -> Result<Vec<Reply>, AllocError>
-    ensures count { IfOk result (λ replies. length replies.items ≡ nexts) }
-    ensures run { IfOk result (λ replies. MachineRun session.old.problem session.old.state (map to_next replies.items) session.new.state) }
-    ensures fit { IfOk result (λ replies. All (FitsProblem session.old.problem) replies.items) }
-    ensures problem { session.new.problem ≡ session.old.problem }
+fn is_next(command: &Command) -> bool
+    ensures { IsTrue result ↔ (command.now ≡ ToStep Next) }
 {
-    let mut given = Vec::new(alloc);
-    for _asked in 0..nexts {
-        let reply = session.next(alloc);
-        given.push(reply)?;
-    }
-    Ok(given)
+    matches!(command, Command::Step(Step::Next))
 }

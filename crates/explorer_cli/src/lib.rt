@@ -1,10 +1,12 @@
-//! The top call of the program: it does what the words say. It reads a script, runs its session and writes the replies,
+//! The top call of the program: it does what the words say. It reads a script, runs its sessions and writes the replies,
 //! or reads a proof text, checks it and writes the verdict.
 #![tactic(auto)]
 
 mod answer;
 pub mod laws;
+mod models;
 mod run_command;
+mod sessions;
 #[cfg(test)]
 mod tests;
 mod top_call;

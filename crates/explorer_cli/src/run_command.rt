@@ -1,15 +1,14 @@
 // The command `run`.
-ghost use Rattle.std.specs.Prelude.{◌≡◌, ◌⊎◌, ◌++◌, ℕ, List, drop};
+ghost use Rattle.std.specs.Prelude.{◌≡◌, ◌⊎◌, ℕ, List, drop};
 ghost use Rattle.outside_io.specs.Count.{Rose};
-ghost use Rattle.outside_io.specs.Front.{AppendsPart};
 ghost use Rattle.explorer_cli.specs.Outcome.{IsRunStatus, HasFailed, IsStatusOf, Wrote, IsPartOfAnswer};
 
 use crate::answer::answer_to;
-use outside_io::{ReadFault, Sink, Source, read_all, write_all};
-use short_scripts::MOST_BYTES;
+use outside_io::{ReadFault, Sink, Source, finish, read_all};
+use script_format::MOST_BYTES;
 use std::alloc::Global;
 
-/// Reads a script to the source's end, runs it and writes the text of its session: the command `run`. Gives the status:
+/// Reads a script to the source's end, runs it and writes the texts of its sessions: the command `run`. Gives the status:
 /// 0 done, 3 the script is refused, 4 a model is, 5 the source failed, 6 the sink failed, 7 want of memory.
 pub fn run_script<S: Source, K: Sink>(alloc: Global, source: &mut S, sink: &mut K) -> u8
     ensures status { IsRunStatus result }
@@ -54,18 +53,5 @@ fn write_answer<K: Sink>(alloc: Global, bytes: &[u8], sink: &mut K) -> u8
     match answer_to(alloc, bytes) {
         Ok(answer) => finish(sink, answer.status, &answer.text),
         Err(_) => 7,
-    }
-}
-
-/// Writes a text, and gives its status, or 6 where that failed.
-pub fn finish<K: Sink>(sink: &mut K, status: u8, text: &[u8]) -> u8
-    ensures status { (result ≡ status) ⊎ (result ≡ 6) }
-    ensures failed { result ≡ 6 → (status ≡ 6) ⊎ Rose (K.faults sink.old) (K.faults sink.new) }
-    ensures all { K.tells sink.old → (result ≡ 6) ⊎ (K.written sink.new ≡ K.written sink.old ++ text.now) }
-    ensures part { K.tells sink.old → result ≡ 6 → (status ≡ 6) ⊎ AppendsPart (K.written sink.old) (K.written sink.new) text.now }
-{
-    match write_all(sink, text) {
-        Ok(()) => status,
-        Err(_) => 6,
     }
 }

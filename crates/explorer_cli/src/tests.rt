@@ -2,6 +2,7 @@
 use crate::explore;
 use outside_io::{MemSink, MemSource};
 use std::alloc::{AllocError, Global};
+use std::process::Abort;
 use std::test::Fail;
 
 // The status and the output for these words and this script, where the calls of these numbers fail.
@@ -141,50 +142,197 @@ fn tells_the_first_fault_of_a_model(rt: HostRuntime) -> Result<(), Fail> {
     Ok(())
 }
 
-#[test]
-fn reads_scripts(rt: HostRuntime) -> Result<(), Fail> {
-    let shown = "== s_1\nscenario 1\nA = {}\nend 1\n";
-    let refused = "fault script not_yet\n";
-    let rows = [
-        (" == model m\n", "== session s_1 m 1\n", 3, refused),
-        ("", "", 3, refused),
-        ("", "== session s_1 m 1\nnext\nnext", 0, shown),
-        (
-            "",
-            "==  session s_1 m 000001\r\nnext\r\n# all 3\n\n   \n next \n",
-            0,
-            shown,
-        ),
-        ("# m\n\n", "== session s_1 m 1\n", 0, "== s_1\n"),
-        ("", "== session s_1 m 2\nnext\n", 3, refused),
-        ("", "== session s_1 m 0000001\nnext\n", 3, refused),
-        ("", "== session s_1 n 1\nnext\n", 3, refused),
-        ("", "== session 1s m 1\nnext\n", 3, refused),
-        ("", "== session s_1 m 1\nall 3\n", 3, refused),
-        (
-            "",
-            "== session s_1 m 1\n== session s_2 m 1\nnext\n",
-            3,
-            refused,
-        ),
-        (
-            "",
-            "== model n\nsig A {} run {}\n== session s_1 m 1\nnext\n",
-            3,
-            refused,
-        ),
-        ("=== x\n", "== session s_1 m 1\nnext\n", 3, refused),
-        ("next\n", "== session s_1 m 1\nnext\n", 3, refused),
-    ];
-    for (before, after, status, expected) in rows {
-        let script = format!(in rt.alloc();
-            "{before}== model m\nsig A {{}} run {{}} for 2\n{after}"
-        )?;
-        let (found, text) = run(rt.alloc(), &script)?;
-        assert_eq!(rt; text.as_str(), expected, "{script}");
+// Whether these scripts have this status and these outputs.
+fn answers(rt: &impl Abort, alloc: Global, status: u8, rows: &[(&str, &str)]) -> Result<(), Fail> {
+    for (script, expected) in rows {
+        let (found, text) = run(alloc, script)?;
+        assert_eq!(rt; text.as_str(), *expected, "{script}");
         assert_eq!(rt; found, status, "{script}");
     }
     Ok(())
+}
+
+#[test]
+fn serves_the_sessions_of_a_script(rt: HostRuntime) -> Result<(), Fail> {
+    answers(
+        &rt,
+        rt.alloc(),
+        0,
+        &[
+            ("", ""),
+            ("== model m\nsig A {} run {} for 2\n", ""),
+            (
+                "== model m\nsig A {} run { some A } for 2\n== session a m 1\nnext\n== session b m 1\nnext\n",
+                "== a\nscenario 1\nA = {A$0}\n== b\nscenario 1\nA = {A$0}\n",
+            ),
+            (
+                "== model m\nsig A {} run {} for 2\n== session s_1 m 1\nnext\nnext",
+                "== s_1\nscenario 1\nA = {}\nend 1\n",
+            ),
+            (
+                "== model m\nsig A {} run {} for 2\n==  session s_1 m 000001\r\nnext\r\n# all 3\n\n   \n next \n",
+                "== s_1\nscenario 1\nA = {}\nend 1\n",
+            ),
+            (
+                "# m\n\n== model m\nsig A {} run {} for 2\n== session s_1 m 1\n",
+                "== s_1\n",
+            ),
+            (
+                "== model m\nsig A {} run {} for 2\n== session s_1 m 1\n== session s_2 m 1\nnext\n",
+                "== s_1\n== s_2\nscenario 1\nA = {}\n",
+            ),
+            (
+                "== model m\nsig A {} run {} for 2\n== model n\nsig A {} run {}\n== session s_1 m 1\nnext\n",
+                "== s_1\nscenario 1\nA = {}\n",
+            ),
+        ],
+    )
+}
+
+#[test]
+fn serves_each_session_on_its_own_model(rt: HostRuntime) -> Result<(), Fail> {
+    answers(
+        &rt,
+        rt.alloc(),
+        0,
+        &[
+            (
+                "== model m\nsig A {} run { some A } for 2\n== model n\nsig B {} run { no B } for 2\n== session b n 1\nnext\n== session a m 1\nnext\n== more b\nnext\nnext\n",
+                "== b\nscenario 1\nB = {}\nend 1\nend 1\n== a\nscenario 1\nA = {A$0}\n",
+            ),
+            (
+                "== model m\nsig A, B {} run { one A } for 1\n== session m m 1\nnext\n== model n\nsig A {} run { some A no A }\n== session a n 1\nnext\n== more m\nnext\n",
+                "== m\nscenario 1\nA = {A$0}\nB = {}\nend 1\n== a\nend 0\n",
+            ),
+        ],
+    )
+}
+
+#[test]
+fn tells_the_first_fault_of_a_script(rt: HostRuntime) -> Result<(), Fail> {
+    answers(
+        &rt,
+        rt.alloc(),
+        3,
+        &[
+            ("next", "fault script line 1 stray_text\n"),
+            ("== session a q 1", "fault script line 1 unknown_model\n"),
+            ("== more z", "fault script line 1 unknown_session\n"),
+            ("== modell m", "fault script line 1 bad_directive\n"),
+            (
+                "== model m\nsig A {} run {} for 2\n== session a m 1\nall 0\n",
+                "fault script line 4 bad_number\n",
+            ),
+            (
+                "== model m\nsig A {} run {} for 2\n== session a m 1001\n",
+                "fault script line 3 bad_number\n",
+            ),
+            (
+                "== model m\nsig A {} run {} for 2\n== session a m 0000001\nnext\n",
+                "fault script line 3 bad_number\n",
+            ),
+            (
+                "== model m\nx\n== session 1s m 1\nnext\n",
+                "fault script line 3 bad_directive\n",
+            ),
+            ("== model m\n\n== model m\n", "fault script line 3 twice\n"),
+            (" == model m\n", "fault script line 1 stray_text\n"),
+            ("=== x\n", "fault script line 1 bad_directive\n"),
+        ],
+    )
+}
+
+#[test]
+fn tells_where_a_cut_script_ends(rt: HostRuntime) -> Result<(), Fail> {
+    answers(
+        &rt,
+        rt.alloc(),
+        3,
+        &[
+            ("=", "fault script line 1 stray_text\n"),
+            ("== mod", "fault script line 1 bad_directive\n"),
+            (
+                "== model m\nsig A {} run {} for 2\n== session a m",
+                "fault script line 3 bad_directive\n",
+            ),
+            (
+                "== model m\nsig A {} run {} for 2\n== session a m 1\nnex",
+                "fault script line 4 bad_directive\n",
+            ),
+            (
+                "== model m\nsig A {} run {} for 2\n== session a m 1\naugment A A$",
+                "fault script line 4 bad_directive\n",
+            ),
+        ],
+    )
+}
+
+// Each other command is refused before the models are looked at.
+#[test]
+fn refuses_other_commands_than_next(rt: HostRuntime) -> Result<(), Fail> {
+    let commands = [
+        "all 3",
+        "offers",
+        "augment A A$0",
+        "back",
+        "budget 5",
+        "proof",
+    ];
+    for command in commands {
+        for model in ["sig A {} run {} for 2", "sig A { f: set A } run {}", "/*"] {
+            let script = format!(in rt.alloc();
+                "== model m\n{model}\n== session a m 1\nnext\n== session b m 2\nnext\n{command}\n"
+            )?;
+            let (found, text) = run(rt.alloc(), &script)?;
+            assert_eq!(rt; text.as_str(), "fault script not_yet\n", "{script}");
+            assert_eq!(rt; found, 3, "{script}");
+        }
+    }
+    Ok(())
+}
+
+#[test]
+fn refuses_the_first_model_that_it_can_t_use(rt: HostRuntime) -> Result<(), Fail> {
+    answers(
+        &rt,
+        rt.alloc(),
+        4,
+        &[
+            (
+                "== model m\nsig A {} run {}\n== session a m 2\nnext\n",
+                "fault model m command 2 no_command\n",
+            ),
+            (
+                "== model m\nsig A {} run {}\n== session a m 1\n== session b m 9\n== session c m 3\n== session d m 1000\n",
+                "fault model m command 3 no_command\n",
+            ),
+            (
+                "== model m\nsig A { f: A } run {}\n== model n\nsig A {}\n/*\n",
+                "fault model m not_yet\n",
+            ),
+            (
+                "== model m\nsig A {} run {} for 1\n== model n\nsig A {}\n/*\n== session a m 1\nnext\n",
+                "fault model n 2:1 open_comment\n",
+            ),
+            (
+                "== model m\nsig A {} run {} for 1\n== model n\nsig A {} run {} run {}\n== session a m 1\nnext\n",
+                "fault model n not_yet\n",
+            ),
+            (
+                "== model m\nsig A {} run {}\n== model n\nsig\n== session a n 2\n== session b m 7\n",
+                "fault model m command 7 no_command\n",
+            ),
+            (
+                "== model m\nsig A {} check {}\n== session a m 2\nnext\n",
+                "fault model m not_yet\n",
+            ),
+            (
+                "== model m\nsig A {} run {}\n== model n\nsig A {} run {}\n== session b n 2\n== session a m 3\n",
+                "fault model m command 3 no_command\n",
+            ),
+            ("== model m\n", "fault model m not_yet\n"),
+        ],
+    )
 }
 
 #[test]
@@ -218,13 +366,32 @@ fn reads_a_mebibyte(rt: HostRuntime) -> Result<(), Fail> {
     )?;
     for (size, status, expected) in [
         (1_048_576, 0, "== a\nscenario 1\nA = {}\n"),
-        (1_048_577, 3, "fault script not_yet\n"),
+        (1_048_577, 3, "fault script too_long\n"),
     ] {
         script.resize(size, b'#')?;
         let (found, text) = explored(alloc, &["run"], &script, &[], &[])?;
         assert_eq!(rt; text.as_str(), expected);
         assert_eq!(rt; found, status);
     }
+    Ok(())
+}
+
+// One line that begins with `#`.
+#[test]
+fn reads_a_mebibyte_without_effect(rt: HostRuntime) -> Result<(), Fail> {
+    let alloc = rt.alloc();
+    let mut script = Vec::new(alloc);
+    for (size, status, expected) in [
+        (1_048_576, 0, ""),
+        (1_048_577, 3, "fault script too_long\n"),
+    ] {
+        script.resize(size, b'#')?;
+        let (found, text) = explored(alloc, &["run"], &script, &[], &[])?;
+        assert_eq!(rt; text.as_str(), expected);
+        assert_eq!(rt; found, status);
+    }
+    let (found, text) = explored(alloc, &["run"], b"# \xFF\n", &[], &[])?;
+    assert_eq!(rt; (found, text.as_str()), (3, "fault script not_text\n"));
     Ok(())
 }
 

@@ -9,9 +9,9 @@ ghost use Rattle.outside_io.specs.Front.{AppendsPart};
 ghost use Rattle.explorer_cli.specs.Outcome.{SaysRun, IsStatus, HasFailed, IsStatusOf, Wrote, IsPartOfAnswer, words_line};
 ghost use Rattle.proof_command.specs.Answer as check;
 
-use crate::run_command::{finish, run_script};
+use crate::run_command::run_script;
 use command_words::{Command, command_of};
-use outside_io::{Sink, Source};
+use outside_io::{Sink, Source, finish};
 use proof_command::check_proof;
 use std::alloc::Global;
 

@@ -6,18 +6,11 @@ use Rattle.std.proofs.lemmas.List.Elements.{Contains-append_left}
 use Rattle.cnf_core.specs.declared.literal.Lit.{Lit}
 use Rattle.refutation_check.specs.declared.log.Step.{Step as LogStep}
 use Rattle.refutation_check.specs.Chain.{IsAccepted}
-use Rattle.refutation_check.proofs.Renumbered.{accepted_first, accepted_rest, accepted_cons}
 use Rattle.rel_formula.specs.Bounds.{Bounded}
 use Rattle.translation_rules.specs.Translation.{Translated}
 use Rattle.journal_rules.specs.Noted.{Note, Published, Imported, Shared, Opened, Recorded, Noted}
 use Rattle.journal_rules.specs.Journal.{IsPublished, MayFollow, IsLegal, IsPool, Shares, pool_of, added_to}
 use Rattle.journal_rules.proofs.Prefixes.{one_translation}
-
--- what comes first in an accepted log is accepted
-pub front_accepted : (given : List (List Lit)) (steps more : List LogStep) → IsAccepted given (steps ++ more) → IsAccepted given steps
-front_accepted given [] more h = λ i d l. absurd (omega arith)
-front_accepted given (s ∷ steps) more h =
-    accepted_cons given s steps (accepted_first given s (steps ++ more) h) (front_accepted (given ++ s.clause ∷ []) steps more (accepted_rest given s (steps ++ more) h))
 
 still_there : (journal : List Noted) (x : Noted) (key : ℕ) (t : Translated) → IsPublished journal key t → IsPublished (journal ++ x ∷ []) key t
 still_there journal x key t (by, there) = (by, Contains-append_left journal (x ∷ []) (record { by = by; note = Published key t }) there)
@@ -67,6 +60,6 @@ module _ (problems : List Bounded) (key : ℕ) where
   pub pool_right : (journal : List Noted) → IsLegal problems journal → (t : Translated) → IsPublished journal key t → IsPool t (pool_of key journal)
   unfolding HasPool
   pool_right journal legal t published = elim (from_here [] journal legal (inl refl)) [
-    | inl empty ↦ subst (IsPool t) (sym empty) (record { accepted = λ i d l. absurd (omega arith); few_steps = omega arith; few_numbers = omega arith })
+    | inl empty ↦ subst (IsPool t) (sym empty) (record { accepted = λ i d l. absurd (omega arith); limits = record { few_steps = omega arith; few_numbers = omega arith } })
     | inr found ↦ subst (λ (u : Translated). IsPool u (pool_of key journal)) (one_translation problems journal legal key found.0 t found.1 published) found.2
   ]

@@ -2,6 +2,7 @@
 use Rattle.std.specs.Prelude.{◌≡◌, ◌≢◌, ◌+◌, ◌≤◌, ◌==◌, ℕ, List, [], ◌∷◌, ◌++◌, length, take, slice_get, flat_map, sum_by, Some, Contains, if◌then◌else◌}
 use Rattle.refutation_check.specs.declared.log.Step.{Step as LogStep}
 use Rattle.refutation_check.specs.Chain.{IsAccepted}
+use Rattle.clause_pool.specs.Limits.{IsWithinLimits}
 use Rattle.rel_formula.specs.Bounds.{Bounded}
 use Rattle.translation_rules.specs.Translation.{Translated, StandsFor}
 use Rattle.session_words.specs.declared.steps.Step.{Step}
@@ -58,15 +59,10 @@ pub record HasImported (journal : List Noted) (by key : ℕ) (t : Translated) (p
   pub imported : ImportedLast journal by key steps
   pub prefix : pool ≡ take steps (pool_of key journal)
 
--- how many literals and hints the steps have together
-abbrev pub numbers_in : List LogStep → ℕ
-numbers_in steps = sum_by (λ s. length s.clause + length s.hints) steps
-
 -- the steps of a pool are a log over the translation's clauses alone, and are within the limits
 pub record IsPool (t : Translated) (pool : List LogStep) : Type 0 where
   pub accepted : IsAccepted t.cnf.clauses pool
-  pub few_steps : length pool ≤ 20000
-  pub few_numbers : numbers_in pool ≤ 2000000
+  pub limits : IsWithinLimits pool
 
 -- the key has a problem, for which the translation stands, and none was put there before
 pub record Publishes (problems : List Bounded) (before : List Noted) (key : ℕ) (t : Translated) : Type 0 where

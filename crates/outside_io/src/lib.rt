@@ -11,7 +11,7 @@ mod source;
 mod streams;
 
 pub use memory::{MemSink, MemSource};
-pub use sink::{Sink, write_all};
+pub use sink::{Sink, finish, write_all};
 pub use source::{Failed, ReadFault, Source, read_all};
 pub use std::alloc::AllocError as NoMemory;
 pub use streams::{StdSink, StdSource};

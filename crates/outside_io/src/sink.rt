@@ -1,5 +1,5 @@
 // Where bytes go.
-ghost use Rattle.std.specs.Prelude.{◌≡◌, ℕ, ◌<◌, ◌≤◌, ◌↔◌, List, ◌++◌, length, take, Ok, IfOk, OnOk, OnErr};
+ghost use Rattle.std.specs.Prelude.{◌≡◌, ℕ, ◌<◌, ◌≤◌, ◌⊎◌, ◌↔◌, List, ◌++◌, length, take, Ok, IfOk, OnOk, OnErr};
 ghost use Rattle.outside_io.specs.Count.{Rose};
 ghost use Rattle.outside_io.specs.Front.{AppendsPart};
 
@@ -47,4 +47,22 @@ pub fn write_all<K: Sink>(sink: &mut K, bytes: &[u8]) -> Result<(), Failed>
         taken += sink.write(&bytes[taken..])?;
     }
     Ok(())
+}
+
+/// Writes a text, and gives the status that goes with it, or 6 where writing failed: then some of the text is written, from
+/// its front on, and not all.
+pub fn finish<K: Sink>(sink: &mut K, status: u8, text: &[u8]) -> u8
+    ensures status { (result ≡ status) ⊎ (result ≡ 6) }
+
+    ensures tells { K.tells sink.new ↔ K.tells sink.old }
+    ensures faults { K.faults sink.old ≤ K.faults sink.new }
+    ensures failed { result ≡ 6 → (status ≡ 6) ⊎ Rose (K.faults sink.old) (K.faults sink.new) }
+
+    ensures all { K.tells sink.old → (result ≡ 6) ⊎ (K.written sink.new ≡ K.written sink.old ++ text.now) }
+    ensures part { K.tells sink.old → result ≡ 6 → (status ≡ 6) ⊎ AppendsPart (K.written sink.old) (K.written sink.new) text.now }
+{
+    match write_all(sink, text) {
+        Ok(()) => status,
+        Err(_) => 6,
+    }
 }

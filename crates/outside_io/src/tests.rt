@@ -1,6 +1,7 @@
 // What no clause says: that calls succeed with ample memory, and what the library's reader and writer do.
 use crate::{
-    Failed, MemSink, MemSource, ReadFault, Sink, Source, StdSink, StdSource, read_all, write_all,
+    Failed, MemSink, MemSource, ReadFault, Sink, Source, StdSink, StdSource, finish, read_all,
+    write_all,
 };
 use std::io::{self, ErrorKind, Write};
 use std::test::Fail;
@@ -37,6 +38,16 @@ fn a_sink_keeps_what_it_took_before_it_failed(rt: HostRuntime) -> Result<(), Fai
         let answer = write_all(&mut sink, text);
         assert_eq!(rt; answer.is_ok(), written == 29, "with room for {room}");
         assert_eq!(rt; sink.bytes(), &text[..written]);
+    }
+    Ok(())
+}
+
+#[test]
+fn a_status_goes_with_a_text_or_6_where_writing_fails(rt: HostRuntime) -> Result<(), Fail> {
+    for (room, status, written) in [(8, 3, "the text"), (7, 6, "the tex"), (0, 6, "")] {
+        let mut sink = MemSink::new(rt.alloc(), room, 5, Vec::new(rt.alloc()))?;
+        assert_eq!(rt; finish(&mut sink, 3, b"the text"), status);
+        assert_eq!(rt; sink.bytes(), written.as_bytes());
     }
     Ok(())
 }

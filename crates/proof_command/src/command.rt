@@ -1,11 +1,10 @@
 // The command.
-ghost use Rattle.std.specs.Prelude.{◌≡◌, ◌⊎◌, ◌++◌, ℕ, List, drop};
+ghost use Rattle.std.specs.Prelude.{◌≡◌, ◌⊎◌, ℕ, List, drop};
 ghost use Rattle.outside_io.specs.Count.{Rose};
-ghost use Rattle.outside_io.specs.Front.{AppendsPart};
 ghost use Rattle.proof_command.specs.Answer.{IsCheckStatus, HasFailed, Wrote, IsStatusOf, IsPartOfAnswer};
 
 use crate::answer::answer_to;
-use outside_io::{ReadFault, Sink, Source, read_all, write_all};
+use outside_io::{ReadFault, Sink, Source, finish, read_all};
 use refutation_check::MOST_BYTES;
 use std::alloc::Global;
 
@@ -55,18 +54,5 @@ fn write_answer<K: Sink>(alloc: Global, bytes: &[u8], sink: &mut K) -> u8
     match answer_to(alloc, bytes) {
         Ok(answer) => finish(sink, answer.status, &answer.text),
         Err(_) => 7,
-    }
-}
-
-// Writes a text, and gives its status, or 6 where that failed.
-fn finish<K: Sink>(sink: &mut K, status: u8, text: &[u8]) -> u8
-    ensures status { (result ≡ status) ⊎ (result ≡ 6) }
-    ensures failed { result ≡ 6 → (status ≡ 6) ⊎ Rose (K.faults sink.old) (K.faults sink.new) }
-    ensures all { K.tells sink.old → (result ≡ 6) ⊎ (K.written sink.new ≡ K.written sink.old ++ text.now) }
-    ensures part { K.tells sink.old → result ≡ 6 → (status ≡ 6) ⊎ AppendsPart (K.written sink.old) (K.written sink.new) text.now }
-{
-    match write_all(sink, text) {
-        Ok(()) => status,
-        Err(_) => 6,
     }
 }

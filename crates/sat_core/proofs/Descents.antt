@@ -14,11 +14,13 @@ use Rattle.refutation_check.specs.Assumed.{IsOpen}
 use Rattle.refutation_check.proofs.Chains.{names_all, names_one}
 use Rattle.refutation_check.proofs.Entailment.{lit_equal_or_not, false_clause}
 use Rattle.refutation_check.proofs.Sights.{lit_equal}
-use Rattle.sat_trail.specs.declared.trail.Assigned.{Assigned}
-use Rattle.sat_trail.specs.Trailed.{Trailed, IsTrail, IsValue, ForcesMore, falses_of, level_of}
+use Rattle.assignment_trail.specs.declared.assigned.Assigned.{Assigned}
+use Rattle.assignment_trail.specs.Trail.{IsTrail, ForcesMore, falses_of, level_of}
+use Rattle.sat_trail.specs.Trailed.{Trailed, IsValue}
 use Rattle.sat_trail.specs.Closed.{IsClosed, IsClosedBelow}
 use Rattle.sat_trail.specs.Learnt.{IsFlat, IsAbove}
-use Rattle.sat_trail.proofs.Learned.{level_before, decided_first, from_front, vars_differ}
+use Rattle.assignment_trail.proofs.Trails.{level_before, from_front, vars_differ}
+use Rattle.sat_trail.proofs.Learned.{decided_first}
 use Rattle.sat_core.specs.Answers.{IsModel}
 use Rattle.sat_core.specs.Search.{HasAllValues, AreValues, IsFull, IsStuck}
 

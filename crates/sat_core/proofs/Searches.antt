@@ -15,10 +15,11 @@ use Rattle.refutation_check.specs.declared.log.Step.{Step}
 use Rattle.refutation_check.specs.Chain.{IsChain, members_of, IsAccepted, IsNovel, EndsEmpty}
 use Rattle.refutation_check.proofs.Entailment.{each_entailed, no_valuation}
 use Rattle.refutation_check.specs.SearchLog.{IsSearchLog, IsVarOf, HasVarsOf, IsAllNovel, IsNovelButLast, IsDirect}
-use Rattle.sat_trail.specs.Trailed.{Trailed, IsTrail, IsVarLimit, level_of}
+use Rattle.assignment_trail.specs.Trail.{IsTrail, level_of}
+use Rattle.sat_trail.specs.Trailed.{Trailed, IsVarLimit}
 use Rattle.sat_trail.specs.Learnt.{IsFlat, IsAbove}
 use Rattle.sat_trail.specs.Closed.{IsClosedBelow}
-use Rattle.sat_trail.proofs.Trails.{All-front}
+use Rattle.assignment_trail.proofs.Trails.{All-front}
 use Rattle.sat_core.proofs.Descents.{flat_or_above, flat_at_zero}
 use Rattle.sat_core.specs.Answers.{IsModel}
 use Rattle.sat_core.specs.Search.{Searching, IsStuck, IsEnd, IsProgress}

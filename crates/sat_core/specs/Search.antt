@@ -4,7 +4,8 @@ use Rattle.cnf_core.specs.declared.literal.Lit.{Lit}
 use Rattle.refutation_check.specs.declared.log.Step.{Step}
 use Rattle.refutation_check.specs.Chain.{members_of, IsAccepted, IsChain, IsNovel, Refutes}
 use Rattle.refutation_check.specs.Assumed.{IsOpen}
-use Rattle.sat_trail.specs.Trailed.{Trailed, falses_of, level_of, IsVarLimit}
+use Rattle.assignment_trail.specs.Trail.{falses_of, level_of}
+use Rattle.sat_trail.specs.Trailed.{Trailed, IsVarLimit}
 use Rattle.sat_trail.specs.Closed.{IsClosed, IsClosedBelow}
 use Rattle.refutation_check.specs.SearchLog.{IsVarOf, HasVarsOf, HasNoEmpty, IsAllNovel}
 

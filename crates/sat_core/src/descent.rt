@@ -1,5 +1,5 @@
 ghost use Rattle.std.specs.Prelude.{◌≡◌, ◌≤◌, ◌+◌, MatchOption, IfOk, length};
-ghost use Rattle.sat_trail.specs.Trailed.{falses_of, level_of};
+ghost use Rattle.assignment_trail.specs.Trail.{falses_of, level_of};
 ghost use Rattle.sat_core.specs.Answers.{IsModel};
 ghost use Rattle.sat_core.specs.Search.{HasAllValues, IsOpenVar, IsFull, IsStuck};
 

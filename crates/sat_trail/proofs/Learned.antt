@@ -9,19 +9,16 @@ use Rattle.std.specs.List.{Contains}
 use Rattle.cnf_core.specs.declared.literal.Lit.{Lit}
 use Rattle.cnf_core.specs.Literal.{negation_of, IsTautology, HasSameLiterals}
 use Rattle.refutation_check.specs.Chain.{IsUnit, Names, Refutes, Forces, IsChain, IsNovel}
-use Rattle.refutation_check.proofs.Sights.{lit_equal, lit_cases, not_not, not_fixed}
+use Rattle.refutation_check.proofs.Sights.{not_fixed}
 use Rattle.refutation_check.proofs.Chains.{names_one}
 use Rattle.refutation_check.specs.SearchLog.{IsVarOf}
-use Rattle.sat_trail.specs.declared.trail.Assigned.{Assigned}
+use Rattle.assignment_trail.specs.declared.assigned.Assigned.{Assigned}
 use Rattle.refutation_check.specs.Assumed.{IsOpen}
-use Rattle.sat_trail.specs.Trailed.{falses_of, level_of, IsPlaced, IsTrail, IsVarUpTo}
+use Rattle.assignment_trail.specs.Trail.{falses_of, level_of, IsPlaced, IsTrail, IsVarUpTo}
 use Rattle.sat_trail.specs.Closed.{IsClosedBelow}
 use Rattle.sat_trail.specs.Learnt.{IsAbove, IsAsserting, IsFlat}
 use Rattle.sat_trail.specs.Learning.{IsMarked, Learning, Marking, IsHigh, IsPointed, IsResolved}
-use Rattle.sat_trail.proofs.Trails.{placed_open, placed_level, level_of_take}
-
-neg_neg : (l : Lit) → negation_of (negation_of l) ≡ l
-neg_neg l = lit_equal (negation_of (negation_of l)) l refl (not_not l.positive)
+use Rattle.assignment_trail.proofs.Trails.{placed_level, level_of_take, from_falses, in_front, from_front, front_more, vars_differ, level_before, level_rises}
 
 pub named_in : (clauses : List (List Lit)) (number : ℕ) (c : List Lit) → Names clauses number c → number ≤ length clauses
 named_in clauses number c named =
@@ -64,68 +61,7 @@ no_literals : (kept clause : List Lit) → kept ≡ [] → HasSameLiterals kept 
 no_literals kept [] none same = refl
 no_literals kept (l ∷ ls) none same = let c = (same l).1 (0, omega arith, refl) in let z : length kept ≡ 0 = ap length none in absurd (omega (arith, c.1))
 
-in_falses : (xs : List Assigned) (k : ℕ) (d : Assigned) → k < length xs → Contains (falses_of xs) (negation_of (get_or xs k d).lit)
-in_falses [] k d h = absurd (omega arith)
-in_falses (x ∷ xs) zero d h = (0, omega arith, refl)
-in_falses (x ∷ xs) (suc k) d h = let r = in_falses xs k d (omega arith) in (suc r.0, omega (arith, r.1), r.2)
-
-from_falses : (xs : List Assigned) (l : Lit) → Contains (falses_of xs) l → (k : ℕ) × (k < length xs) × ((d : Assigned) → negation_of (get_or xs k d).lit ≡ l)
-from_falses [] l (k, h, e) = absurd (omega arith)
-from_falses (x ∷ xs) l (zero, h, e) = (0, omega arith, λ d. e)
-from_falses (x ∷ xs) l (suc k, h, e) = let r = from_falses xs l (k, omega arith, e) in (suc r.0, omega (arith, r.1), r.2)
-
--- what is false after the first n is what those make false
-pub in_front : (xs : List Assigned) (k n : ℕ) (d : Assigned) → k < n → k < length xs → Contains (falses_of (take n xs)) (negation_of (get_or xs k d).lit)
-in_front xs k n d below in' =
-    subst (λ (a : Assigned). Contains (falses_of (take n xs)) (negation_of a.lit)) (get_or-take n xs k d below) (in_falses (take n xs) k d (omega (arith, length-take n xs)))
-
-pub from_front : (xs : List Assigned) (n : ℕ) (l : Lit) → Contains (falses_of (take n xs)) l → (k : ℕ) × (k < n) × (k < length xs) × ((d : Assigned) → negation_of (get_or xs k d).lit ≡ l)
-from_front xs n l c =
-    let r = from_falses (take n xs) l c in
-    let below : r.0 < n = omega (arith, r.1, length-take n xs) in
-    (r.0, below, omega (arith, r.1, length-take n xs), λ d. ap (λ (a : Assigned). negation_of a.lit) (sym (get_or-take n xs r.0 d below)) ∙ r.2 d)
-
-pub front_more : (xs : List Assigned) (n : ℕ) (l : Lit) → Contains (falses_of (take n xs)) l → Contains (falses_of (take (n + 1) xs)) l
-front_more xs n l c =
-    let r = from_front xs n l c in
-    let d : Assigned = record { lit = l; level = 0; reason = None } in
-    subst (Contains (falses_of (take (n + 1) xs))) (r.3 d) (in_front xs r.0 (n + 1) d (omega (arith, r.1)) r.2)
-
 module _ (clauses : List (List Lit)) (xs : List Assigned) (trail : IsTrail clauses xs) where
-  -- the variables of a trail differ
-  pub vars_differ : (j k : ℕ) (d e : Assigned) → j < k → k < length xs → (get_or xs j d).lit.var ≡ (get_or xs k e).lit.var → ⊥
-  vars_differ j k d e less in' same =
-      let is_open : IsOpen (falses_of (take k xs)) (get_or xs k e).lit = placed_open clauses (take k xs) (get_or xs k e) (trail k e in') in
-      let there : Contains (falses_of (take k xs)) (negation_of (get_or xs j d).lit) = in_front xs j k d less (omega arith) in
-      elim (lit_cases (get_or xs j d).lit (get_or xs k e).lit same) [
-        | inl one ↦ is_open.1 (subst (λ (l : Lit). Contains (falses_of (take k xs)) (negation_of l)) one there)
-        | inr opposite ↦ is_open.0 (subst (Contains (falses_of (take k xs))) (ap negation_of opposite ∙ neg_neg (get_or xs k e).lit) there)
-      ]
-
-  -- levels do not fall
-  pub level_before : (n : ℕ) (j : ℕ) (d : Assigned) → j < n → n ≤ length xs → (get_or xs j d).level ≤ level_of (take n xs)
-  level_before zero j d less h = absurd (omega arith)
-  level_before (suc m) j d less h =
-      let top : level_of (take (m + 1) xs) ≡ (get_or xs m d).level = level_of_take xs m d (omega arith) in
-      let one : suc m ≡ m + 1 = omega arith in
-      let top' : level_of (take (suc m) xs) ≡ (get_or xs m d).level = ap (λ (k : ℕ). level_of (take k xs)) one ∙ top in
-      elim (cases_lt j m) [
-        | inl lt ↦
-            let low : (get_or xs j d).level ≤ level_of (take m xs) = level_before m j d lt (omega arith) in
-            elim (placed_level clauses (take m xs) (get_or xs m d) (trail m d (omega arith))) [ inl same ↦ omega arith | inr more ↦ omega (arith, more.0) ]
-        | inr ge ↦ let is : j ≡ m = omega arith in let e : (get_or xs j d).level ≡ (get_or xs m d).level = ap (λ (k : ℕ). (get_or xs k d).level) is in omega arith
-      ]
-
-  placed_at_least : (n : ℕ) (d : Assigned) → n < length xs → level_of (take n xs) ≤ (get_or xs n d).level
-  placed_at_least n d h = elim (placed_level clauses (take n xs) (get_or xs n d) (trail n d h)) [ inl same ↦ omega arith | inr more ↦ omega (arith, more.0) ]
-
-  pub level_rises : (j n : ℕ) (d : Assigned) → j ≤ n → n < length xs → (get_or xs j d).level ≤ (get_or xs n d).level
-  level_rises j n d less h =
-      elim (cases_lt j n) [
-        | inl lt ↦ let a = level_before n j d lt (omega arith) in let b = placed_at_least n d h in omega (arith, a, b)
-        | inr ge ↦ let is : j ≡ n = omega arith in let e : (get_or xs j d).level ≡ (get_or xs n d).level = ap (λ (k : ℕ). (get_or xs k d).level) is in omega arith
-      ]
-
   -- the decision that began a literal's level
   decision_of : (u : ℕ) (d : Assigned) → u < length xs → 0 < (get_or xs u d).level →
       (p : ℕ) × (p ≤ u) × ((get_or xs p d).reason ≡ None) × ((get_or xs p d).level ≡ (get_or xs u d).level)
@@ -157,13 +93,13 @@ module _ (clauses : List (List Lit)) (xs : List Assigned) (trail : IsTrail claus
         | inl one ↦ absurd (differ (sym one))
         | inr (k, in_k, lower, is) ↦ elim (cases_lt k p) [
           | inl less ↦ subst (Contains (falses_of (take p xs))) is (in_front xs k p d less in_k)
-          | inr more ↦ let up = level_rises p k d more in_k in absurd (omega (arith, up, r.3))
+          | inr more ↦ let up = level_rises clauses xs trail p k d more in_k in absurd (omega (arith, up, r.3))
         ]
       ] in
       let unmarked : (l : Lit) → l.var ≡ (get_or xs point.place d).lit.var → Contains (falses_of (take p xs)) l → ⊥ =
       λ l v c. let f = from_front xs p l c in
       let w : (get_or xs f.0 d).lit.var ≡ l.var = ap (λ (x : Lit). x.var) (f.3 d) in
-      vars_differ f.0 point.place d d (omega (arith, f.1, r.1)) point.in_range (w ∙ v) in
+      vars_differ clauses xs trail f.0 point.place d d (omega (arith, f.1, r.1)) point.in_range (w ∙ v) in
       let absent : Contains held m → ⊥ =
       λ c. nothing.1 m (record { member = c; not_false = unmarked m refl; not_true = unmarked (negation_of m) refl; others = is_false }) in
       nothing.0 (λ k f h. is_false (get_or held k f) (Contains-get_or held k f h) (λ one. absent (subst (Contains held) one (Contains-get_or held k f h))))
@@ -269,7 +205,7 @@ module _ (clauses : List (List Lit)) (xs : List Assigned) (trail : IsTrail claus
     not_kept l same h =
         let r = was.from_later l h in
         let v : (get_or xs r.0 d).lit.var ≡ l.var = ap (λ (x : Lit). x.var) (r.3 d) in
-        vars_differ n r.0 d d (omega (arith, r.1)) r.2 (sym same ∙ sym v)
+        vars_differ clauses xs trail n r.0 d d (omega (arith, r.1)) r.2 (sym same ∙ sym v)
 
     -- the literal's reason is a hint
     pub learning_resolve : (reason : ℕ) (clause : List Lit) (more : List Bool) → Forces clauses (falses_of (take n xs)) reason (get_or xs n d).lit → Names clauses reason clause → Marking seen more clause →
@@ -330,7 +266,7 @@ module _ (clauses : List (List Lit)) (xs : List Assigned) (trail : IsTrail claus
                 above = pointed.above;
                 has = pointed.has;
                 others = pointed.others;
-                lower = λ j e h s. let up = level_rises j n e (omega arith) in' in
+                lower = λ j e h s. let up = level_rises clauses xs trail j n e (omega arith) in' in
                     let z : (get_or xs n d).level ≡ (get_or xs n e).level = ap (λ (a : Assigned). a.level) (same_at e) in
                     let high = pointed.above e in omega (arith, up, z, zero_level, high);
               })
@@ -342,7 +278,7 @@ module _ (clauses : List (List Lit)) (xs : List Assigned) (trail : IsTrail claus
               let zero_level : (get_or xs n d).level ≡ 0 = f.1 n d (omega arith) marked in (
                 f.0,
                 λ j e h s.
-                    let up = level_rises j n e (omega arith) in' in
+                    let up = level_rises clauses xs trail j n e (omega arith) in' in
                     let z : (get_or xs n d).level ≡ (get_or xs n e).level = ap (λ (a : Assigned). a.level) (same_at e) in
                     omega (arith, up, z, zero_level),
               );
@@ -437,8 +373,8 @@ module _ (clauses : List (List Lit)) (xs : List Assigned) (trail : IsTrail claus
         elim (cases_order r.0 s.0) [
           | inl same ↦ not_fixed l.positive (ap (λ (x : Lit). x.positive) (sym (r.3 d) ∙ (ap (λ (k : ℕ). negation_of (get_or xs k d).lit) same ∙ s.3 d)))
           | inr differ ↦ elim differ [
-            | inl less ↦ vars_differ r.0 s.0 d d less s.2 (v ∙ sym w)
-            | inr more ↦ vars_differ s.0 r.0 d d more r.2 (w ∙ sym v)
+            | inl less ↦ vars_differ clauses xs trail r.0 s.0 d d less s.2 (v ∙ sym w)
+            | inr more ↦ vars_differ clauses xs trail s.0 r.0 d d more r.2 (w ∙ sym v)
           ]
         ]
 

@@ -3,7 +3,7 @@ use Rattle.std.specs.Prelude.{◌≡◌, ◌+◌, ◌^◌, ◌<◌, ◌≤◌, A
 use Rattle.cnf_core.specs.Literal.{HasVarsUpTo, IsClause}
 use Rattle.refutation_check.specs.Marks.{Marks}
 use Rattle.sat_trail.specs.declared.trail.Trail.TheInside.{Inside}
-use Rattle.sat_trail.specs.Trailed.{IsTrail, IsVarUpTo, falses_of}
+use Rattle.assignment_trail.specs.Trail.{IsTrail, IsVarUpTo, falses_of}
 
 -- the marks have what is false, and each variable with no mark leaves room for one more literal
 pub record IsKept (t : Inside) : Type 0 where

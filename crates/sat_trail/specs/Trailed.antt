@@ -1,38 +1,14 @@
--- What a trail is: the literals that are true, in the order in which they became so.
-use Rattle.std.specs.Prelude.{◌≡◌, ◌++◌, Bool, not, Some, IsSome, ◌+◌, ◌-◌, ◌<◌, ◌≤◌, ℕ, List, All, Contains, Option, MatchOption, None, map, length, take, slice_get, slice_index_or}
-use Rattle.std.specs.Option.{option_map_or}
+-- What a trail holds, and what it says of the variables.
+use Rattle.std.specs.Prelude.{Bool, not, Some, ◌≤◌, ℕ, List, All, Contains, Option, None}
 use Rattle.cnf_core.specs.declared.literal.Lit.{Lit}
-use Rattle.cnf_core.specs.Literal.{negation_of, HasVarsUpTo}
-use Rattle.refutation_check.specs.Chain.{Forces}
-use Rattle.refutation_check.specs.Assumed.{IsOpen}
-use Rattle.sat_trail.specs.declared.trail.Assigned.{Assigned}
+use Rattle.cnf_core.specs.Literal.{HasVarsUpTo}
+use Rattle.assignment_trail.specs.declared.assigned.Assigned.{Assigned}
 
--- what a trail holds: clauses over the variables from 1 to vars, and the literals that are true, the oldest first
+-- clauses over the variables from 1 to vars, and the literals that are true, the oldest first
 pub record Trailed : Type 0 where
   pub vars : ℕ
   pub clauses : List (List Lit)
   pub assigned : List Assigned
-
--- the literals that are false
-abbrev pub falses_of : List Assigned → List Lit
-falses_of assigned = map (λ a. negation_of a.lit) assigned
-
--- the level of the newest literal, or 0
-abbrev pub level_of : List Assigned → ℕ
-level_of assigned = option_map_or (λ a. a.level) (slice_get assigned (length assigned - 1)) 0
-
--- a decision is open and begins the next level; another literal is forced by its reason, and stays on the level
-abbrev pub IsPlaced : List (List Lit) → List Assigned → Assigned → Type 0
-IsPlaced clauses before a =
-    MatchOption a.reason (IsOpen (falses_of before) a.lit × (a.level ≡ level_of before + 1)) (λ n. Forces clauses (falses_of before) n a.lit × (a.level ≡ level_of before))
-
--- each literal has its place after the older ones
-abbrev pub IsTrail : List (List Lit) → List Assigned → Type 0
-IsTrail clauses assigned = (i : ℕ) (d : Assigned) → i < length assigned → IsPlaced clauses (take i assigned) (slice_index_or assigned i d)
-
--- the variable is from 1 to this one
-abbrev pub IsVarUpTo : ℕ → Assigned → Type 0
-IsVarUpTo vars a = (1 ≤ a.lit.var) × (a.lit.var ≤ vars)
 
 -- the lowest number that is not below the first one, and below no variable of the clauses
 pub record IsVarLimit (first : ℕ) (clauses : List (List Lit)) (vars : ℕ) : Type 0 where
@@ -44,17 +20,3 @@ pub record IsVarLimit (first : ℕ) (clauses : List (List Lit)) (vars : ℕ) : T
 abbrev pub IsValue : List Lit → ℕ → Option Bool → Type 0
 IsValue falses var None = (positive : Bool) → ¬ Contains falses (record { var = var; positive = positive })
 IsValue falses var (Some value) = Contains falses (record { var = var; positive = not value })
-
--- more literals are true, each of them forced
-pub record ForcesMore (old new : List Assigned) : Type 0 where
-  pub more : List Assigned
-  pub added : new ≡ old ++ more
-  pub forced : All (λ a. IsSome a.reason) more
-
--- the oldest literals stay, up to this level, and those above it are undone
-pub record IsBackTo (level : ℕ) (old new : List Assigned) : Type 0 where
-  pub count : ℕ
-  pub within : count ≤ length old
-  pub stays : new ≡ take count old
-  pub low : level_of new ≤ level
-  pub undone : (j : ℕ) (d : Assigned) → count ≤ j → j < length old → level < (slice_index_or old j d).level

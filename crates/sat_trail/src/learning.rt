@@ -3,12 +3,13 @@ ghost use Rattle.cnf_core.specs.Literal.{HasVarsUpTo};
 ghost use Rattle.refutation_check.specs.Chain.{Refutes, IsChain, IsNovel};
 ghost use Rattle.refutation_check.specs.Marks.{IsWithin};
 ghost use Rattle.refutation_check.specs.SearchLog.{IsVarOf};
-ghost use Rattle.sat_trail.specs.Trailed.{falses_of};
+ghost use Rattle.assignment_trail.specs.Trail.{falses_of};
 ghost use Rattle.sat_trail.specs.Closed.{IsClosedBelow};
 ghost use Rattle.sat_trail.specs.Learnt.{IsAbove, IsAsserting, IsFlat};
 ghost use Rattle.sat_trail.specs.Learning.{Learning, Marking, IsResolved, HasAnother, HasNoOther};
 
-use super::trail::{Assigned, Trail};
+use super::trail::Trail;
+use assignment_trail::Assigned;
 use cnf_core::{Clause, Lit, NoMemory};
 use refutation_check::{Hints, Step};
 use std::alloc::Global;

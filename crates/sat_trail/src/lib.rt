@@ -6,5 +6,6 @@ mod learning;
 mod tests;
 mod trail;
 
+pub use assignment_trail::Assigned;
 pub use learning::learn;
-pub use trail::{Assigned, Propagated, Trail};
+pub use trail::{Propagated, Trail};

@@ -1,7 +1,7 @@
 ghost use Rattle.std.specs.Prelude.{◌≡◌, ◌≤◌, IfOk, length};
 ghost use Rattle.cnf_core.specs.Literal.{HasVarsUpTo};
 ghost use Rattle.refutation_check.specs.Chain.{Refutes};
-ghost use Rattle.sat_trail.specs.Trailed.{falses_of};
+ghost use Rattle.assignment_trail.specs.Trail.{falses_of};
 
 use super::*;
 use cnf_core::{Clause, Cnf, Lit};

@@ -3,22 +3,16 @@ ghost use Rattle.cnf_core.specs.Literal.{HasVarsUpTo, IsClause};
 ghost use Rattle.refutation_check.specs.Chain.{Names, IsChain, members_of};
 ghost use Rattle.refutation_check.specs.Marks.{IsWithin, IsFalseIn};
 ghost use Rattle.refutation_check.specs.Assumed.{IsOpen};
-ghost use Rattle.sat_trail.specs.Trailed.{IsTrail, IsPlaced, IsVarUpTo, IsVarLimit, IsValue, IsBackTo, ForcesMore, falses_of, level_of};
+ghost use Rattle.assignment_trail.specs.Trail.{IsTrail, IsPlaced, IsVarUpTo, IsBackTo, ForcesMore, falses_of, level_of};
+ghost use Rattle.sat_trail.specs.Trailed.{IsVarLimit, IsValue};
 ghost use Rattle.sat_trail.specs.Closed.{IsPropagated};
 ghost use Rattle.sat_trail.specs.Found.{IsFound, IsForcedUpTo};
 
+use assignment_trail::Assigned;
 use cnf_core::{Clause, Cnf, Lit, NoMemory};
 use refutation_check::{Log, Sight, Step, look};
 use std::alloc::Global;
 use std::marker::Model;
-
-/// A literal that is true, its level, and the number of the clause that forced it; a decision has none.
-#[derive(Clone, Copy, Debug, PartialEq, Eq)]
-pub struct Assigned {
-    pub lit: Lit,
-    pub level: u32,
-    pub reason: Option<u32>,
-}
 
 /// What propagation came to.
 #[derive(Clone, Copy, Debug, PartialEq, Eq)]

@@ -1,3 +1,9 @@
-pub mod Separated
-pub mod Tables
+pub mod Cuts
+pub mod ProofLines
 pub mod ReplyLemmas
+pub mod SameOutputs
+pub mod SameReplies
+pub mod Separated
+pub mod Shown
+pub mod Tables
+pub mod Told

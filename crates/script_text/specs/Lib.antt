@@ -1,2 +1,5 @@
+pub mod Faults
 pub mod Lines
+pub mod Printable
+pub mod Printed
 pub mod Replies

@@ -1,6 +1,7 @@
 // The lines of replies, and the text of a session.
-ghost use Rattle.std.specs.Prelude.{◌≡◌, ◌++◌, ℕ, List, codes, decimal, All, IfOk};
+ghost use Rattle.std.specs.Prelude.{◌≡◌, ◌++◌, ℕ, List, map, codes, decimal, All, IfOk};
 ghost use Rattle.rel_formula.specs.Instance.{AreCells};
+ghost use Rattle.script_text.specs.Printed.{printed_next};
 ghost use Rattle.script_text.specs.Replies.{FitsProblem, IsScenarioText, IsReplyText, IsSessionText};
 
 use crate::relation_lines::push_number;
@@ -16,8 +17,8 @@ pub fn text_of_replies(
     problem: &Problem,
     replies: &[Reply],
 ) -> Result<Vec<u8>, AllocError>
-    requires { All (FitsProblem problem.now) replies.now }
-    ensures { IfOk result (λ text. IsSessionText problem.now name.now replies.now text.items) }
+    requires { All (λ r. FitsProblem problem.now (printed_next r)) replies.now }
+    ensures { IfOk result (λ text. IsSessionText problem.now name.now (map printed_next replies.now) text.items) }
 {
     let mut out = Vec::new(alloc);
     push_name(&mut out, name)?;
@@ -44,8 +45,8 @@ fn push_reply(
     problem: &Problem,
     reply: &Reply,
 ) -> Result<(), AllocError>
-    requires { FitsProblem problem.now reply.now }
-    ensures { IfOk result (λ _. (text : List ℕ) × IsReplyText problem.now reply.now text × (out.new.items ≡ out.old.items ++ text)) }
+    requires { FitsProblem problem.now (printed_next reply.now) }
+    ensures { IfOk result (λ _. (text : List ℕ) × IsReplyText problem.now (printed_next reply.now) text × (out.new.items ≡ out.old.items ++ text)) }
 {
     match reply {
         Reply::Shown { number, scenario } => Ok(push_shown(

@@ -1,7 +1,8 @@
 use Rattle.std.proofs.Common.{◌++◌, take, drop, take-append-drop, sym, subst}
 use Rattle.refutation_check.specs.Chain.{IsAccepted}
 use Rattle.journal_rules.specs.Journal.{pool_of}
-use Rattle.journal_rules.proofs.Pools.{front_accepted, pool_right}
+use Rattle.clause_pool.proofs.Accepting.{front_accepted}
+use Rattle.journal_rules.proofs.Pools.{pool_right}
 use Rattle.journal_rules.proofs.Imports.{as_long, stays}
 use Rattle.journal_rules.proofs.laws.an_import_stays.Goals as goal
 

@@ -1,6 +1,6 @@
 use Rattle.std.proofs.Common.{◌+◌, None, false, ◌∙◌, refl}
 use Rattle.cnf_core.specs.declared.literal.Lit.{Lit}
-use Rattle.sat_trail.specs.Trailed.{level_of}
+use Rattle.assignment_trail.specs.Trail.{level_of}
 use Rattle.sat_core.proofs.Descents.{closed_below_none, stuck_after, decided_after}
 use Rattle.sat_core.proofs.descent.descend.Goals as goal
 

@@ -1,6 +1,6 @@
 use Rattle.std.proofs.Common.{◌≡◌, ◌+◌, ◌-◌, [], ℕ, List, length}
 use Rattle.refutation_check.specs.Chain.{IsChain}
-use Rattle.sat_trail.specs.Trailed.{level_of}
+use Rattle.assignment_trail.specs.Trail.{level_of}
 use Rattle.sat_trail.specs.Closed.{IsClosedBelow}
 use Rattle.sat_core.proofs.descent.descend.Given as goal
 

@@ -1,4 +1,4 @@
-use Rattle.sat_trail.specs.Trailed.{falses_of}
+use Rattle.assignment_trail.specs.Trail.{falses_of}
 use Rattle.sat_core.specs.Search.{HasAllValues}
 use Rattle.sat_core.proofs.descent.lowest_open.Given as goal
 

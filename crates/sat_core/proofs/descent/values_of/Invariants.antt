@@ -1,5 +1,5 @@
 use Rattle.std.proofs.Common.{◌≡◌, length}
-use Rattle.sat_trail.specs.Trailed.{falses_of}
+use Rattle.assignment_trail.specs.Trail.{falses_of}
 use Rattle.sat_core.specs.Search.{AreValues}
 use Rattle.sat_core.proofs.descent.values_of.Given as goal
 

@@ -1,5 +1,5 @@
 use Rattle.std.proofs.Common.{◌≡◌, ◌<◌, ℕ, get_or}
-use Rattle.sat_trail.specs.declared.trail.Assigned.{Assigned}
+use Rattle.assignment_trail.specs.declared.assigned.Assigned.{Assigned}
 use Rattle.sat_trail.specs.Learning.{IsMarked}
 use Rattle.sat_trail.proofs.learning.is_another.Given as goal
 

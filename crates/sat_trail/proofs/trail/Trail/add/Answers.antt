@@ -1,7 +1,7 @@
 use Rattle.std.proofs.Common.{◌≡◌, ◌+◌, length, arith, ap, ◌∙◌, length-append}
 use Rattle.std.proofs.lemmas.List.Elements.{All-push}
 use Rattle.cnf_core.specs.Literal.{HasVarsUpTo, IsClause}
-use Rattle.sat_trail.proofs.Trails.{IsTrail-clause}
+use Rattle.assignment_trail.proofs.Trails.{IsTrail-clause}
 use Rattle.sat_trail.proofs.trail.Trail.add.Goals as goal
 
 pub invariant_of-self-2 : goal.invariant_of-self-2

@@ -1,5 +1,5 @@
 use Rattle.std.proofs.Common.{◌≡◌, ◌≤◌, ◌<◌, ℕ, length, take, get_or}
-use Rattle.sat_trail.specs.declared.trail.Assigned.{Assigned}
+use Rattle.assignment_trail.specs.declared.assigned.Assigned.{Assigned}
 use Rattle.sat_trail.proofs.trail.Trail.back_to.Given as goal
 
 abbrev pub invariant-undoing : goal.invariant-undoing

@@ -1,5 +1,5 @@
 use Rattle.std.proofs.Common.{Some, refl, ◌∙◌}
-use Rattle.sat_trail.proofs.Trails.{forces_more_push, level_of-push}
+use Rattle.assignment_trail.proofs.Trails.{forces_more_push, level_of-push}
 use Rattle.sat_trail.proofs.trail.Trail.propagate.Goals as goal
 
 pub rounds-preserved : goal.rounds-preserved

@@ -1,5 +1,5 @@
 use Rattle.std.proofs.Common.{◌≡◌, ◌+◌, ◌-◌, length}
-use Rattle.sat_trail.specs.Trailed.{ForcesMore, level_of}
+use Rattle.assignment_trail.specs.Trail.{ForcesMore, level_of}
 use Rattle.sat_trail.proofs.trail.Trail.propagate.Given as goal
 
 abbrev pub invariant-rounds : goal.invariant-rounds

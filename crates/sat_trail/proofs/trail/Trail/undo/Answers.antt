@@ -1,7 +1,9 @@
 use Rattle.std.proofs.Common.{◌≡◌, ◌<◌, ◌+◌, ◌++◌, ◌∷◌, [], length, arith, ap, ◌∙◌, length-append, length-set}
 use Rattle.std.proofs.lemmas.List.Elements.{All-contains, Contains-push}
-use Rattle.sat_trail.specs.Trailed.{IsVarUpTo, falses_of}
-use Rattle.sat_trail.proofs.Trails.{IsTrail-front, last_open, Marks-unset, count_unmarked, falses_of-push, All-front}
+use Rattle.assignment_trail.specs.Trail.{IsVarUpTo, falses_of}
+use Rattle.assignment_trail.proofs.Marked.{Marks-unset, count_unmarked}
+use Rattle.assignment_trail.proofs.Trails.{falses_of-push, All-front}
+use Rattle.sat_trail.proofs.Trails.{IsTrail-front, last_open}
 use Rattle.sat_trail.proofs.trail.Trail.undo.Goals as goal
 
 pub invariant_of-self : goal.invariant_of-self

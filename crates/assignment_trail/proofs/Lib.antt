@@ -1,0 +1,4 @@
+pub mod Holding
+pub mod Looks
+pub mod Marked
+pub mod Trails

@@ -1,0 +1,4 @@
+pub mod Trail
+pub mod AssignmentState
+pub mod Cutting
+pub mod Held

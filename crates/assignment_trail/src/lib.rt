@@ -1,0 +1,10 @@
+// The literals that are true, in the order in which they became so, with their levels and reasons.
+#![tactic(auto)]
+
+mod assigned;
+mod assignment;
+#[cfg(test)]
+mod tests;
+
+pub use assigned::Assigned;
+pub use assignment::Assignment;

@@ -1,4 +1,0 @@
-pub mod Words
-pub mod Nexts
-pub mod Split
-pub mod Sizes

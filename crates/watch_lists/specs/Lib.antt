@@ -1,0 +1,4 @@
+pub mod Linked
+pub mod WatchState
+pub mod Kept
+pub mod Steps

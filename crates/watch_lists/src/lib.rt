@@ -1,0 +1,8 @@
+// For each number of a literal, the watched places that have it, linked through the places themselves.
+#![tactic(auto)]
+
+mod lists;
+#[cfg(test)]
+mod tests;
+
+pub use lists::WatchLists;

@@ -1,0 +1,7 @@
+pub mod Closing
+pub mod Cuts
+pub mod Keeping
+pub mod Loops
+pub mod Marking
+pub mod Slots
+pub mod Steps

@@ -1,0 +1,20 @@
+use Rattle.std.proofs.Common.{◌/◌, ap, ◌∙◌, subst}
+use Rattle.std.specs.List.{Contains}
+use Rattle.cnf_core.specs.declared.literal.Lit.{Lit}
+use Rattle.clause_store.specs.Codes.{literal_of}
+use Rattle.assignment_trail.specs.Trail.{falses_of, level_of}
+use Rattle.assignment_trail.proofs.Trails.{level_of-push}
+use Rattle.assignment_trail.specs.AssignmentState.{AssignmentState}
+use Rattle.watched_literals.proofs.Slots.{at_slot}
+use Rattle.watched_literals.proofs.Steps.{refuted}
+use Rattle.watched_literals.proofs.walk.look_at.Goals as goal
+
+pub returns-else-replace-clause-stepped : goal.returns-else-replace-clause-stepped
+returns-else-replace-clause-stepped c =
+    let s = at_slot _ _ _ _ _ _ _ _ c.requires.at_slot c.len-count.ensures.listed in
+    let seen = rw c.in-Some-false.field-0-test at c.in-Some-false.ensures in
+    let is_false = subst (λ (k : Lit). Contains (falses_of c.args.now.now.assigned) k) (ap literal_of c.other_of-other.ensures.code) seen.0 in
+    (c.replace.ensures.walking, refuted c.args.store.now (falses_of c.args.now.now.assigned) (c.args.slot / 2) _ s.2 (c.replace.ensures.others c.if-replace.false) is_false)
+
+pub returns-else-replace-2-clause-level : goal.returns-else-replace-2-clause-level
+returns-else-replace-2-clause-level c = ap (λ (n : AssignmentState). level_of n.assigned) c.force.ensures.more ∙ (level_of-push c.args.now.now.assigned _ ∙ c.requires.level)

@@ -1,0 +1,5 @@
+pub mod Rule
+pub mod Walk
+pub mod Closed
+pub mod PendingState
+pub mod Pended
