@@ -242,6 +242,53 @@ fn tells_the_first_fault_of_a_script(rt: HostRuntime) -> Result<(), Fail> {
     )
 }
 
+// So many lines behind these: a beginning, the line's number from 0 where it is wanted, and an end.
+fn grown(
+    alloc: Global,
+    front: &str,
+    line: (&str, bool, &str),
+    count: u32,
+) -> Result<String, AllocError> {
+    let mut script = String::from_str(alloc, front)?;
+    for number in 0..count {
+        script.push_str(line.0)?;
+        if line.1 {
+            let text = format!(in alloc; "{number}")?;
+            script.push_str(&text)?;
+        }
+        script.push_str(line.2)?;
+    }
+    Ok(script)
+}
+
+// Each script is just above a limit, or at it with commands that are not served.
+#[test]
+fn keeps_scripts_to_their_limits(rt: HostRuntime) -> Result<(), Fail> {
+    let model = "== model m\nsig A {} run {} for 1\n";
+    let session = "== model m\nsig A {} run {} for 1\n== session a m 1\n";
+    let rows = [
+        ("", ("== model m", true, "\n"), 17, "line 17 too_many"),
+        (
+            model,
+            ("== session s", true, " m 1\n"),
+            65,
+            "line 67 too_many",
+        ),
+        (session, ("next\n", false, ""), 4097, "line 4100 too_many"),
+        (session, ("back\n", false, ""), 4096, "not_yet"),
+        (session, ("all 1000\n", false, ""), 20, "not_yet"),
+        (session, ("all 1000\n", false, ""), 21, "line 24 too_many"),
+    ];
+    for (front, line, count, fault) in rows {
+        let script = grown(rt.alloc(), front, line, count)?;
+        let (status, text) = run(rt.alloc(), &script)?;
+        let expected = format!(in rt.alloc(); "fault script {fault}\n")?;
+        assert_eq!(rt; text.as_str(), expected.as_str());
+        assert_eq!(rt; status, 3);
+    }
+    Ok(())
+}
+
 #[test]
 fn tells_where_a_cut_script_ends(rt: HostRuntime) -> Result<(), Fail> {
     answers(
