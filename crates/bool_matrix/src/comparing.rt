@@ -12,7 +12,7 @@ use tuple_core::Tuple;
 
 impl Matrix {
     /// A node that is true where each tuple of this matrix is in the other. The arities are equal. It makes at
-    /// most 16 nodes for each tuple of this matrix.
+    /// most 3 nodes for each tuple of this matrix.
     pub fn subset(&self, circuit: &mut Circuit, other: &Matrix) -> Result<Node, AllocError>
         requires arity { self.now.arity ≡ other.now.arity }
         requires of { IsOf circuit.old self.now }
@@ -20,7 +20,7 @@ impl Matrix {
         requires room { size circuit.old + 16 * length self.now.entries < MOST_NODES }
         ensures extends { Extends circuit.old circuit.new }
         ensures says { IfOk result (λ n. Says circuit.new n (λ inputs. IsWithin (TrueIn circuit.old self.now inputs) (TrueIn circuit.old other.now inputs))) }
-        ensures size { OnOk result (size circuit.new ≤ size circuit.old + 16 * length self.now.entries) }
+        ensures size { OnOk result (size circuit.new ≤ size circuit.old + 3 * length self.now.entries) }
         ensures err { OnErr result (circuit.new ≡ circuit.old) }
     {
         let len = circuit.len();
@@ -33,7 +33,7 @@ impl Matrix {
         }
     }
 
-    /// A node that is true where the two matrices have the same tuples. The arities are equal. It makes at most 16
+    /// A node that is true where the two matrices have the same tuples. The arities are equal. It makes at most 3
     /// nodes for each tuple of both.
     pub fn equal(&self, circuit: &mut Circuit, other: &Matrix) -> Result<Node, AllocError>
         requires arity { self.now.arity ≡ other.now.arity }
@@ -42,7 +42,7 @@ impl Matrix {
         requires room { size circuit.old + 16 * (length self.now.entries + length other.now.entries) < MOST_NODES }
         ensures extends { Extends circuit.old circuit.new }
         ensures says { IfOk result (λ n. Says circuit.new n (λ inputs. IsWithin (TrueIn circuit.old self.now inputs) (TrueIn circuit.old other.now inputs) × IsWithin (TrueIn circuit.old other.now inputs) (TrueIn circuit.old self.now inputs))) }
-        ensures size { OnOk result (size circuit.new ≤ size circuit.old + 16 * (length self.now.entries + length other.now.entries)) }
+        ensures size { OnOk result (size circuit.new ≤ size circuit.old + 3 * (length self.now.entries + length other.now.entries)) }
         ensures err { OnErr result (circuit.new ≡ circuit.old) }
     {
         let len = circuit.len();
@@ -63,7 +63,7 @@ impl Matrix {
         requires room { size circuit.old + 16 * length self.now.entries < MOST_NODES }
         ensures extends { Extends circuit.old circuit.new }
         ensures says { IfOk result (λ n. Says circuit.new n (λ inputs. IsWithin (TrueIn circuit.old self.now inputs) (TrueIn circuit.old other.now inputs))) }
-        ensures size { OnOk result (size circuit.new ≤ size circuit.old + 16 * length self.now.entries) }
+        ensures size { OnOk result (size circuit.new ≤ size circuit.old + 3 * length self.now.entries) }
     {
         let start = circuit.constant(true)?;
         let all = self.all_within(circuit, start, other)?;
@@ -78,7 +78,7 @@ impl Matrix {
         requires room { size circuit.old + 16 * (length self.now.entries + length other.now.entries) < MOST_NODES }
         ensures extends { Extends circuit.old circuit.new }
         ensures says { IfOk result (λ n. Says circuit.new n (λ inputs. IsWithin (TrueIn circuit.old self.now inputs) (TrueIn circuit.old other.now inputs) × IsWithin (TrueIn circuit.old other.now inputs) (TrueIn circuit.old self.now inputs))) }
-        ensures size { OnOk result (size circuit.new ≤ size circuit.old + 16 * (length self.now.entries + length other.now.entries)) }
+        ensures size { OnOk result (size circuit.new ≤ size circuit.old + 3 * (length self.now.entries + length other.now.entries)) }
     {
         let start = circuit.constant(true)?;
         let there = self.all_within(circuit, start, other)?;

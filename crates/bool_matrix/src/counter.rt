@@ -11,14 +11,14 @@ use bool_circuit::{Circuit, MOST_NODES, Node};
 use std::alloc::{AllocError, Global};
 
 impl Matrix {
-    /// A node that is true where this matrix has at least `n` tuples. It makes at most 16 nodes for each tuple, times
-    /// `n + 1`.
+    /// A node that is true where this matrix has at least `n` tuples. It makes at most 2 nodes for each tuple, times
+    /// `n`.
     pub fn at_least(&self, alloc: Global, circuit: &mut Circuit, n: u32) -> Result<Node, AllocError>
         requires of { IsOf circuit.old self.now }
         requires room { size circuit.old + 16 * (length self.now.entries * (n + 1)) < MOST_NODES }
         ensures extends { Extends circuit.old circuit.new }
         ensures says { IfOk result (λ k. Says circuit.new k (λ inputs. HasAtLeast n (TrueIn circuit.old self.now inputs))) }
-        ensures size { OnOk result (size circuit.new ≤ size circuit.old + 16 * (length self.now.entries * (n + 1))) }
+        ensures size { OnOk result (size circuit.new ≤ size circuit.old + 2 * (length self.now.entries * n)) }
         ensures err { OnErr result (circuit.new ≡ circuit.old) }
     {
         let len = circuit.len();
@@ -37,7 +37,7 @@ impl Matrix {
         requires room { size circuit.old + 16 * (length self.now.entries * (n + 1)) < MOST_NODES }
         ensures extends { Extends circuit.old circuit.new }
         ensures says { IfOk result (λ k. Says circuit.new k (λ inputs. HasAtLeast n (TrueIn circuit.old self.now inputs))) }
-        ensures size { OnOk result (size circuit.new ≤ size circuit.old + 16 * (length self.now.entries * (n + 1))) }
+        ensures size { OnOk result (size circuit.new ≤ size circuit.old + 2 * (length self.now.entries * n)) }
     {
         let entries = self.entries();
         if n == 0 {

@@ -11,6 +11,8 @@ use Rattle.alloy_syntax.specs.Tree.{Tree, Trees, Links, Steps, Declarations, Bin
 use Rattle.named_model.specs.declared.fault.NameFault.{NameFault}
 use Rattle.named_model.specs.declared.fault.NameFault.TheVariants as fault
 use Rattle.named_model.specs.declared.phrase.Referent.TheVariants as referent
+use Rattle.named_model.specs.declared.standing.Standing.{Standing}
+use Rattle.named_model.specs.declared.standing.Standing.TheVariants as standing
 use Rattle.named_model.specs.Phrase.{PhraseTree, refers, called, numbered, constant, bracketed, block, prefixed, chain, path, compared, implies, implies_else, quantified, bound_by_let, PhraseTrees, no_phrases, more_phrases, LinkTrees, no_links, more_links, StepTrees, no_steps, join_first, brackets_first, DomainTrees, no_domains, more_domains}
 
 -- ---- what a name stands for
@@ -28,15 +30,6 @@ pub record Globals : Type 0 where
   pub callees : List Header
   pub assertions : List (List ℕ)
 
-pub data Standing : Type 0 where
-  local : ℕ → Standing
-  signature : ℕ → Standing
-  -- a field, or several fields of one name, the first of which has this number
-  field : ℕ → Standing
-  shared : ℕ → Standing
-  callee : ℕ → Standing
-  nothing : Standing
-
 -- the number of the first of these names that is this text
 abbrev pub number_of : List (List ℕ) → List ℕ → Option ℕ
 number_of names text = position (λ name. bytes_eq name text) names
@@ -53,15 +46,15 @@ or_else None f other = other
 
 -- one field, or several
 abbrev pub field_standing : List (List ℕ) → List ℕ → ℕ → Standing
-field_standing fields text n = if is_among (drop (n + 1) fields) text then shared n else field n
+field_standing fields text n = if is_among (drop (n + 1) fields) text then standing.Shared n else standing.Field n
 
 -- the innermost of the local names hides the others, and these hide the global ones
 abbrev pub standing_of : Globals → List (List ℕ) → List ℕ → Standing
 standing_of g locals text =
-    or_else (number_of locals text) local
-    (or_else (number_of g.signatures text) signature
+    or_else (number_of locals text) standing.Local
+    (or_else (number_of g.signatures text) standing.Signature
     (or_else (number_of g.fields text) (field_standing g.fields text)
-    (or_else (number_of (callee_names g) text) callee nothing)))
+    (or_else (number_of (callee_names g) text) standing.Callee standing.Nothing)))
 
 -- ---- local names, the innermost first
 
@@ -99,12 +92,12 @@ arguments_of h n = if takes h n then n else 0
 
 -- a name that stands for nothing is a fault, and its part is any
 abbrev pub named_as : Place → Standing → PhraseTree
-named_as p (local n) = refers p (referent.Local n)
-named_as p (signature n) = refers p (referent.Signature n)
-named_as p (field n) = refers p (referent.Field n)
-named_as p (shared n) = refers p (referent.Shared n)
-named_as p (callee n) = called p n no_phrases
-named_as p nothing = refers p (referent.Local 0)
+named_as p (standing.Local n) = refers p (referent.Local n)
+named_as p (standing.Signature n) = refers p (referent.Signature n)
+named_as p (standing.Field n) = refers p (referent.Field n)
+named_as p (standing.Shared n) = refers p (referent.Shared n)
+named_as p (standing.Callee n) = called p n no_phrases
+named_as p standing.Nothing = refers p (referent.Local 0)
 
 abbrev pub phrases_count : PhraseTrees → ℕ
 phrases_count no_phrases = 0
@@ -177,9 +170,9 @@ bracketed_in (tree.brackets_first p ts steps) = trees_count ts
 bracketed_in steps = 0
 
 abbrev pub name_faults : Globals → Place → ℕ → Standing → List NameFault
-name_faults g p n nothing = fault.Unknown p ∷ []
-name_faults g p n (callee k) = if arguments_of (header_at g k) n == (header_at g k).parameters then [] else fault.Arguments p ∷ []
-name_faults g p n standing = []
+name_faults g p n standing.Nothing = fault.Unknown p ∷ []
+name_faults g p n (standing.Callee k) = if arguments_of (header_at g k) n == (header_at g k).parameters then [] else fault.Arguments p ∷ []
+name_faults g p n other = []
 
 -- a word before a domain with which a variable need not be a single atom
 abbrev pub is_higher : Mark → Bool

@@ -5,6 +5,8 @@ pub mod fault;
 pub mod laws;
 pub mod named;
 pub mod phrase;
+mod standing;
 
 pub use fault::NameFault;
 pub use named::Named;
+pub use standing::Standing;

@@ -5,6 +5,8 @@ pub mod Open
 pub mod Same
 pub mod WithCell
 pub mod Images
+pub mod SwapLaws
+pub mod Swapped
 pub mod Tabled
 pub mod Valued
 pub mod Parts
@@ -15,4 +17,5 @@ pub mod Told
 pub mod Moved
 pub mod Renamed
 pub mod Single
+pub mod Unary
 pub mod Copies

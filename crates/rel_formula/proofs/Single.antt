@@ -13,7 +13,7 @@ use Rattle.rel_formula.specs.Bounds.{Bounded, IsRelation, IsProblem, relation_at
 use Rattle.rel_formula.specs.Shape.{IsProper}
 use Rattle.rel_formula.proofs.Open.{cons_cases}
 
-filter_shorter : {X : Type 0} (p : X → Bool) (xs : List X) → length (filter p xs) ≤ length xs
+pub filter_shorter : {X : Type 0} (p : X → Bool) (xs : List X) → length (filter p xs) ≤ length xs
 filter_shorter p [] = omega arith
 filter_shorter p (x ∷ xs) =
     let rest = filter_shorter p xs in
@@ -21,10 +21,10 @@ filter_shorter p (x ∷ xs) =
     λ b. elim b as (λ b. length (cond b (x ∷ filter p xs) (filter p xs)) ≤ length (x ∷ xs)) [ true ↦ omega arith | false ↦ omega arith ] in
     go (p x)
 
-one_pair : {X : Type 0} (R : X → X → Type 0) (x : X) → AllPairs R (x ∷ [])
+pub one_pair : {X : Type 0} (R : X → X → Type 0) (x : X) → AllPairs R (x ∷ [])
 one_pair R x i j d l h = absurd (omega arith)
 
-only_one : {X : Type 0} (x y : X) → Contains (x ∷ []) y → x ≡ y
+pub only_one : {X : Type 0} (x y : X) → Contains (x ∷ []) y → x ≡ y
 only_one x y c = elim (cons_cases x [] y c) [ inl e ↦ e | inr d ↦ absurd (let l = d.1 in omega arith) ]
 
 pub single_problem : (relation : Relation) (f : FormulaTree) → IsRows relation.lower → IsRows relation.upper → relation.lower.arity ≡ 1 → relation.upper.arity ≡ 1 →

@@ -1,7 +1,7 @@
 -- Renamings of atoms, and what they do to scenarios.
-use Rattle.std.specs.Prelude.{◌≡◌, ◌↔◌, ℕ, List, map, Contains}
+use Rattle.std.specs.Prelude.{◌≡◌, ◌↔◌, ℕ, List, map, slice_get, Some, Contains}
 use Rattle.tuple_core.specs.declared.atom.Atom.{Atom}
-use Rattle.rel_formula.specs.Bounds.{Bounded, IsAtomOf, relation_at}
+use Rattle.rel_formula.specs.Bounds.{Bounded, IsAtomOf, relation_at, cell_of, cells_of}
 use Rattle.rel_formula.specs.Instance.{HasCell, StandsIn}
 
 -- f is a permutation of the problem's atoms that keeps each one's signature, and g is the permutation back
@@ -20,6 +20,10 @@ pub record KeepsBounds (p : Bounded) (f : Atom → Atom) : Type 0 where
 -- every renaming leaves the problem's bounds as they are
 abbrev pub IsSymmetric : Bounded → Type 0
 IsSymmetric p = (f g : Atom → Atom) → IsRenaming p f g → KeepsBounds p f
+
+-- the second number is that of the first one's cell renamed
+abbrev pub IsCellImage : Bounded → (Atom → Atom) → ℕ → ℕ → Type 0
+IsCellImage p f n m = (r : ℕ) × (row : List Atom) × (slice_get (cells_of p) n ≡ Some (cell_of r row)) × (slice_get (cells_of p) m ≡ Some (cell_of r (map f row)))
 
 -- the second scenario is the first one renamed: it has a cell's image exactly where the first one has the cell
 abbrev pub IsImage : Bounded → (Atom → Atom) → List ℕ → List ℕ → Type 0

@@ -1,9 +1,11 @@
 // Problems: relations between bounds, their cells in order, and a formula about them.
 ghost use Rattle.std.specs.Prelude.{◌≡◌, ◌≢◌, ◌↔◌, ◌<◌, ◌≤◌, [], ◌∷◌, ◌++◌, ℕ, List, map, length, slice_get, Some, All, AllPairs, Contains, IfOk, IsTrue};
+ghost use Rattle.tuple_core.specs.Swap.{swap_atoms};
 ghost use Rattle.tuple_core.specs.Gains.{SomeGives};
 ghost use Rattle.tuple_core.specs.Rows.{IsSetOf, SetGains};
 ghost use Rattle.rel_formula.specs.View.{formula_tree};
 ghost use Rattle.rel_formula.specs.Bounds.{IsProblem, InAtoms, cells_of, cells_from, open_tuples, cell_of};
+ghost use Rattle.rel_formula.specs.Renaming.{IsCellImage};
 
 use crate::formula::Formula;
 use std::alloc::{AllocError, Global};
@@ -150,6 +152,19 @@ impl Problem {
             Ok(place) => Some(place as u32),
             Err(_) => None,
         }
+    }
+
+    /// The number of the cell that the swap of two atoms makes of this one, and `None` where the problem has no such cell.
+    pub fn swapped(&self, number: u32, first: Atom, second: Atom) -> Option<u32>
+        requires { number < length (cells_of self.now) }
+        ensures { (n : ℕ) → (result ≡ Some n) ↔ IsCellImage self.now (swap_atoms first second) number n }
+    {
+        let cell = self.cell(number);
+        let image = Cell {
+            relation: cell.relation,
+            tuple: cell.tuple.swapped(first, second),
+        };
+        self.number_of(&image)
     }
 
     /// An equal problem.

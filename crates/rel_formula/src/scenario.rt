@@ -1,9 +1,14 @@
 // Scenarios: sets of cells, by their numbers.
 ghost use Rattle.std.specs.Prelude.{◌≡◌, ◌↔◌, ◌<◌, [], length, AllPairs, Contains, IfOk, OnErr, IsTrue};
-ghost use Rattle.rel_formula.specs.Instance.{with_cell};
+ghost use Rattle.tuple_core.specs.Swap.{swap_atoms};
+ghost use Rattle.rel_formula.specs.Bounds.{cells_of};
+ghost use Rattle.rel_formula.specs.Instance.{AreCells, IsScenario, with_cell};
+ghost use Rattle.rel_formula.specs.Renaming.{KeepsBounds, IsCellImage, IsImage};
 
+use crate::problem::Problem;
 use std::alloc::{AllocError, Global};
 use std::marker::Model;
+use tuple_core::Atom;
 
 /// A set of cells, seen as their numbers in rising order. Two scenarios with the same cells are the same.
 #[derive(Drop)]
@@ -39,6 +44,16 @@ impl Scenario {
         ensures err { OnErr result (self.new ≡ self.old) }
     {
         insert_number(&mut self.numbers, number)
+    }
+
+    /// Swaps two atoms in all cells, which are cells of the problem. The swap leaves the problem's bounds as they are.
+    pub fn swap_atoms(&mut self, problem: &Problem, first: Atom, second: Atom)
+        requires cells { AreCells problem.now self.old }
+        requires kept { KeepsBounds problem.now (swap_atoms first second) }
+        ensures scenario { IsScenario problem.now self.new }
+        ensures image { IsImage problem.now (swap_atoms first second) self.old self.new }
+    {
+        swap_in_numbers(problem, self.numbers.as_mut_slice(), first, second);
     }
 
     /// Whether the cell of this number is there.
@@ -94,5 +109,32 @@ fn insert_number(numbers: &mut Vec<u32>, number: u32) -> Result<bool, AllocError
             numbers.insert(place, number)?;
             Ok(true)
         }
+    }
+}
+
+// Puts the number of each cell's image in its place, and the numbers in rising order.
+fn swap_in_numbers(problem: &Problem, numbers: &mut [u32], first: Atom, second: Atom)
+    requires cells { AreCells problem.now numbers.old }
+    requires rising { AllPairs (λ m n. m < n) numbers.old }
+    requires kept { KeepsBounds problem.now (swap_atoms first second) }
+    ensures scenario { IsScenario problem.now numbers.new }
+    ensures image { IsImage problem.now (swap_atoms first second) numbers.old numbers.new }
+{
+    let _ = problem.relations();
+    for place in 0..numbers.len() {
+        numbers[place] = swapped_number(problem, numbers[place], first, second);
+    }
+    numbers.sort_unstable();
+}
+
+// The number of the cell's image, where the problem has it.
+fn swapped_number(problem: &Problem, number: u32, first: Atom, second: Atom) -> u32
+    requires number { number < length (cells_of problem.now) }
+    requires kept { KeepsBounds problem.now (swap_atoms first second) }
+    ensures { IsCellImage problem.now (swap_atoms first second) number result }
+{
+    match problem.swapped(number, first, second) {
+        Some(image) => image,
+        None => number,
     }
 }

@@ -1,6 +1,8 @@
 // That the definitions are those of the field: small sets and problems, worked out by hand.
 ghost use Rattle.std.specs.Prelude.{◌≡◌, ◌∷◌, [], ◌<◌, ◌≤◌, ℕ, List, All, Contains, IfOk, length};
+ghost use Rattle.tuple_core.specs.Swap.{swap_atoms};
 ghost use Rattle.rel_formula.specs.Instance.{AreCells};
+ghost use Rattle.rel_formula.specs.Renaming.{KeepsBounds};
 ghost use Rattle.rel_formula.specs.Shape.{IsWellFormed, IsProper};
 ghost use Rattle.rel_formula.specs.Kernel.{rel, var, within};
 ghost use Rattle.rel_formula.specs.Tables.{arities};
@@ -363,6 +365,55 @@ fn copies(rt: HostRuntime) -> Result<(), Fail> {
         let scenario = chosen(alloc, &copy, &[number])?;
         assert_eq!(rt; holds(alloc, &copy, &scenario)?, is_instance);
     }
+    Ok(())
+}
+
+// Any set of two atoms of the first signature: a problem whose bounds the swap of the two leaves as they are.
+fn any_of_two(
+    rt: &impl Abort,
+    alloc: Global,
+    first: Atom,
+    second: Atom,
+) -> Result<Problem, AllocError>
+    requires first { first.top ≡ 0 }
+    requires second { second.top ≡ 0 }
+    ensures { IfOk result (λ p. KeepsBounds p (swap_atoms first second)) }
+{
+    let lower = TupleSet::new(alloc, 1);
+    let mut upper = TupleSet::new(alloc, 1);
+    upper.insert(Tuple::single(first))?;
+    upper.insert(Tuple::single(second))?;
+    assert!(rt; upper.rows().len() <= 2);
+    let name = Name::of(alloc, "A")?;
+    let relations = vec![in alloc; Relation { name, lower, upper }]?;
+    let tops = vec![in alloc; 0]?;
+    let some = Formula::AtLeast(1, Expression::Rel(0));
+    Ok(Problem::of(alloc, relations, tops, some)?)
+}
+
+#[test]
+fn swaps(rt: HostRuntime) -> Result<(), Fail> {
+    let alloc = rt.alloc();
+    let problem = any_of_two(&rt, alloc, at(1), at(4))?;
+    assert_eq!(rt; problem.cells(), 2);
+    assert_eq!(rt; problem.swapped(0, at(1), at(4)), Some(1));
+    assert_eq!(rt; problem.swapped(1, at(1), at(7)), Some(1));
+    assert_eq!(rt; problem.swapped(0, at(1), at(7)), None);
+    Ok(())
+}
+
+#[test]
+fn swapped_scenarios(rt: HostRuntime) -> Result<(), Fail> {
+    let alloc = rt.alloc();
+    let first = at(1);
+    let second = at(4);
+    let problem = any_of_two(&rt, alloc, first, second)?;
+    let mut scenario = chosen(alloc, &problem, &[1])?;
+    scenario.swap_atoms(&problem, first, second);
+    assert_eq!(rt; scenario.numbers(), [0].as_slice());
+    let mut scenario = chosen(alloc, &problem, &[0, 1])?;
+    scenario.swap_atoms(&problem, first, second);
+    assert_eq!(rt; scenario.numbers(), [0, 1].as_slice());
     Ok(())
 }
 

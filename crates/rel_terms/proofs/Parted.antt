@@ -31,7 +31,7 @@ module _ (M : Structure) (env : List Atom) where
   abbrev pub PartsHave : List Formula → Number
   PartsHave fs = FormulasHave M env (formulas_of (map formula_tree fs))
 
-  parts_append : (fs gs : List Formula) → Alike (PartsHave fs ⊕ PartsHave gs) (PartsHave (fs ++ gs))
+  pub parts_append : (fs gs : List Formula) → Alike (PartsHave fs ⊕ PartsHave gs) (PartsHave (fs ++ gs))
   parts_append [] gs = alike_none (PartsHave gs)
   parts_append (f ∷ fs) gs = more_left (FormulaHas M env (formula_tree f)) (PartsHave fs) (PartsHave gs) (PartsHave (fs ++ gs)) (parts_append fs gs)
 
@@ -71,7 +71,7 @@ module _ (M : Structure) (env : List Atom) (more : ℕ) (f : FormulaTree) where
   abbrev pub AtomHas : Atom → Number
   AtomHas a = Is more ⊕ FormulaHas M (a ∷ env) f
 
-  rows_append : (xs ys : List (List Atom)) → Alike (RowsHave M env more f xs ⊕ RowsHave M env more f ys) (RowsHave M env more f (xs ++ ys))
+  pub rows_append : (xs ys : List (List Atom)) → Alike (RowsHave M env more f xs ⊕ RowsHave M env more f ys) (RowsHave M env more f (xs ++ ys))
   rows_append [] ys = alike_none (RowsHave M env more f ys)
   rows_append ([] ∷ xs) ys = rows_append xs ys
   rows_append ((x ∷ t) ∷ xs) ys = more_left (AtomHas x) (RowsHave M env more f xs) (RowsHave M env more f ys) (RowsHave M env more f (xs ++ ys)) (rows_append xs ys)

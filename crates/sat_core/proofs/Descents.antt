@@ -1,9 +1,9 @@
 -- What a descent comes to.
 use Rattle.std.proofs.Common.{◌≡◌, ◌<◌, ◌≤◌, ◌+◌, ◌-◌, ◌++◌, [], ◌∷◌, ◌⊎◌, ℕ, zero, suc, Bool, true, false, not, cond, Option, Some, None, List, length, get_or, take, All, arith, sym, ◌∙◌, ap, inl, inr, refl, subst, length-append}
 use Rattle.std.proofs.lemmas.Bool.{cases_lt, cases_eq, cases_Bool}
-use Rattle.std.proofs.lemmas.List.{get_or_default, take_all, take-append-le, get_or_append_left}
+use Rattle.std.proofs.lemmas.List.{get_or_default, take_all, take-append-le, get_or_append_left, map-append}
 use Rattle.std.proofs.Math.Seq.{get_or-append_seam, get_or-append_right}
-use Rattle.std.proofs.lemmas.List.Elements.{Contains-get_or, Contains-push_cases}
+use Rattle.std.proofs.lemmas.List.Elements.{Contains-append_left, Contains-get_or, Contains-push, Contains-push_cases}
 use Rattle.std.specs.List.{Contains}
 use Rattle.std.specs.Option.{IsSome, is_some, unwrap_or}
 use Rattle.cnf_core.specs.declared.literal.Lit.{Lit}
@@ -19,8 +19,7 @@ use Rattle.assignment_trail.specs.Trail.{IsTrail, ForcesMore, falses_of, level_o
 use Rattle.sat_trail.specs.Trailed.{Trailed, IsValue}
 use Rattle.sat_trail.specs.Closed.{IsClosed, IsClosedBelow}
 use Rattle.sat_trail.specs.Learnt.{IsFlat, IsAbove}
-use Rattle.assignment_trail.proofs.Trails.{level_before, from_front, vars_differ}
-use Rattle.sat_trail.proofs.Learned.{decided_first}
+use Rattle.assignment_trail.proofs.Trails.{falses_of-push, level_before, level_of_take, placed_level, from_front, vars_differ}
 use Rattle.sat_core.specs.Answers.{IsModel}
 use Rattle.sat_core.specs.Search.{HasAllValues, AreValues, IsFull, IsStuck}
 
@@ -76,13 +75,6 @@ module _ (clauses : List (List Lit)) (xs : List Assigned) where
       let up : (get_or xs i d).level ≤ level_of (take (length xs) xs) = level_before clauses xs trail (length xs) i d h (omega arith) in
       let same : level_of (take (length xs) xs) ≡ level_of xs = ap level_of (take_all (length xs) xs (omega arith)) in
       omega (arith, up, same, zero_level)
-
-  -- at level 0 nothing is decided
-  pub closed_below_none : IsTrail clauses xs → level_of xs ≡ 0 → IsClosedBelow clauses xs
-  closed_below_none trail zero_level i d h decided =
-      let low : (get_or xs i d).level ≡ 0 = low_levels trail zero_level i d h in
-      let up = (decided_first clauses xs trail i d [] [] h decided refl).0 in
-      absurd (omega (arith, low, up))
 
   -- what is forced is no decision
   pub closed_below_forced : (ys : List Assigned) → IsClosedBelow clauses xs → ForcesMore xs ys → IsClosedBelow clauses ys
@@ -198,6 +190,23 @@ all_values_more vars falses was here var low high =
           subst (λ (n : ℕ). (value : Bool) × Contains falses (record { var = n; positive = not value })) is here
     ]
 
+-- what has a value keeps it where more literals are true
+values_append : (vars : ℕ) (xs ys : List Assigned) → HasAllValues vars (falses_of xs) → HasAllValues vars (falses_of (xs ++ ys))
+values_append vars xs ys was var low high =
+    let r = was var low high in
+    let l : Lit = record { var = var; positive = not r.0 } in
+    (r.0, subst (λ (fs : List Lit). Contains fs l) (sym (map-append (λ (a : Assigned). negation_of a.lit) xs ys)) (Contains-append_left (falses_of xs) (falses_of ys) l r.1))
+
+pub values_forced : (vars : ℕ) (old new : List Assigned) → ForcesMore old new → HasAllValues vars (falses_of old) → HasAllValues vars (falses_of new)
+values_forced vars old new more was = subst (λ (xs : List Assigned). HasAllValues vars (falses_of xs)) (sym more.added) (values_append vars old more.more was)
+
+pub values_decided : (var : ℕ) (xs : List Assigned) (a : Assigned) → 1 ≤ var → a.lit ≡ record { var = var; positive = false } → HasAllValues (var - 1) (falses_of xs) → HasAllValues var (falses_of (xs ++ a ∷ []))
+values_decided var xs a low is was =
+    let back : (var - 1) + 1 ≡ var = omega arith in
+    let last : Contains (falses_of (xs ++ a ∷ [])) (negation_of a.lit) = subst (λ (fs : List Lit). Contains fs (negation_of a.lit)) (sym (falses_of-push xs a)) (Contains-push (falses_of xs) (negation_of a.lit)) in
+    let here : Contains (falses_of (xs ++ a ∷ [])) (record { var = (var - 1) + 1; positive = true }) = subst (λ (n : ℕ). Contains (falses_of (xs ++ a ∷ [])) (record { var = n; positive = true })) (sym back) (subst (λ (l : Lit). Contains (falses_of (xs ++ a ∷ [])) (negation_of l)) is last) in
+    subst (λ (n : ℕ). HasAllValues n (falses_of (xs ++ a ∷ []))) back (all_values_more (var - 1) (falses_of (xs ++ a ∷ [])) (values_append (var - 1) xs (a ∷ []) was) (false, here))
+
 pub value_false : (falses : List Lit) (var : ℕ) (o : Option Bool) → IsValue falses var o → (value : Bool) × Contains falses (record { var = var; positive = not value }) → Contains falses (record { var = var; positive = not (unwrap_or o false) })
 value_false falses var None is (value, there) = absurd (is (not value) there)
 value_false falses var (Some value) is has = is
@@ -229,23 +238,40 @@ module _ (falses : List Lit) (values : List Bool) (are : AreValues falses values
             false_literal l var.0 (within k d h) (false_clause (value_of values) clause f l (Contains-get_or clause k d h))))
       ]
 
+-- above level 0 there is a decision
+decision_above : (clauses : List (List Lit)) (xs : List Assigned) → IsTrail clauses xs → (n : ℕ) → n ≤ length xs → 0 < level_of (take n xs) → (i : ℕ) × (i < length xs) × ((d : Assigned) → (get_or xs i d).reason ≡ None)
+decision_above clauses xs trail zero h some = absurd (omega arith)
+decision_above clauses xs trail (suc n) h some =
+    let a : Assigned = record { lit = record { var = 0; positive = false }; level = 0; reason = None } in
+    let one : suc n ≡ n + 1 = omega arith in
+    let level : level_of (take (suc n) xs) ≡ (get_or xs n a).level = ap (λ (k : ℕ). level_of (take k xs)) one ∙ level_of_take xs n a (omega arith) in
+    elim (placed_level clauses (take n xs) (get_or xs n a) (trail n a (omega arith))) [
+      | inl same ↦ decision_above clauses xs trail n (omega arith) (omega (arith, level, same, some))
+      | inr more ↦ (n, omega arith, λ d. ap (λ (b : Assigned). b.reason) (get_or_default xs n d a (omega arith)) ∙ more.1)
+    ]
+
+-- where the trail was closed before each decision, and the empty clause is a chain, nothing is decided
+direct_level : (clauses : List (List Lit)) (xs : List Assigned) → IsTrail clauses xs → IsClosedBelow clauses xs → (hints : List ℕ) → IsChain clauses [] hints → level_of xs ≡ 0
+direct_level clauses xs trail closed hints chain =
+    let all : level_of (take (length xs) xs) ≡ level_of xs = ap level_of (take_all (length xs) xs (omega arith)) in
+    elim (cases_eq (level_of xs) 0) [
+      | inl e ↦ e
+      | inr above ↦
+          let a : Assigned = record { lit = record { var = 0; positive = false }; level = 0; reason = None } in
+          let r = decision_above clauses xs trail (length xs) (omega arith) (omega (arith, all, above)) in
+          absurd (closed_no_chain clauses (falses_of (take r.0 xs)) (closed r.0 a r.1 (r.2 a)) hints chain)
+    ]
+
 -- where propagation finds a falsified clause
-pub stuck_after : (old new : Trailed) (conflict : ℕ) → IsClosedBelow old.clauses old.assigned → ((hints : List ℕ) → IsChain old.clauses [] hints → level_of old.assigned ≡ 0) →
-    new.clauses ≡ old.clauses → ForcesMore old.assigned new.assigned → level_of new.assigned ≡ level_of old.assigned → Refutes new.clauses (falses_of new.assigned) conflict → IsStuck new conflict
-stuck_after old new conflict closed direct same more level refuted =
-    record {
-      refuted = refuted;
-      closed_below = subst (λ (cs : List (List Lit)). IsClosedBelow cs new.assigned) (sym same) (closed_below_forced old.clauses old.assigned new.assigned closed more);
-      direct = λ hints chain. level ∙ direct hints (subst (λ (cs : List (List Lit)). IsChain cs [] hints) same chain);
-    }
+pub stuck_after : (old new : Trailed) (conflict : ℕ) → IsClosedBelow old.clauses old.assigned → new.clauses ≡ old.clauses → ForcesMore old.assigned new.assigned → IsTrail new.clauses new.assigned → Refutes new.clauses (falses_of new.assigned) conflict → IsStuck new conflict
+stuck_after old new conflict closed same more trail refuted =
+    let closed' : IsClosedBelow new.clauses new.assigned = subst (λ (cs : List (List Lit)). IsClosedBelow cs new.assigned) (sym same) (closed_below_forced old.clauses old.assigned new.assigned closed more) in
+    record { refuted = refuted; closed_below = closed'; direct = direct_level new.clauses new.assigned trail closed' }
 
 -- where propagation leaves nothing, and a variable is open
-pub decided_after : (old new : Trailed) (a : Assigned) → IsClosedBelow old.clauses old.assigned → new.clauses ≡ old.clauses → ForcesMore old.assigned new.assigned → IsClosed new.clauses (falses_of new.assigned) →
-    IsClosedBelow new.clauses (new.assigned ++ a ∷ []) × ((hints : List ℕ) → IsChain new.clauses [] hints → level_of (new.assigned ++ a ∷ []) ≡ 0)
-decided_after old new a closed_below same more closed = (
-  closed_below_decided new.clauses new.assigned a (subst (λ (cs : List (List Lit)). IsClosedBelow cs new.assigned) (sym same) (closed_below_forced old.clauses old.assigned new.assigned closed_below more)) closed,
-  λ hints chain. absurd (closed_no_chain new.clauses (falses_of new.assigned) closed hints chain),
-)
+pub decided_after : (old new : Trailed) (a : Assigned) → IsClosedBelow old.clauses old.assigned → new.clauses ≡ old.clauses → ForcesMore old.assigned new.assigned → IsClosed new.clauses (falses_of new.assigned) → IsClosedBelow new.clauses (new.assigned ++ a ∷ [])
+decided_after old new a closed_below same more closed =
+    closed_below_decided new.clauses new.assigned a (subst (λ (cs : List (List Lit)). IsClosedBelow cs new.assigned) (sym same) (closed_below_forced old.clauses old.assigned new.assigned closed_below more)) closed
 
 -- the values of a full trail satisfy its clauses
 pub full_model : (trail : Trailed) (values : List Bool) → IsFull trail → All IsClause trail.clauses → All (HasVarsUpTo trail.vars) trail.clauses → length values ≡ trail.vars → AreValues (falses_of trail.assigned) values → IsModel trail.vars trail.clauses values

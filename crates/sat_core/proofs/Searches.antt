@@ -113,29 +113,28 @@ module _ (given : List (List Lit)) (log : List Step) (s : Step) where
 pub novel_all : (given : List (List Lit)) (log : List Step) → IsAllNovel given log → IsNovelButLast given log
 novel_all given log was i s e = inl (was i s e)
 
+-- the conflict is above level 0, where what is learnt is not empty
+pub learnt_above : (old : Trailed) (conflict : ℕ) (clause : List Lit) → IsTrail old.clauses old.assigned → IsStuck old conflict → (IsFlat old.clauses old.assigned conflict → clause ≡ []) → clause ≢ [] → IsAbove old.clauses old.assigned conflict
+learnt_above old conflict clause trail stuck flat not_empty =
+    elim (flat_or_above old.clauses old.assigned trail conflict stuck.refuted) [ inl is_flat ↦ absurd (not_empty (flat is_flat)) | inr is_above ↦ is_above ]
+
 -- what is learnt from a conflict above level 0
 module _ (old : Trailed) (conflict : ℕ) (trail : IsTrail old.clauses old.assigned) (stuck : IsStuck old conflict) (before after : List Step) (s : Step) (chain : IsChain old.clauses s.clause s.hints) (of : All (λ l. IsVarOf old.clauses l.var) s.clause) (added : after ≡ before ++ s ∷ []) where
   pub learnt_end : s.clause ≡ [] → IsEnd old before after
   learnt_end empty = record { extended = record { step = s; added = added; chain = chain; vars_of = of }; empty = empty }
 
   pub learnt_progress : (back new : Trailed) → (IsFlat old.clauses old.assigned conflict → s.clause ≡ []) → (IsAbove old.clauses old.assigned conflict → IsClosedBelow old.clauses old.assigned → IsNovel old.clauses s.clause) → s.clause ≢ [] →
-      new ≡ record { vars = back.vars; clauses = back.clauses ++ s.clause ∷ []; assigned = back.assigned } → back.vars ≡ old.vars → back.clauses ≡ old.clauses → level_of back.assigned ≤ 0 → IsProgress old new before after
-  learnt_progress back new flat above not_empty is vars same low =
+      new ≡ record { vars = back.vars; clauses = back.clauses ++ s.clause ∷ []; assigned = back.assigned } → back.vars ≡ old.vars → back.clauses ≡ old.clauses → IsClosedBelow (old.clauses ++ s.clause ∷ []) back.assigned → IsProgress old new before after
+  learnt_progress back new flat above not_empty is vars same closed =
       record {
         extended = record { step = s; added = added; chain = chain; vars_of = of };
         not_empty = not_empty;
-        novel = elim (flat_or_above old.clauses old.assigned trail conflict stuck.refuted) [
-          | inl is_flat ↦ absurd (not_empty (flat is_flat))
-          | inr is_above ↦ above is_above stuck.closed_below
-        ];
+        novel = above (learnt_above old conflict s.clause trail stuck flat not_empty) stuck.closed_below;
         vars = ap (λ (t : Trailed). t.vars) is ∙ vars;
         clauses = ap (λ (t : Trailed). t.clauses) is ∙ ap (λ (cs : List (List Lit)). cs ++ s.clause ∷ []) same;
-        level = ap (λ (t : Trailed). level_of t.assigned) is ∙ none_below (level_of back.assigned) low;
+        closed_below = subst (λ (t : Trailed). IsClosedBelow t.clauses t.assigned) (sym is) (subst (λ (cs : List (List Lit)). IsClosedBelow (cs ++ s.clause ∷ []) back.assigned) (sym same) closed);
         deep = λ zero_level. not_empty (flat (flat_at_zero old.clauses old.assigned trail conflict stuck.refuted zero_level));
       }
-    where
-      none_below : (n : ℕ) → n ≤ 0 → n ≡ 0
-      none_below n h = omega arith
 
 -- before the first step
 pub searching_start : (given : List (List Lit)) (first : ℕ) (trail : Trailed) (log : List Step) → log ≡ [] → trail.clauses ≡ given → IsVarLimit first trail.clauses trail.vars → trail.assigned ≡ [] → Searching given first trail log
@@ -143,7 +142,7 @@ searching_start given first trail log none same limit open_ =
     subst (Searching given first trail) (sym none) (record {
       clauses = same ∙ sym (members_none given);
       vars = subst (λ (cs : List (List Lit)). IsVarLimit first cs trail.vars) same limit;
-      level = ap level_of open_;
+      closed_below = subst (IsClosedBelow trail.clauses) (sym open_) (λ i d h. absurd (omega arith));
       accepted = λ i d h. absurd (omega arith);
       vars_of = λ i d h. absurd (omega arith);
       novel = λ i s e. absurd (let below : i < 0 = slice_get_below [] i s e in omega arith);
@@ -170,7 +169,7 @@ module _ (given : List (List Lit)) (first : ℕ) (old mid : Trailed) (log : List
         subst (Searching given first new) (sym p.extended.added) (record {
           clauses = p.clauses ∙ (ap (λ (cs : List (List Lit)). cs ++ s.clause ∷ []) mid_members ∙ sym (members_more given log s));
           vars = subst (IsVarLimit first given) (sym (p.vars ∙ vars)) was.vars;
-          level = p.level;
+          closed_below = p.closed_below;
           accepted = accepted_more given log s was.accepted (subst (λ (cs : List (List Lit)). IsChain cs s.clause s.hints) mid_members p.extended.chain);
           vars_of = vars_more given log s was.vars_of (subst (λ (cs : List (List Lit)). All (λ l. IsVarOf cs l.var) s.clause) mid_members p.extended.vars_of);
           novel = novel_more given log s was.novel (subst (λ (cs : List (List Lit)). IsNovel cs s.clause) mid_members p.novel);

@@ -13,11 +13,11 @@ use Rattle.refutation_check.specs.SearchLog.{IsVarOf, HasVarsOf, HasNoEmpty, IsA
 abbrev pub HasAllValues : ℕ → List Lit → Type 0
 HasAllValues vars falses = (var : ℕ) → 1 ≤ var → var ≤ vars → (value : Bool) × Contains falses (record { var = var; positive = not value })
 
--- the given clauses and the steps are the trail's clauses, at level 0, and the log is as an answer's has to be
+-- the given clauses and the steps are the trail's clauses, the trail was closed before each decision, and the log is as an answer's has to be
 pub record Searching (given : List (List Lit)) (first : ℕ) (trail : Trailed) (log : List Step) : Type 0 where
   pub clauses : trail.clauses ≡ members_of given log
   pub vars : IsVarLimit first given trail.vars
-  pub level : level_of trail.assigned ≡ 0
+  pub closed_below : IsClosedBelow trail.clauses trail.assigned
   pub accepted : IsAccepted given log
   pub vars_of : HasVarsOf given log
   pub novel : IsAllNovel given log
@@ -58,12 +58,12 @@ pub record IsEnd (old : Trailed) (before after : List Step) : Type 0 where
   pub extended : IsExtended old.clauses before after
   pub empty : extended.step.clause ≡ []
 
--- the step is not empty and novel, and the trail has its clause too and is at level 0
+-- the step is not empty and novel, and the trail has its clause too and was closed before each decision that stays
 pub record IsProgress (old new : Trailed) (before after : List Step) : Type 0 where
   pub extended : IsExtended old.clauses before after
   pub not_empty : extended.step.clause ≢ []
   pub novel : IsNovel old.clauses extended.step.clause
   pub vars : new.vars ≡ old.vars
   pub clauses : new.clauses ≡ old.clauses ++ extended.step.clause ∷ []
-  pub level : level_of new.assigned ≡ 0
+  pub closed_below : IsClosedBelow new.clauses new.assigned
   pub deep : level_of old.assigned ≢ 0

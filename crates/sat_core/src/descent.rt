@@ -1,5 +1,6 @@
 ghost use Rattle.std.specs.Prelude.{◌≡◌, ◌≤◌, ◌+◌, MatchOption, IfOk, length};
-ghost use Rattle.assignment_trail.specs.Trail.{falses_of, level_of};
+ghost use Rattle.assignment_trail.specs.Trail.{falses_of};
+ghost use Rattle.sat_trail.specs.Closed.{IsClosedBelow};
 ghost use Rattle.sat_core.specs.Answers.{IsModel};
 ghost use Rattle.sat_core.specs.Search.{HasAllValues, IsOpenVar, IsFull, IsStuck};
 
@@ -7,13 +8,14 @@ use cnf_core::{Lit, NoMemory, Valuation};
 use sat_trail::{Propagated, Trail};
 use std::alloc::Global;
 
-/// The lowest open variable.
-fn lowest_open(trail: &Trail) -> Option<u32>
+/// The lowest open variable, where those up to this one have values.
+fn lowest_open(trail: &Trail, first: u32) -> Option<u32>
+    requires { HasAllValues first (falses_of trail.now.assigned) }
     ensures lowest { MatchOption result (HasAllValues trail.now.vars (falses_of trail.now.assigned)) (IsOpenVar trail.now) }
     ensures few { length trail.now.assigned ≤ trail.now.vars + 1 }
 {
     let _level = trail.level();
-    for var in 0..trail.vars() {
+    for var in first..trail.vars() {
         if trail.value(var + 1).is_none() {
             return Some(var + 1);
         }
@@ -23,21 +25,24 @@ fn lowest_open(trail: &Trail) -> Option<u32>
 
 /// Decides and propagates until each variable has a value, or a clause is falsified: its number.
 pub(crate) fn descend(trail: &mut Trail) -> Option<u32>
-    requires { level_of trail.old.assigned ≡ 0 }
+    requires { IsClosedBelow trail.old.clauses trail.old.assigned }
     ensures end { MatchOption result (IsFull trail.new) (IsStuck trail.new) }
     ensures vars { trail.new.vars ≡ trail.old.vars }
     ensures clauses { trail.new.clauses ≡ trail.old.clauses }
 {
-    let _level = trail.level();
+    let mut first = 0;
     'deciding: loop {
         match trail.propagate() {
             Propagated::Conflict(number) => return Some(number),
-            Propagated::Closed => match lowest_open(trail) {
+            Propagated::Closed => match lowest_open(trail, first) {
                 None => return None,
-                Some(var) => trail.decide(Lit {
-                    var,
-                    positive: false,
-                }),
+                Some(var) => {
+                    trail.decide(Lit {
+                        var,
+                        positive: false,
+                    });
+                    first = var;
+                }
             },
         }
     }

@@ -59,8 +59,8 @@ pub fn solve(
     }
 }
 
-/// Learns a step from the conflict of a stuck trail, and goes back to level 0. True where it is empty, else
-/// the trail has its clause too.
+/// Learns a step from the conflict of a stuck trail. True where it is empty, else the trail goes back to the second highest
+/// level of its clause, and has the clause too.
 fn learn_from(
     alloc: Global,
     trail: &mut Trail,
@@ -78,8 +78,9 @@ fn learn_from(
         log.push(step)?;
         return Ok(true);
     }
+    let level = trail.back_level(step.clause.lits());
     log.push(step.copy(alloc)?)?;
-    trail.back_to(0);
+    trail.back_to(level);
     trail.add(step)?;
     Ok(false)
 }

@@ -159,22 +159,41 @@ fn local_clauses_are_numbered_after_the_formula(rt: HostRuntime) -> Result<(), F
     Ok(())
 }
 
-#[test]
-fn pool_steps_are_numbered_after_the_formula(rt: HostRuntime) -> Result<(), Fail> {
-    let alloc = rt.alloc();
-    let square = formula(alloc, 2, &SQUARE)?;
+/// A pool of the step that the first variable is true.
+fn pool_of_one(alloc: Global, f: &Cnf) -> Result<Log, Fail>
+    requires { f.now.vars ≡ 2 }
+    ensures accepted { IfOk result (IsAccepted f.now.clauses) }
+    ensures few { IfOk result (λ pool. length pool < 1000) }
+{
     let mut pool = Log::new(alloc);
     pool.push(Step {
         clause: clause(alloc, 2, &[1])?,
         hints: Hints::of([1, 2].to_vec(alloc)?),
     })?;
     let mut scratch = Scratch::for_vars(alloc, 2)?;
-    match check(&square, &pool, &mut scratch) {
-        Verdict::NoEmptyClause => {}
+    match check(f, &pool, &mut scratch) {
+        Verdict::NoEmptyClause => Ok(pool),
         _ => Err("not accepted")?,
     }
+}
+
+#[test]
+fn pool_steps_are_numbered_after_the_formula(rt: HostRuntime) -> Result<(), Fail> {
+    let alloc = rt.alloc();
+    let square = formula(alloc, 2, &SQUARE)?;
+    let pool = pool_of_one(alloc, &square)?;
     let hints = only_hints(alloc, &square, &pool, &[])?;
-    assert_eq!(rt; hints.as_slice(), [5, 3, 4].as_slice());
+    assert_eq!(rt; hints.as_slice(), [5, 4, 3].as_slice());
+    Ok(())
+}
+
+#[test]
+fn pool_steps_are_numbered_after_local_clauses(rt: HostRuntime) -> Result<(), Fail> {
+    let alloc = rt.alloc();
+    let two = formula(alloc, 2, &[&[1, 2], &[1, -2]])?;
+    let pool = pool_of_one(alloc, &two)?;
+    let hints = only_hints(alloc, &two, &pool, &[&[-1, 2], &[-1, -2]])?;
+    assert_eq!(rt; hints.as_slice(), [5, 4, 3].as_slice());
     Ok(())
 }
 

@@ -409,7 +409,8 @@ kept_first clauses xs trail n d seen kept in' why none = (
       omega (arith, up, same, differ),
 )
 
-placed_decided : (clauses : List (List Lit)) (before : List Assigned) (a : Assigned) → IsPlaced clauses before a → a.reason ≡ None → a.level ≡ level_of before + 1
+-- a decision begins the next level
+pub placed_decided : (clauses : List (List Lit)) (before : List Assigned) (a : Assigned) → IsPlaced clauses before a → a.reason ≡ None → a.level ≡ level_of before + 1
 placed_decided clauses before a placed is =
     (subst (λ (r : Option ℕ). MatchOption r (IsOpen (falses_of before) a.lit × (a.level ≡ level_of before + 1)) (λ n. Forces clauses (falses_of before) n a.lit × (a.level ≡ level_of before))) is placed).1
 

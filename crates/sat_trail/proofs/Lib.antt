@@ -1,3 +1,9 @@
+pub mod Backjumps
+pub mod Follows
+pub mod Heights
 pub mod Learned
 pub mod Limits
+pub mod Readiness
+pub mod Settled
 pub mod Trails
+pub mod Watches

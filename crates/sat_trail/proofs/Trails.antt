@@ -1,115 +1,77 @@
--- Lemmas on trails.
-use Rattle.std.proofs.Common.{◌≡◌, ◌<◌, ◌≤◌, ◌+◌, ◌-◌, ◌++◌, [], ◌∷◌, ℕ, Bool, not, Option, Some, None, List, length, get_or, take, map, All, arith, sym, ◌∙◌, ap, inl, inr, refl, subst, below_more, length-append, length-take}
-use Rattle.std.proofs.lemmas.Bool.{cases_lt}
-use Rattle.std.proofs.lemmas.List.{get_or_default, take_more, take_all, take-append-le, take-take, get_or_append_left}
-use Rattle.std.proofs.Math.Seq.{get_or-append_seam}
+-- Lemmas on what a trail holds.
+use Rattle.std.proofs.Common.{◌≡◌, ◌<◌, ◌≤◌, ◌+◌, ◌-◌, ◌*◌, ◌++◌, [], ◌∷◌, ℕ, Bool, true, false, Option, Some, None, List, length, get_or, take, map, arith, sym, ◌∙◌, ap, inl, inr, refl, subst, append_assoc, length-append}
+use Rattle.std.proofs.lemmas.List.{append-nil, map-append}
+use Rattle.std.proofs.lemmas.List.{get_or_default, take_more}
 use Rattle.std.proofs.lemmas.Option.{get_or_from_slice_get}
 use Rattle.std.specs.List.{Contains, slice_get}
 use Rattle.cnf_core.specs.declared.literal.Lit.{Lit}
-use Rattle.cnf_core.specs.Literal.{HasVarsUpTo}
-use Rattle.refutation_check.specs.Chain.{IsFalsified, IsUnit}
-use Rattle.refutation_check.specs.Marks.{IsFalseIn, Marks, IsWithin}
-use Rattle.refutation_check.proofs.Sights.{not_not}
-use Rattle.refutation_check.proofs.Sights.{unit_to, unit_from}
-use Rattle.refutation_check.proofs.Chains.{names_all}
-use Rattle.refutation_check.specs.Assumed.{IsOpen}
-use Rattle.assignment_trail.specs.declared.assigned.Assigned.{Assigned}
-use Rattle.sat_trail.specs.declared.trail.Found.{Found}
-use Rattle.sat_trail.specs.declared.trail.Found.TheVariants.{Falsified, Forcing, Quiet}
-use Rattle.sat_trail.specs.Found.{IsFound, IsForcedUpTo}
-use Rattle.refutation_check.specs.declared.marks.Sight.TheVariants.{Neither}
-use Rattle.refutation_check.specs.Marks.{IsSeen}
-use Rattle.std.proofs.lemmas.List.Elements.{All-append, All-map}
+use Rattle.clause_store.specs.Codes.{literal_of}
+use Rattle.clause_store.proofs.Coded.{literal_of-code_of}
 use Rattle.refutation_check.specs.declared.log.Step.{Step}
 use Rattle.refutation_check.specs.Chain.{members_of}
-use Rattle.assignment_trail.proofs.Trails.{level_low_all, level_last, placed_open}
-use Rattle.assignment_trail.specs.Trail.{falses_of, level_of, IsTrail}
-use Rattle.sat_trail.specs.Trailed.{IsValue}
+use Rattle.assignment_trail.specs.declared.assigned.Assigned.{Assigned}
+use Rattle.assignment_trail.specs.AssignmentState.{IsValueOf}
+use Rattle.assignment_trail.specs.Trail.{ForcesMore}
+use Rattle.watched_literals.specs.Closed.{IsClosedBut}
+use Rattle.sat_trail.specs.Closed.{IsClosed}
+use Rattle.sat_trail.specs.Rounds.{IsQuiet, AreQuiet}
+use Rattle.sat_trail.specs.Trailed.{Trailed, IsValue}
 
--- what the marks show is so of the false literals
-pub found_under : (marks : List (Option Bool)) (falses : List Lit) (clauses : List (List Lit)) → Marks marks falses → All (IsWithin (length marks)) clauses → (found : Found) → IsFound clauses (IsFalseIn marks) found → IsFound clauses (Contains falses) found
-found_under marks falses clauses marked within (Falsified n) (c, named, falsified) =
-    let w = names_all (IsWithin (length marks)) clauses n c within named in
-    (c, named, λ k d h. (marked (get_or c k d) (w k d h)).0 (falsified k d h))
-found_under marks falses clauses marked within (Forcing n l) (c, named, unit) =
-    (c, named, unit_to marks falses marked c (names_all (IsWithin (length marks)) clauses n c within named) l unit)
-found_under marks falses clauses marked within Quiet quiet = λ k d h.
-    let c : List Lit = get_or clauses k d in
-    let w : IsWithin (length marks) c = within k d h in (
-      λ falsified. (quiet k d h).0 (λ j e m. (marked (get_or c j e) (w j e m)).1 (falsified j e m)),
-      λ l unit. (quiet k d h).1 l (unit_from marks falses marked c w l unit),
-    )
+-- the value of a variable is that of its positive literal
+value_of_var : (falses : List Lit) (var : ℕ) (o : Option Bool) → IsValueOf falses (record { var = var; positive = true }) o → IsValue falses var o
+value_of_var falses var None is_open = λ p. elim p as (λ p. Contains falses (record { var = var; positive = p }) → ⊥) [ true ↦ is_open.0 | false ↦ is_open.1 ]
+value_of_var falses var (Some true) is = is.0
+value_of_var falses var (Some false) is = is.0
 
-pub found_in_range : (n vars : ℕ) → n ≡ vars + 1 → (found : Found) → IsForcedUpTo (n - 1) found → IsForcedUpTo vars found
-found_in_range n vars is (Falsified k) h = tt
-found_in_range n vars is (Forcing k l) h = (h.0, omega (arith, h.1))
-found_in_range n vars is Quiet h = tt
+pub value_of_code : (falses : List Lit) (var code : ℕ) (o : Option Bool) → code ≡ 2 * var + 1 → IsValueOf falses (literal_of code) o → IsValue falses var o
+value_of_code falses var code o is value =
+    let l : Lit = record { var = var; positive = true } in
+    let same : literal_of code ≡ l = ap literal_of is ∙ literal_of-code_of l in
+    value_of_var falses var o (subst (λ (k : Lit). IsValueOf falses k o) same value)
 
-pub within_from : (clauses : List (List Lit)) (vars n : ℕ) → n ≡ vars + 1 → All (HasVarsUpTo vars) clauses → All (IsWithin n) clauses
-within_from clauses vars n is all k d h j e m = let low : (get_or (get_or clauses k d) j e).var ≤ vars = all k d h j e m in omega arith
+-- where no clause but a marked one is falsified or a unit, and no marked one either, all is closed
+pub closed_all : (clauses : List (List Lit)) (falses : List Lit) (flags : List Bool) → IsClosedBut clauses falses flags → AreQuiet clauses falses flags → IsClosed clauses falses
+closed_all clauses falses flags but quiet k d h =
+    let here : IsQuiet falses (get_or clauses k []) = elim (but k h) [ inl m ↦ quiet k m | inr both ↦ both ] in
+    subst (IsQuiet falses) (get_or_default clauses k [] d h) here
 
--- one more clause shows nothing
-pub nothing_more : (clauses : List (List Lit)) (marks : List (Option Bool)) (n : ℕ) (item : List Lit) → n < length clauses → item ≡ get_or clauses n item → IsSeen (IsFalseIn marks) item Neither →
-    ((k : ℕ) (d : List Lit) → k < n → (¬ IsFalsified (IsFalseIn marks) (get_or clauses k d)) × ((x : Lit) → ¬ IsUnit (IsFalseIn marks) (get_or clauses k d) x)) →
-    (k : ℕ) (d : List Lit) → k < n + 1 → (¬ IsFalsified (IsFalseIn marks) (get_or clauses k d)) × ((x : Lit) → ¬ IsUnit (IsFalseIn marks) (get_or clauses k d) x)
-nothing_more clauses marks n item in' is seen was k d h =
-    below_more (λ (k : ℕ). (d : List Lit) → IsSeen (IsFalseIn marks) (get_or clauses k d) Neither) n (λ k h d. was k d h)
-    (λ e. subst (λ (c : List Lit). IsSeen (IsFalseIn marks) c Neither) (is ∙ get_or_default clauses n item e in') seen) k h d
+-- a trail that is no longer than before is the same
+pub same_if_long : (old new : List Assigned) → ForcesMore old new → length new ≤ length old → new ≡ old
+same_if_long old new more long = nothing more.more more.added
+  where
+    nothing : (rest : List Assigned) → new ≡ old ++ rest → new ≡ old
+    nothing [] is = is ∙ append-nil old
+    nothing (a ∷ rest) is = let n : length new ≡ length old + length (a ∷ rest) = ap length is ∙ length-append old (a ∷ rest) in absurd (omega (arith, n, long))
 
-pub value_marked : (marks : List (Option Bool)) (falses : List Lit) (var : ℕ) (o : Option Bool) → Marks marks falses → var < length marks → get_or marks var None ≡ o → IsValue falses var o
-value_marked marks falses var None marked in' is = λ p h. let e : None ≡ Some (not p) = sym is ∙ (marked (record { var = var; positive = p }) in').1 h in cc
-value_marked marks falses var (Some v) marked in' is = (marked (record { var = var; positive = not v }) in').0 (is ∙ ap Some (sym (not_not v)))
+pub more_long : (old new : List Assigned) → ForcesMore old new → length old ≤ length new
+more_long old new more = let n : length new ≡ length old + length more.more = ap length more.added ∙ length-append old more.more in omega (arith, n)
 
-pub copied_more : (clauses : List (List Lit)) (i : ℕ) (c : List Lit) (xs : List (List Lit)) → i < length clauses → slice_get clauses ((i + 1) - 1) ≡ Some c → xs ≡ take i clauses → xs ++ c ∷ [] ≡ take (i + 1) clauses
-copied_more clauses i c xs in' is same =
+-- one clause more is put in
+abbrev pub with_clauses : Trailed → List (List Lit) → Trailed
+with_clauses t clauses = record { vars = t.vars; clauses = clauses; assigned = t.assigned }
+
+pub filled_more : (first now new : Trailed) (done more : List (List Lit)) (c : List Lit) → now ≡ with_clauses first (first.clauses ++ done) → new ≡ with_clauses now (now.clauses ++ c ∷ []) → done ++ c ∷ [] ≡ more → new ≡ with_clauses first (first.clauses ++ more)
+filled_more first now new done more c was is next =
+    is ∙ (ap (λ (t : Trailed). with_clauses t (t.clauses ++ c ∷ [])) was ∙ ap (with_clauses first) (append_assoc first.clauses done (c ∷ []) ∙ ap (λ (xs : List (List Lit)). first.clauses ++ xs) next))
+
+-- the given clauses, the local ones and those of the steps are put in
+pub filled_all : (vars : ℕ) (first second third last : Trailed) (clauses local : List (List Lit)) (steps : List Step) → first ≡ record { vars = vars; clauses = []; assigned = [] } → second ≡ with_clauses first (first.clauses ++ clauses) →
+    third ≡ with_clauses second (second.clauses ++ local) → last ≡ with_clauses third (third.clauses ++ map (λ s. s.clause) steps) → last ≡ record { vars = vars; clauses = members_of (clauses ++ local) steps; assigned = [] }
+filled_all vars first second third last clauses local steps one two three four =
+    let put : List (List Lit) → Trailed → Trailed = λ more t. with_clauses t (t.clauses ++ more) in
+    four ∙ ap (put (map (λ (s : Step). s.clause) steps)) (three ∙ ap (put local) (two ∙ ap (put clauses) one))
+
+pub next_is : {X : Type 0} (f : X → List Lit) (xs : List X) (i : ℕ) (x : X) → i < length xs → x ≡ get_or xs i x → map f (take i xs) ++ f x ∷ [] ≡ map f (take (i + 1) xs)
+next_is {X = X} f xs i x h is = sym (map-append f (take i xs) (x ∷ [])) ∙ ap (map f) (ap (λ (y : X). take i xs ++ y ∷ []) is ∙ sym (take_more xs i x h))
+
+pub next_clause : (clauses : List (List Lit)) (i : ℕ) (c : List Lit) → i < length clauses → c ≡ get_or clauses i c → take i clauses ++ c ∷ [] ≡ take (i + 1) clauses
+next_clause clauses i c h is = ap (λ (x : List Lit). take i clauses ++ x ∷ []) is ∙ sym (take_more clauses i c h)
+
+pub named_is : (clauses : List (List Lit)) (i : ℕ) (c : List Lit) → slice_get clauses ((i + 1) - 1) ≡ Some c → c ≡ get_or clauses i c
+named_is clauses i c is =
     let back : (i + 1) - 1 ≡ i = omega arith in
-    let e : slice_get clauses i ≡ Some c = rw back at is in
-    let f : get_or clauses i c ≡ c = get_or_from_slice_get clauses i c c e in
-    rw (same, take_more clauses i c in', f) refl
+    sym (get_or_from_slice_get clauses i c c (ap (slice_get clauses) (sym back) ∙ is))
 
--- without the newest literal
-pub IsTrail-front : (clauses : List (List Lit)) (xs : List Assigned) (a : Assigned) → IsTrail clauses (xs ++ a ∷ []) → IsTrail clauses xs
-IsTrail-front clauses xs a trail i d h =
-    let there = trail i d (omega (arith, length-append xs (a ∷ []))) in
-    rw (take-append-le i xs (a ∷ []) (omega arith), get_or_append_left xs (a ∷ []) d i h) at there
-
-pub last_open : (clauses : List (List Lit)) (xs : List Assigned) (a : Assigned) → IsTrail clauses (xs ++ a ∷ []) → IsOpen (falses_of xs) a.lit
-last_open clauses xs a trail =
-    let there = trail (length xs) a (omega (arith, length-append xs (a ∷ []))) in
-    let front : take (length xs) (xs ++ a ∷ []) ≡ xs = take-append-le (length xs) xs (a ∷ []) (omega arith) ∙ take_all (length xs) xs (omega arith) in
-    let placed = rw (front, get_or-append_seam xs a [] a) at there in
-    placed_open clauses xs a placed
-
--- where the newest literal's level is above, there is one
-pub level_above : (clauses : List (List Lit)) (xs : List Assigned) (level : ℕ) → IsTrail clauses xs → level < level_of xs → 0 < length xs
-level_above clauses xs level trail h = let low = level_low_all clauses xs trail in omega (arith, low)
-
--- one more literal is undone
-pub undone_more : (old now : List Assigned) (level : ℕ) → now ≡ take (length now) old → length now ≤ length old → 0 < length now → level < level_of now →
-    ((j : ℕ) (d : Assigned) → length now ≤ j → j < length old → level < (get_or old j d).level) →
-    (take (length now - 1) now ≡ take (length (take (length now - 1) now)) old) × ((j : ℕ) (d : Assigned) → length (take (length now - 1) now) ≤ j → j < length old → level < (get_or old j d).level)
-undone_more old now level stays within some above undone =
-    let n : ℕ = length now in
-    let less : length (take (n - 1) now) ≡ n - 1 = omega (arith, length-take (n - 1) now) in (
-      ap (take (n - 1)) stays ∙ (take-take (n - 1) n old (omega arith) ∙ ap (λ (k : ℕ). take k old) (sym less)),
-      λ j d h m. elim (cases_lt j n) [
-        | inr ge ↦ undone j d ge m
-        | inl lt ↦
-            let is : j ≡ n - 1 = omega (arith, less) in
-            let top : level_of now ≡ (get_or old (n - 1) d).level = ap level_of stays ∙ level_last old n d some within in
-            let e : (get_or old j d).level ≡ (get_or old (n - 1) d).level = ap (λ (k : ℕ). (get_or old k d).level) is in
-            omega (arith, top, e)
-      ],
-    )
-
-pub members_vars : (vars : ℕ) (clauses local : List (List Lit)) (extra : List Step) → All (HasVarsUpTo vars) clauses → All (HasVarsUpTo vars) local → All (λ s. HasVarsUpTo vars s.clause) extra → All (HasVarsUpTo vars) (members_of (clauses ++ local) extra)
-members_vars vars clauses local extra a b c =
-    All-append (HasVarsUpTo vars) (clauses ++ local) _ (All-append (HasVarsUpTo vars) clauses local a b) (All-map (HasVarsUpTo vars) (λ (s : Step). s.clause) extra c)
-
-steps_long : (extra : List Step) → length (map (λ (s : Step). s.clause) extra) ≡ length extra
+pub steps_long : (extra : List Step) → length (map (λ (s : Step). s.clause) extra) ≡ length extra
 steps_long [] = refl
 steps_long (s ∷ ss) = let e = steps_long ss in omega (arith, e)
-
-pub members_long : (clauses local : List (List Lit)) (extra : List Step) → length (members_of (clauses ++ local) extra) ≡ length clauses + length local + length extra
-members_long clauses local extra =
-    omega (arith, length-append (clauses ++ local) (map (λ (s : Step). s.clause) extra), length-append clauses local, steps_long extra)

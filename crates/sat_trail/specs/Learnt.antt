@@ -1,5 +1,5 @@
 -- What can be said of the conflict that a clause is learnt from, and of the clause.
-use Rattle.std.specs.Prelude.{◌≡◌, ◌<◌, ◌⊎◌, ℕ, List, Contains, length, slice_index_or}
+use Rattle.std.specs.Prelude.{◌≡◌, ◌<◌, ◌≤◌, ◌⊎◌, ℕ, List, Contains, length, slice_index_or}
 use Rattle.cnf_core.specs.declared.literal.Lit.{Lit}
 use Rattle.cnf_core.specs.Literal.{negation_of}
 use Rattle.refutation_check.specs.Chain.{Names}
@@ -26,3 +26,12 @@ pub record IsAsserting (assigned : List Assigned) (clause : List Lit) : Type 0 w
   pub above : (d : Assigned) → 0 < (slice_index_or assigned place d).level
   pub has : (d : Assigned) → Contains clause (negation_of (slice_index_or assigned place d).lit)
   pub others : (l : Lit) (d : Assigned) → Contains clause l → (negation_of (slice_index_or assigned place d).lit ≡ l) ⊎ ((k : ℕ) × (k < length assigned) × ((slice_index_or assigned k d).level < (slice_index_or assigned place d).level) × (negation_of (slice_index_or assigned k d).lit ≡ l))
+
+-- one literal of the clause is of a level above this one, and the others are of levels up to it, one of them of it unless it is 0
+pub record IsBackLevel (assigned : List Assigned) (clause : List Lit) (level : ℕ) : Type 0 where
+  pub place : ℕ
+  pub in_range : place < length assigned
+  pub above : (d : Assigned) → level < (slice_index_or assigned place d).level
+  pub has : (d : Assigned) → Contains clause (negation_of (slice_index_or assigned place d).lit)
+  pub others : (l : Lit) (d : Assigned) → Contains clause l → (negation_of (slice_index_or assigned place d).lit ≡ l) ⊎ ((k : ℕ) × (k < length assigned) × ((slice_index_or assigned k d).level ≤ level) × (negation_of (slice_index_or assigned k d).lit ≡ l))
+  pub reached : 0 < level → (k : ℕ) × (k < length assigned) × ((d : Assigned) → (slice_index_or assigned k d).level ≡ level) × ((d : Assigned) → Contains clause (negation_of (slice_index_or assigned k d).lit))

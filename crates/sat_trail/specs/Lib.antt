@@ -1,6 +1,9 @@
 pub mod Trailed
 pub mod Closed
-pub mod Found
+pub mod Filling
 pub mod Kept
 pub mod Learnt
+pub mod Levels
 pub mod Learning
+pub mod Rounds
+pub mod Settling

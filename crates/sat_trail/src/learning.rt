@@ -1,5 +1,6 @@
 ghost use Rattle.std.specs.Prelude.{◌≡◌, false, ◌<◌, ◌+◌, [], All, length, IfOk, OnOk, MatchBool};
 ghost use Rattle.cnf_core.specs.Literal.{HasVarsUpTo};
+ghost use Rattle.clause_store.specs.Codes.{literals_of};
 ghost use Rattle.refutation_check.specs.Chain.{Refutes, IsChain, IsNovel};
 ghost use Rattle.refutation_check.specs.Marks.{IsWithin};
 ghost use Rattle.refutation_check.specs.SearchLog.{IsVarOf};
@@ -14,23 +15,26 @@ use cnf_core::{Clause, Lit, NoMemory};
 use refutation_check::{Hints, Step};
 use std::alloc::Global;
 
-/// Marks the variables of a clause.
-fn mark(seen: &mut Vec<bool>, lits: &[Lit])
-    requires { IsWithin (length seen.old.items) lits.now }
-    ensures marking { Marking seen.old.items seen.new.items lits.now }
+/// Marks the variables of a clause, by the numbers of its literals.
+fn mark(seen: &mut Vec<bool>, codes: &[u32])
+    requires { IsWithin (length seen.old.items) (literals_of codes.now) }
+    ensures marking { Marking seen.old.items seen.new.items (literals_of codes.now) }
     ensures long { length seen.new.items ≡ length seen.old.items }
 {
-    for lit in lits {
-        seen[lit.var as usize] = true;
+    for code in codes {
+        seen[(*code / 2) as usize] = true;
     }
 }
 
-/// Whether another literal of the level is marked.
+/// Whether another literal of the level is marked. The newest is looked at first: the next one that is marked is near.
 fn is_another(older: &[Assigned], seen: &[bool], level: u32) -> bool
     requires { All (λ a. a.lit.var < length seen.now) older.now }
     ensures { MatchBool result (HasAnother older.now seen.now level) (HasNoOther older.now seen.now level) }
 {
-    for a in older {
+    let mut n = older.len();
+    'looking: while n > 0 {
+        n -= 1;
+        let a = older[n];
         if a.level == level && seen[a.lit.var as usize] {
             return true;
         }
@@ -74,7 +78,7 @@ fn visit(
             Some(reason)
                 if is_resolved(a.level, &assigned[..n], seen.as_slice(), kept.as_slice()) => {
                 hints.push(reason)?;
-                mark(seen, trail.clause(reason).lits());
+                mark(seen, trail.codes(reason));
             }
             _ => kept.push(a.lit.negation())?,
         }
@@ -102,7 +106,7 @@ pub fn learn(alloc: Global, trail: &Trail, conflict: u32) -> Result<Step, NoMemo
     ensures novel { IsAbove trail.now.clauses trail.now.assigned conflict → IsClosedBelow trail.now.clauses trail.now.assigned → IfOk result (λ s. IsNovel trail.now.clauses s.clause) }
 {
     let mut seen = unmarked(alloc, trail.vars() as usize + 1)?;
-    mark(&mut seen, trail.clause(conflict).lits());
+    mark(&mut seen, trail.codes(conflict));
     let mut kept: Vec<Lit> = Vec::new(alloc);
     let mut hints: Vec<u32> = Vec::new(alloc);
     let mut n = trail.assigned().len();

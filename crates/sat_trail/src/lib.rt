@@ -1,7 +1,12 @@
-// A trail of assignments with their reasons and levels, propagation, and learning from a conflict.
+// A trail over clauses: propagation with two watched literals a clause, and learning from a conflict.
 #![tactic(auto)]
 
+mod filling;
+mod highest;
 mod learning;
+mod levels;
+mod rounds;
+mod settling;
 #[cfg(test)]
 mod tests;
 mod trail;

@@ -1,18 +1,26 @@
-ghost use Rattle.std.specs.Prelude.{◌≡◌, ◌+◌, ◌-◌, ◌<◌, ◌≤◌, ◌^◌, ◌++◌, ◌∷◌, [], ℕ, List, All, length, vec_len, vec_capacity, slice_set, IfOk, OnOk, OnErr, take, Contains, None, Some};
+ghost use Rattle.std.specs.Prelude.{◌≡◌, ◌+◌, ◌*◌, ◌<◌, ◌≤◌, ◌^◌, ◌++◌, ◌∷◌, [], List, All, IfOk, OnOk, OnErr, None, false, length, map};
 ghost use Rattle.cnf_core.specs.Literal.{HasVarsUpTo, IsClause};
+ghost use Rattle.clause_store.specs.Codes.{literals_of};
 ghost use Rattle.refutation_check.specs.Chain.{Names, IsChain, members_of};
-ghost use Rattle.refutation_check.specs.Marks.{IsWithin, IsFalseIn};
 ghost use Rattle.refutation_check.specs.Assumed.{IsOpen};
-ghost use Rattle.assignment_trail.specs.Trail.{IsTrail, IsPlaced, IsVarUpTo, IsBackTo, ForcesMore, falses_of, level_of};
+ghost use Rattle.assignment_trail.specs.declared.assigned.Assigned.{Assigned};
+ghost use Rattle.assignment_trail.specs.Trail.{IsTrail, IsVarUpTo, IsBackTo, ForcesMore, falses_of, level_of};
 ghost use Rattle.sat_trail.specs.Trailed.{IsVarLimit, IsValue};
-ghost use Rattle.sat_trail.specs.Closed.{IsPropagated};
-ghost use Rattle.sat_trail.specs.Found.{IsFound, IsForcedUpTo};
+ghost use Rattle.sat_trail.specs.Closed.{IsClosedBelow, IsPropagated};
+ghost use Rattle.sat_trail.specs.Learnt.{IsAsserting, IsBackLevel};
 
-use assignment_trail::Assigned;
+use super::filling::append;
+use super::highest::{highest_in_steps, highest_of};
+use super::levels::highest_below;
+use super::rounds::propagate_all;
+use assignment_trail::{Assigned, Assignment};
+use clause_store::Store;
 use cnf_core::{Clause, Cnf, Lit, NoMemory};
-use refutation_check::{Log, Sight, Step, look};
+use refutation_check::{Log, Step};
 use std::alloc::Global;
 use std::marker::Model;
+use watch_lists::WatchLists;
+use watched_literals::{Pending, back_to};
 
 /// What propagation came to.
 #[derive(Clone, Copy, Debug, PartialEq, Eq)]
@@ -23,22 +31,18 @@ pub enum Propagated {
     Conflict(u32),
 }
 
-/// What one look through all clauses finds, with the number of the clause.
-#[derive(Clone, Copy, Debug)]
-enum Found {
-    Falsified(u32),
-    Forcing(u32, Lit),
-    Quiet,
-}
-
 /// Clauses, numbered from 1, and the literals that are true, each decided or forced by a clause. Contracts
 /// see the number of variables, the clauses, and these literals, the oldest first.
+///
+/// Each clause of two or more literals has two watched literals. Where a watched literal is false and its consequences
+/// are drawn, the other one is true, at a level that isn't above that of the false one, or the clause is marked.
 #[derive(Debug, Drop)]
 pub struct Trail {
-    vars: u32,
-    clauses: Vec<Clause>,
-    marks: Vec<Option<bool>>,
-    assigned: Vec<Assigned>,
+    store: Store,
+    watches: WatchLists,
+    assignment: Assignment,
+    pending: Pending,
+    drawn: usize,
 }
 
 impl Model for Trail {
@@ -48,101 +52,9 @@ impl Model for Trail {
 
     ghost use Rattle.sat_trail.specs.Kept.{IsKept};
 
-    ghost view = { λ t. record { vars = t.vars; clauses = t.clauses.items; assigned = t.assigned.items } };
+    ghost view = { λ t. record { vars = t.assignment.vars; clauses = t.store; assigned = t.assignment.assigned } };
 
     ghost invariant = { IsKept };
-}
-
-/// Looks through the clauses for one that is falsified or forces a literal.
-fn scan_all(clauses: &[Clause], marks: &[Option<bool>]) -> Found
-    requires within { All (IsWithin (length marks.now)) clauses.now }
-    requires few { length clauses.now < 2 ^ 30 }
-    ensures found { IsFound clauses.now (IsFalseIn marks.now) result }
-    ensures in_range { IsForcedUpTo (length marks.now - 1) result }
-{
-    for (i, clause) in clauses.iter().enumerate() {
-        match look(marks, clause.lits()) {
-            Sight::Falsified => return Found::Falsified(i as u32 + 1),
-            Sight::Unit(l) => return Found::Forcing(i as u32 + 1, l),
-            Sight::Neither => {}
-        }
-    }
-    Found::Quiet
-}
-
-/// Marks a literal as true, and puts it at the end, where there is room for it.
-fn assign(marks: &mut Vec<Option<bool>>, assigned: &mut Vec<Assigned>, a: Assigned)
-    requires room { vec_len assigned.old < vec_capacity assigned.old }
-    requires in_range { a.lit.var < length marks.old.items }
-    ensures marks { marks.new.items ≡ slice_set marks.old.items a.lit.var (Some a.lit.positive) }
-    ensures assigned { assigned.new.items ≡ assigned.old.items ++ a ∷ [] }
-    ensures capacity { vec_capacity assigned.old ≤ vec_capacity assigned.new }
-{
-    marks[a.lit.var as usize] = Some(a.lit.positive);
-    let _ = assigned.push(a);
-}
-
-fn newest_level(assigned: &[Assigned]) -> u32
-    ensures { result ≡ level_of assigned.now }
-{
-    assigned.last().map_or(0, |a| a.level)
-}
-
-fn put_copy(alloc: Global, clauses: &mut Vec<Clause>, clause: &Clause) -> Result<(), NoMemory>
-    requires { All IsClause clauses.old.items }
-    ensures items { OnOk result (clauses.new.items ≡ clauses.old.items ++ clause.now ∷ []) }
-    ensures each { OnOk result (All IsClause clauses.new.items) }
-{
-    let copy = clause.copy(alloc)?;
-    let _ = copy.lits();
-    clauses.push(copy)?;
-    Ok(())
-}
-
-/// Copies of the clauses of the formula, the local clauses and the clauses of the steps.
-fn copies(alloc: Global, f: &Cnf, local: &[Clause], extra: &[Step]) -> Result<Vec<Clause>, NoMemory>
-    ensures clauses { IfOk result (λ v. v.items ≡ members_of (f.now.clauses ++ local.now) extra.now) }
-    ensures each { IfOk result (λ v. All IsClause v.items) }
-{
-    let mut clauses = Vec::new(alloc);
-    for i in 0..f.len() {
-        put_copy(alloc, &mut clauses, f.clause(i + 1))?;
-    }
-    for clause in local {
-        put_copy(alloc, &mut clauses, clause)?;
-    }
-    for step in extra {
-        put_copy(alloc, &mut clauses, &step.clause)?;
-    }
-    Ok(clauses)
-}
-
-/// The highest variable of a clause, or the given one where that is higher.
-fn highest_in(lits: &[Lit], given: u32) -> u32
-    ensures at_least { given ≤ result }
-    ensures within { HasVarsUpTo result lits.now }
-    ensures least { (n : ℕ) → given ≤ n → HasVarsUpTo n lits.now → result ≤ n }
-{
-    let mut highest = given;
-    for lit in lits {
-        if lit.var > highest {
-            highest = lit.var;
-        }
-    }
-    highest
-}
-
-/// The highest variable of the clauses, or the given one where that is higher.
-fn highest_of(clauses: &[Clause], given: u32) -> u32
-    requires { given < 2 ^ 31 }
-    ensures limit { IsVarLimit given clauses.now result }
-    ensures small { result < 2 ^ 31 }
-{
-    let mut highest = given;
-    for clause in clauses {
-        highest = highest_in(clause.lits(), highest);
-    }
-    highest
 }
 
 impl Trail {
@@ -154,16 +66,84 @@ impl Trail {
         ensures vars { IfOk result (λ t. IsVarLimit f.now.vars t.clauses t.vars) }
         ensures assigned { IfOk result (λ t. t.assigned ≡ []) }
     {
-        let clauses = copies(alloc, f, local, extra.steps())?;
-        let vars = highest_of(clauses.as_slice(), f.vars());
-        let marks = vec![in alloc; None; vars as usize + 1]?;
-        let assigned = Vec::with_capacity(alloc, vars as usize + 1)?;
+        let vars = highest_in_steps(extra.steps(), highest_of(local, f.vars()));
+        let mut trail = Trail::none(alloc, vars)?;
+        trail.fill_from(f)?;
+        trail.fill_with(local)?;
+        trail.fill_with_steps(extra.steps())?;
+        Ok(trail)
+    }
+
+    /// No clauses, over the variables up to this one.
+    fn none(alloc: Global, vars: u32) -> Result<Trail, NoMemory>
+        requires { vars < 2 ^ 31 }
+        ensures { IfOk result (λ t. t ≡ record { vars = vars; clauses = []; assigned = [] }) }
+    {
+        let watches = WatchLists::new(alloc, 2 * vars as usize + 2)?;
+        let assignment = Assignment::none(alloc, vars)?;
         Ok(Trail {
-            vars,
-            clauses,
-            marks,
-            assigned,
+            store: Store::new(alloc),
+            watches,
+            assignment,
+            pending: Pending::new(alloc),
+            drawn: 0,
         })
+    }
+
+    /// A clause more. After an error the trail is as before.
+    fn put(&mut self, clause: &Clause, is_marked: bool) -> Result<(), NoMemory>
+        requires vars { HasVarsUpTo self.old.vars clause.now }
+        requires few { length self.old.clauses + 1 < 2 ^ 30 }
+        requires unmarked { is_marked ≡ false → self.old.assigned ≡ [] }
+        ensures ok { OnOk result (self.new ≡ record self.old { clauses = self.old.clauses ++ clause.now ∷ [] }) }
+        ensures err { OnErr result (self.new ≡ self.old) }
+    {
+        append(
+            &mut self.store,
+            &mut self.watches,
+            &self.assignment,
+            &mut self.pending,
+            self.drawn,
+            clause,
+            is_marked,
+        )?;
+        Ok(())
+    }
+
+    fn fill_from(&mut self, f: &Cnf) -> Result<(), NoMemory>
+        requires vars { f.now.vars ≤ self.old.vars }
+        requires few { length self.old.clauses + length f.now.clauses < 2 ^ 30 }
+        requires empty { self.old.assigned ≡ [] }
+        ensures { OnOk result (self.new ≡ record self.old { clauses = self.old.clauses ++ f.now.clauses }) }
+    {
+        for i in 0..f.len() {
+            self.put(f.clause(i + 1), false)?;
+        }
+        Ok(())
+    }
+
+    fn fill_with(&mut self, clauses: &[Clause]) -> Result<(), NoMemory>
+        requires vars { All (HasVarsUpTo self.old.vars) clauses.now }
+        requires few { length self.old.clauses + length clauses.now < 2 ^ 30 }
+        requires empty { self.old.assigned ≡ [] }
+        ensures { OnOk result (self.new ≡ record self.old { clauses = self.old.clauses ++ clauses.now }) }
+    {
+        for clause in clauses {
+            self.put(clause, false)?;
+        }
+        Ok(())
+    }
+
+    fn fill_with_steps(&mut self, steps: &[Step]) -> Result<(), NoMemory>
+        requires vars { All (λ s. HasVarsUpTo self.old.vars s.clause) steps.now }
+        requires few { length self.old.clauses + length steps.now < 2 ^ 30 }
+        requires empty { self.old.assigned ≡ [] }
+        ensures { OnOk result (self.new ≡ record self.old { clauses = self.old.clauses ++ map (λ s. s.clause) steps.now }) }
+    {
+        for step in steps {
+            self.put(&step.clause, false)?;
+        }
+        Ok(())
     }
 
     /// The number of decisions that are in force.
@@ -174,7 +154,8 @@ impl Trail {
         ensures few { length self.now.assigned ≤ self.now.vars + 1 }
         ensures small { self.now.vars < 2 ^ 31 }
     {
-        newest_level(self.assigned.as_slice())
+        let _count = self.assignment.len();
+        self.assignment.level()
     }
 
     /// The value of a variable, from 1 to the number of variables, or none where it is open.
@@ -183,7 +164,8 @@ impl Trail {
         requires in_range { var ≤ self.now.vars }
         ensures { IsValue (falses_of self.now.assigned) var result }
     {
-        self.marks[var as usize]
+        let _vars = self.assignment.vars();
+        self.assignment.value(2 * var + 1)
     }
 
     /// The number of variables, at most 2,147,483,647.
@@ -193,53 +175,42 @@ impl Trail {
         ensures clauses { All IsClause self.now.clauses }
         ensures within { All (HasVarsUpTo self.now.vars) self.now.clauses }
     {
-        self.vars
+        let _clauses = self.store.len();
+        self.assignment.vars()
     }
 
     /// The literals that are true, the oldest first.
-    pub fn assigned(&self) -> &[Assigned]
+    pub(crate) fn assigned(&self) -> &[Assigned]
         ensures assigned { result.now ≡ self.now.assigned }
         ensures trail { IsTrail self.now.clauses self.now.assigned }
         ensures in_range { All (IsVarUpTo self.now.vars) self.now.assigned }
         ensures few { length self.now.assigned ≤ self.now.vars + 1 }
     {
-        self.assigned.as_slice()
+        let _count = self.assignment.len();
+        self.assignment.literals()
     }
 
-    /// The clause of this number, from 1 to the number of clauses.
-    pub fn clause(&self, number: u32) -> &Clause
+    /// The numbers of the literals of the clause of this number, from 1 to the number of clauses.
+    pub(crate) fn codes(&self, number: u32) -> &[u32]
         requires from_one { 1 ≤ number }
         requires in_range { number ≤ length self.now.clauses }
-        ensures clause { Names self.now.clauses number result.now }
-        ensures vars { HasVarsUpTo self.now.vars result.now }
+        ensures clause { Names self.now.clauses number (literals_of result.now) }
+        ensures vars { HasVarsUpTo self.now.vars (literals_of result.now) }
     {
-        &self.clauses[number as usize - 1]
+        self.store.codes(number)
     }
 
-    fn scan(&self) -> Found
-        ensures found { IsFound self.now.clauses (Contains (falses_of self.now.assigned)) result }
-        ensures trail { IsTrail self.now.clauses self.now.assigned }
-        ensures in_range { IsForcedUpTo self.now.vars result }
+    /// The level to go back to for a clause that was learnt: the second highest level of its literals, or 0. A trail that
+    /// was closed before each decision is still so there, with the clause too.
+    pub fn back_level(&self, lits: &[Lit]) -> u32
+        requires asserting { IsAsserting self.now.assigned lits.now }
+        requires vars { HasVarsUpTo self.now.vars lits.now }
+        ensures level { IsBackLevel self.now.assigned lits.now result }
+        ensures closed { IsClosedBelow self.now.clauses self.now.assigned → (assigned : List Assigned) → IsBackTo result self.now.assigned assigned → IsClosedBelow (self.now.clauses ++ lits.now ∷ []) assigned }
     {
-        scan_all(self.clauses.as_slice(), self.marks.as_slice())
-    }
-
-    fn place(&mut self, a: Assigned)
-        requires placed { IsPlaced self.old.clauses self.old.assigned a }
-        requires in_range { IsVarUpTo self.old.vars a }
-        ensures trail { self.new ≡ record self.old { assigned = self.old.assigned ++ a ∷ [] } }
-        ensures room { length self.new.assigned ≤ self.new.vars + 1 }
-    {
-        assign(&mut self.marks, &mut self.assigned, a);
-    }
-
-    fn undo(&mut self)
-        requires { 0 < length self.old.assigned }
-        ensures { self.new ≡ record self.old { assigned = take (length self.old.assigned - 1) self.old.assigned } }
-    {
-        if let Some(a) = self.assigned.pop() {
-            self.marks[a.lit.var as usize] = None;
-        }
+        let _level = self.level();
+        let top = highest_below(&self.assignment, lits, u32::MAX);
+        highest_below(&self.assignment, lits, top)
     }
 
     /// Undoes the levels above this one.
@@ -248,9 +219,14 @@ impl Trail {
         ensures clauses { self.new.clauses ≡ self.old.clauses }
         ensures assigned { IsBackTo level self.old.assigned self.new.assigned }
     {
-        'undoing: while self.level() > level {
-            self.undo();
-        }
+        back_to(
+            &self.store,
+            &self.watches,
+            &mut self.assignment,
+            &self.pending,
+            &mut self.drawn,
+            level,
+        );
     }
 
     /// Adds a clause that follows from the others by its hints, and answers its number. Its variables are
@@ -264,9 +240,8 @@ impl Trail {
         ensures number { IfOk result (λ n. n ≡ length self.new.clauses) }
         ensures err { OnErr result (self.new ≡ self.old) }
     {
-        let _ = s.clause.lits();
-        self.clauses.push(s.clause)?;
-        Ok(self.clauses.len() as u32)
+        self.put(&s.clause, true)?;
+        Ok(self.store.len())
     }
 
     /// Makes an open literal true, on a new level.
@@ -277,14 +252,14 @@ impl Trail {
         ensures { self.new ≡ record self.old { assigned = self.old.assigned ++ record { lit = l; level = level_of self.old.assigned + 1; reason = None } ∷ [] } }
     {
         let level = self.level() + 1;
-        self.place(Assigned {
+        self.assignment.assign(Assigned {
             lit: l,
             level,
             reason: None,
         });
     }
 
-    /// Makes true what the clauses force, until nothing is left or a clause is falsified.
+    /// Makes true what the clauses force, until nothing is left or a clause is falsified. It takes no memory.
     pub fn propagate(&mut self) -> Propagated
         ensures propagated { IsPropagated self.new result }
         ensures vars { self.new.vars ≡ self.old.vars }
@@ -293,19 +268,16 @@ impl Trail {
         ensures level { level_of self.new.assigned ≡ level_of self.old.assigned }
         ensures trail { IsTrail self.new.clauses self.new.assigned }
     {
-        'rounds: loop {
-            match self.scan() {
-                Found::Falsified(n) => return Propagated::Conflict(n),
-                Found::Quiet => return Propagated::Closed,
-                Found::Forcing(n, l) => {
-                    let level = self.level();
-                    self.place(Assigned {
-                        lit: l,
-                        level,
-                        reason: Some(n),
-                    });
-                }
-            }
+        let _clauses = self.store.len();
+        match propagate_all(
+            &self.store,
+            &mut self.watches,
+            &mut self.assignment,
+            &mut self.pending,
+            &mut self.drawn,
+        ) {
+            Some(n) => Propagated::Conflict(n + 1),
+            None => Propagated::Closed,
         }
     }
 }

@@ -1,5 +1,4 @@
 mod Runs
-mod Beside
 mod Refuted
 mod OneFloor
 mod Searched

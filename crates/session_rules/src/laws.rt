@@ -2,8 +2,8 @@
 ghost use Rattle.std.specs.Prelude.{◌≡◌, ◌≢◌, ◌↔◌, ◌+◌, ◌≤◌, ◌<◌, ◌++◌, ◌∷◌, [], ℕ, List, length, IsTrue, All, AllPairs, Contains};
 ghost use Rattle.std.specs.List.{AllZip};
 ghost use Rattle.rel_formula.specs.Bounds.{Bounded, IsProblem};
-ghost use Rattle.rel_formula.specs.Instance.{IsScenario, IsMinimalAbove};
-ghost use Rattle.rel_formula.specs.Renaming.{IsRenamingBeside, IsSymmetric};
+ghost use Rattle.rel_formula.specs.Instance.{IsMinimalAbove};
+ghost use Rattle.rel_formula.specs.Renaming.{IsSymmetric};
 ghost use Rattle.swap_symmetry.specs.Due.{IsDue};
 ghost use Rattle.refutation_check.specs.Chain.{IsAccepted, EndsEmpty};
 ghost use Rattle.refutation_check.specs.SearchLog.{IsSearchLog, novel_steps};
@@ -33,23 +33,14 @@ use crate::answers::{Refusal, Reply};
 use crate::end_proof::ProofKind;
 use refutation_check::{accepted_is_entailed, lifted_pool_and_log_are_accepted};
 use session_words::{Command, Step};
-use translation_rules::laws::{
-    free_swaps_are_tested, local_clauses_say_what_is_left, refuted_units_are_impossible,
-};
+use swap_symmetry::laws::each_minimal_has_a_due_renaming_beside;
+use translation_rules::laws::{local_clauses_say_what_is_left, refuted_units_are_impossible};
 
 /// What a run from the start shows at a floor is due there, each scenario once; where a floor has ended, all that is due there
 /// was shown.
 pub fn a_run_is_sound()
     ensures { (p : Bounded) (s : State) → IsReached p s → IsSound p s }
 {}
-
-/// Each minimal scenario above a floor is a renaming, one that keeps the floor's atoms, of one that is due there.
-pub fn each_minimal_has_a_due_renaming_beside()
-    ensures { (p : Bounded) → IsProblem p → IsSymmetric p → (floor : List ℕ) → IsScenario p floor → (s : List ℕ) → IsMinimalAbove p floor s
-        → (t : List ℕ) × IsRenamingBeside p floor s t × IsDue p floor t }
-{
-    free_swaps_are_tested();
-}
 
 /// Where a session answers an end, each scenario that is minimal above the floor has a renaming that keeps the floor's atoms
 /// and was shown there.

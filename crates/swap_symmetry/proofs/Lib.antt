@@ -1,8 +1,12 @@
 pub mod Compared
 pub mod First
-pub mod Neighbours
+pub mod Adjacent
+pub mod Listed
 pub mod SwapLemmas
 pub mod Weights
 pub mod Tried
+pub mod Stands
+pub mod Beside
 pub mod Descent
+pub mod SoFar
 pub mod Two

@@ -87,6 +87,17 @@ heavier count (x ∷ xs) (y ∷ ys) up vp all also e = elim (cases_lt x y) [
   ]
 ]
 
+-- what a list's weight lacks
+abbrev pub lacks : ℕ → List ℕ → ℕ
+lacks count s = doubled count - weight count s
+
+-- the earlier one of two lists lacks less
+pub lacks_less : (count : ℕ) (t s : List ℕ) → Rises t → Rises s → AllBelow count t → AllBelow count s → IsEarlier t s → lacks count t < lacks count s
+lacks_less count t s up vp all also e =
+    let more = heavier count t s up vp all also e in
+    let most = bounded count t up all in
+    omega arith
+
 module _ (count : ℕ) (P : List ℕ → Type 0)
     (step : (s : List ℕ) → Rises s → AllBelow count s → ((t : List ℕ) → Rises t → AllBelow count t → IsEarlier t s → P t) → P s) where
   -- the rest that a list's weight lacks falls where the list gets earlier

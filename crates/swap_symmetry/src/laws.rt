@@ -7,7 +7,7 @@ ghost use Rattle.rel_formula.specs.Instance.{IsScenario, IsMinimalAbove};
 ghost use Rattle.rel_formula.specs.Renaming.{IsImage, IsSymmetric};
 ghost use Rattle.swap_symmetry.specs.Order.{IsEarlier};
 ghost use Rattle.swap_symmetry.specs.Swaps.{AreNeighbours, IsSettled, IsSettledBeside};
-ghost use Rattle.swap_symmetry.specs.Due.{HasDueRenaming};
+ghost use Rattle.swap_symmetry.specs.Due.{HasDueRenaming, HasDueRenamingBeside};
 
 /// Of two different scenarios exactly one is earlier.
 pub fn one_is_earlier()
@@ -35,4 +35,10 @@ pub fn settled_is_beside_nothing()
 /// Each minimal scenario of a symmetric problem is a renaming of one that is due at the empty floor.
 pub fn each_minimal_has_a_due_renaming()
     ensures { (p : Bounded) → IsProblem p → IsSymmetric p → (s : List ℕ) → IsMinimalAbove p [] s → HasDueRenaming p s }
+{}
+
+/// Each minimal scenario above a floor is a renaming, one that keeps the floor's atoms, of one that is due there.
+pub fn each_minimal_has_a_due_renaming_beside()
+    ensures { (p : Bounded) → IsProblem p → IsSymmetric p → (floor : List ℕ) → IsScenario p floor → (s : List ℕ) → IsMinimalAbove p floor s
+        → HasDueRenamingBeside p floor s }
 {}

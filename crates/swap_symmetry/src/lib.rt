@@ -3,9 +3,13 @@
 
 pub mod laws;
 mod order;
+mod pairs;
 mod settled;
+mod settling;
 #[cfg(test)]
 mod tests;
 
 pub use crate::order::earlier;
+pub use crate::pairs::neighbours;
 pub use crate::settled::{is_settled, is_settled_beside};
+pub use crate::settling::{settle, settle_beside};

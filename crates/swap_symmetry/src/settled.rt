@@ -1,11 +1,11 @@
 // Settled scenarios.
-ghost use Rattle.std.specs.Prelude.{◌≡◌, ◌↔◌, ◌<◌, ℕ, List, length, slice_get, Some, Contains, IsTrue};
+ghost use Rattle.std.specs.Prelude.{◌≡◌, ◌↔◌, ◌<◌, ℕ, List, length, slice_get, Some, None, Contains, IsTrue, IfSome};
 ghost use Rattle.tuple_core.specs.declared.atom.Atom.{Atom as AtomRecord};
-ghost use Rattle.rel_formula.specs.Bounds.{cell_of, cells_of};
+ghost use Rattle.rel_formula.specs.Bounds.{IsProblem, cell_of, cells_of};
 ghost use Rattle.rel_formula.specs.Instance.{StandsIn};
-ghost use Rattle.swap_symmetry.specs.Swaps.{IsTakenInto, SwapIsEarlier, IsFreeOf, IsSettled, IsSettledBeside};
+ghost use Rattle.swap_symmetry.specs.Swaps.{AreNeighbours, IsTakenInto, SwapIsEarlier, IsFreeOf, IsSettled, IsSettledBeside};
 
-use rel_formula::{Cell, Problem, Scenario};
+use rel_formula::{Problem, Scenario};
 use tuple_core::Atom;
 
 /// Whether no swap of two neighbouring atoms of one top-level signature makes the scenario earlier.
@@ -26,6 +26,19 @@ pub fn is_settled_beside(problem: &Problem, floor: &Scenario, scenario: &Scenari
 fn is_settled_without(problem: &Problem, floor: &[u32], scenario: &Scenario) -> bool
     ensures { IsTrue result ↔ IsSettledBeside problem.now floor.now scenario.now }
 {
+    earlier_swap(problem, floor, scenario).is_none()
+}
+
+// A swap of neighbours that stand in none of these cells, which makes the scenario earlier, if there is one.
+pub(crate) fn earlier_swap(
+    problem: &Problem,
+    floor: &[u32],
+    scenario: &Scenario,
+) -> Option<(Atom, Atom)>
+    ensures well { IsProblem problem.now }
+    ensures some { IfSome result (λ pair. AreNeighbours problem.now pair.0 pair.1 × IsFreeOf problem.now floor.now pair.0 pair.1 × SwapIsEarlier problem.now pair.0 pair.1 (Contains scenario.now)) }
+    ensures none { (result ≡ None) → IsSettledBeside problem.now floor.now scenario.now }
+{
     let atoms = problem.atoms().rows();
     for place in 1..atoms.len() {
         let first = atoms[place - 1].first();
@@ -33,10 +46,10 @@ fn is_settled_without(problem: &Problem, floor: &[u32], scenario: &Scenario) -> 
         if first.top == second.top
             && free_swap_is_earlier(problem, floor, scenario, first, second)
         {
-            return false;
+            return Some((first, second));
         }
     }
-    true
+    None
 }
 
 // Whether the swap leaves the floor alone and makes the scenario earlier.
@@ -98,12 +111,7 @@ fn is_taken_into(
     requires { number < length (cells_of problem.now) }
     ensures { IsTrue result ↔ IsTakenInto problem.now first second (Contains scenario.now) number }
 {
-    let cell = problem.cell(number);
-    let image = Cell {
-        relation: cell.relation,
-        tuple: cell.tuple.swapped(first, second),
-    };
-    match problem.number_of(&image) {
+    match problem.swapped(number, first, second) {
         Some(taken) => scenario.has(taken),
         None => false,
     }

@@ -1,9 +1,11 @@
 // That the order and the settled scenarios are those of the field: a problem worked out by hand.
 ghost use Rattle.std.specs.Prelude.{◌≡◌, ◌<◌, All, IfOk};
 ghost use Rattle.rel_formula.specs.Instance.{AreCells};
+ghost use Rattle.rel_formula.specs.Renaming.{IsSymmetric};
 
 use crate::order::earlier;
 use crate::settled::{is_settled, is_settled_beside};
+use crate::settling::{settle, settle_beside};
 use rel_formula::{Expression, Formula, Problem, Relation, Scenario};
 use std::alloc::{AllocError, Global};
 use std::process::Abort;
@@ -66,6 +68,34 @@ fn arrows_among(rt: &impl Abort, alloc: Global, places: &[u16]) -> Result<Proble
         tops,
         Formula::AtLeast(2, Expression::Rel(1)),
     )
+}
+
+// `sig A {} sig P in A {} sig Q in A {} run { some Q }`, where A has the atoms at these places.
+fn two_sets_of(rt: &impl Abort, alloc: Global, places: &[u16]) -> Result<Problem, AllocError>
+    ensures { IfOk result IsSymmetric }
+{
+    let all = atoms(alloc, places)?;
+    assert!(rt; all.rows().len() <= 1024);
+    let fixed = Relation {
+        name: Name::of(alloc, "A")?,
+        lower: all.copy(alloc)?,
+        upper: all.copy(alloc)?,
+    };
+    let first = Relation {
+        name: Name::of(alloc, "P")?,
+        lower: TupleSet::new(alloc, 1),
+        upper: all.copy(alloc)?,
+    };
+    let second = Relation {
+        name: Name::of(alloc, "Q")?,
+        lower: TupleSet::new(alloc, 1),
+        upper: all.copy(alloc)?,
+    };
+    let relations = vec![in alloc; fixed, first, second]?;
+    let tops = vec![in alloc; 0]?;
+    let some = Formula::AtLeast(1, Expression::Rel(2));
+    let problem = Problem::of(alloc, relations, tops, some)?;
+    Ok(problem)
 }
 
 // The scenario of those of these numbers that cells of the problem have.
@@ -167,5 +197,68 @@ fn order(rt: HostRuntime) -> Result<(), Fail> {
     assert!(rt; !is_earlier(alloc, &problem, &[1, 6], &[1, 5])?);
     assert!(rt; !is_earlier(alloc, &problem, &[1, 6], &[1, 6])?);
     assert!(rt; is_earlier(alloc, &problem, &[1, 6], &[1])?);
+    Ok(())
+}
+
+// Whether the scenario of the first numbers, made settled, is that of the others.
+fn becomes(
+    alloc: Global,
+    problem: &Problem,
+    numbers: &[u32],
+    wanted: &[u32],
+) -> Result<bool, AllocError>
+    requires { IsSymmetric problem.now }
+{
+    let mut scenario = chosen(alloc, problem, numbers)?;
+    settle(problem, &mut scenario);
+    Ok(scenario.numbers() == wanted)
+}
+
+// Whether the second scenario, made settled beside the first, is the third.
+fn becomes_beside(
+    alloc: Global,
+    problem: &Problem,
+    floor: &[u32],
+    numbers: &[u32],
+    wanted: &[u32],
+) -> Result<bool, AllocError>
+    requires { IsSymmetric problem.now }
+{
+    let floor = chosen(alloc, problem, floor)?;
+    let mut scenario = chosen(alloc, problem, numbers)?;
+    settle_beside(problem, &floor, &mut scenario);
+    Ok(scenario.numbers() == wanted)
+}
+
+// The cells are P of the atoms, and then Q of the atoms.
+#[test]
+fn settling_two_sets(rt: HostRuntime) -> Result<(), Fail> {
+    let alloc = rt.alloc();
+    let problem = two_sets_of(&rt, alloc, &[0, 1])?;
+    assert!(rt; settled(alloc, &problem, &[0, 3])?);
+    assert!(rt; !settled(alloc, &problem, &[3])?);
+    assert!(rt; becomes(alloc, &problem, &[3], &[2])?);
+    assert!(rt; becomes(alloc, &problem, &[0, 3], &[0, 3])?);
+    Ok(())
+}
+
+// Three swaps, one after another.
+#[test]
+fn settling_step_by_step(rt: HostRuntime) -> Result<(), Fail> {
+    let alloc = rt.alloc();
+    let problem = two_sets_of(&rt, alloc, &[0, 1, 2])?;
+    assert!(rt; becomes(alloc, &problem, &[2, 4], &[0, 4])?);
+    assert!(rt; becomes(alloc, &problem, &[1, 2, 5], &[0, 1, 3])?);
+    Ok(())
+}
+
+// Atoms that stand in the floor stay where they are.
+#[test]
+fn settling_beside_a_floor(rt: HostRuntime) -> Result<(), Fail> {
+    let alloc = rt.alloc();
+    let problem = two_sets_of(&rt, alloc, &[0, 1, 2])?;
+    assert!(rt; becomes_beside(alloc, &problem, &[0], &[0, 5], &[0, 4])?);
+    assert!(rt; becomes_beside(alloc, &problem, &[1], &[1, 5], &[1, 5])?);
+    assert!(rt; becomes_beside(alloc, &problem, &[2], &[2, 4], &[2, 3])?);
     Ok(())
 }

@@ -41,7 +41,7 @@ one_value v w (l ∷ ls) same =
     cc
 
 -- and so satisfy the same clauses
-carried : (v w : ℕ → Bool) (clauses : List (List Lit)) → ((n : ℕ) → IsVarOf clauses n → v n ≡ w n) → Satisfies w clauses → Satisfies v clauses
+pub carried : (v w : ℕ → Bool) (clauses : List (List Lit)) → ((n : ℕ) → IsVarOf clauses n → v n ≡ w n) → Satisfies w clauses → Satisfies v clauses
 carried v w clauses same holds k d in' =
     one_value v w (get_or clauses k d) (λ l h. same l.var (record {
       clause = get_or clauses k d;

@@ -1,4 +1,4 @@
 pub mod Tests
 mod FreeLemmas
-mod Joining
+pub mod Joining
 mod Said

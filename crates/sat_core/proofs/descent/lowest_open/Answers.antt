@@ -14,3 +14,6 @@ returns-then-is_none-clause-lowest c =
       is_open = unvalued _ _ c.value.result _ c.value.ensures c.is_none.ensures c.if-is_none.true;
       lower = rw back c.loop-var.invariant;
     }
+
+pub returns-clause-lowest : goal.returns-clause-lowest
+returns-clause-lowest c = λ var low high. c.loop-var.invariant var low (omega (arith, high, c.loop-var-test.false, c.vars-var-end.ensures.vars))

@@ -5,9 +5,9 @@ use Rattle.sat_trail.proofs.learning.learn.Goals as goal
 
 pub loop-n-init : goal.loop-n-init
 loop-n-init c =
-    let marking = rw c.lits.ensures.lits at c.mark.ensures.marking in
+    let marking = c.mark.ensures.marking in
     record {
-      so_far = rw (c.new-kept.ensures.items, c.new-hints.ensures.items, c.assigned-n.ensures.assigned) (learning_start _ _ c.assigned-n.ensures.trail _ _ _ _ (none_seen _ c.in_ok-seen.ensures.unmarked) c.requires c.clause.ensures.clause marking);
+      so_far = rw (c.new-kept.ensures.items, c.new-hints.ensures.items, c.assigned-n.ensures.assigned) (learning_start _ _ c.assigned-n.ensures.trail _ _ _ _ (none_seen _ c.in_ok-seen.ensures.unmarked) c.requires c.codes.ensures.clause marking);
       long = omega (arith, c.mark.ensures.long, c.in_ok-seen.ensures.long, c.vars.ensures.vars);
       in_range = omega (arith, ap length c.assigned-n.ensures.assigned);
     }

@@ -4,8 +4,8 @@ use Rattle.sat_trail.proofs.Learned.{learning_skip, learning_keep, learning_reso
 use Rattle.sat_trail.proofs.learning.visit.Goals as goal
 use Rattle.sat_trail.proofs.learning.visit.Goals.{in_default-via-in-Some+else-is_resolved, in_default-via-in_default}
 
-pub clause-requires-clause-in_range : goal.clause-requires-clause-in_range
-clause-requires-clause-in_range c =
+pub codes-requires-clause-in_range : goal.codes-requires-clause-in_range
+codes-requires-clause-in_range c =
     let is = rw c.assigned-assigned.ensures.assigned at c.in-Some.is in
     let forced = placed_forced _ _ _ _ (c.assigned-assigned.ensures.trail c.args.n (record { lit = record { var = 0; positive = false }; level = 0; reason = None }) c.requires.in_range) is in
     named_in _ _ _ forced.named
@@ -18,8 +18,8 @@ returns-in_ok-push-in-Some-clause-so_far c =
     let range = c.assigned-assigned.ensures.in_range c.args.n d c.requires.in_range in
     let seen = rw c.assigned-assigned.ensures.assigned at c.index.ensures in
     let marked = seen_at c.args.seen.now.items (get_or c.args.trail.now.assigned c.args.n d).lit.var _ (omega (arith, range.1, c.requires.long)) seen c.if-index.true in
-    let marking = rw c.lits.ensures.lits at c.mark.ensures.marking in
-    rw c.in_ok-push-in-Some.ensures.items (learning_resolve _ _ c.assigned-assigned.ensures.trail _ _ _ _ _ _ c.requires.in_range c.requires.so_far _ _ _ forced c.clause.ensures.clause marking (resolved_why c.args.trail.now.assigned c.args.n _ _ _ (rw (c.assigned-assigned.ensures.assigned, c.as_slice.ensures.value, c.as_slice-in-Some-1.ensures.value) at c.if-is_resolved.ensures)) marked)
+    let marking = c.mark.ensures.marking in
+    rw c.in_ok-push-in-Some.ensures.items (learning_resolve _ _ c.assigned-assigned.ensures.trail _ _ _ _ _ _ c.requires.in_range c.requires.so_far _ _ _ forced c.codes.ensures.clause marking (resolved_why c.args.trail.now.assigned c.args.n _ _ _ (rw (c.assigned-assigned.ensures.assigned, c.as_slice.ensures.value, c.as_slice-in-Some-1.ensures.value) at c.if-is_resolved.ensures)) marked)
 
 pub returns-in_ok-push-in_default-clause-so_far : goal.returns-in_ok-push-in_default-clause-so_far
 returns-in_ok-push-in_default-clause-so_far c =

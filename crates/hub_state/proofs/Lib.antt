@@ -1,0 +1,9 @@
+mod Journals
+mod Growing
+mod Sharing
+mod Appending
+mod Bottom
+mod Ended
+mod Sessions
+mod Restating
+mod Turned

@@ -1,0 +1,2 @@
+pub mod HubView
+pub mod Held

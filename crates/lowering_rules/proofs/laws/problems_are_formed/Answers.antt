@@ -1,0 +1,5 @@
+use Rattle.lowering_rules.proofs.Formed.{is_problem}
+use Rattle.lowering_rules.proofs.laws.problems_are_formed.Goals as goal
+
+pub returns : goal.returns
+returns c = is_problem

@@ -1,0 +1,11 @@
+pub mod Shifted
+pub mod Parts
+pub mod Binders
+pub mod Lowering
+pub mod Calls
+pub mod Relations
+pub mod Formula
+pub mod Problem
+pub mod Shapes
+pub mod Typed
+pub mod Rows

@@ -1,0 +1,41 @@
+// Why a model and a command have no problem.
+ghost use Rattle.std.specs.Prelude.{◌≡◌};
+
+use named_model::NameFault;
+use std::alloc::{AllocError, AllocFailed};
+
+/// Why a model and a command have no problem.
+#[derive(Clone, Copy, Debug, PartialEq, Eq)]
+pub enum LowerFault {
+    /// There is no command of that number.
+    NoCommand,
+    /// The signatures have no sizes under the command.
+    Scope(NameFault),
+    /// There are more than 128 signatures and fields.
+    TooManyRelations,
+    /// There are more than 4,096 cells.
+    TooManyCells,
+    /// The problem's formula has more than 262,144 terms.
+    TooManyTerms,
+    Memory,
+}
+
+impl From<AllocError> for LowerFault {
+    ghost use Rattle.lowering_rules.specs.declared.fault.LowerFault.TheVariants.{Memory};
+
+    ghost from_gives = { λ _ e. e ≡ Memory };
+
+    fn from(_e: AllocError) -> Self {
+        LowerFault::Memory
+    }
+}
+
+impl<T: Drop> From<AllocFailed<T>> for LowerFault {
+    ghost use Rattle.lowering_rules.specs.declared.fault.LowerFault.TheVariants.{Memory};
+
+    ghost from_gives = { λ _ e. e ≡ Memory };
+
+    fn from(_e: AllocFailed<T>) -> Self {
+        LowerFault::Memory
+    }
+}

@@ -1,0 +1,8 @@
+//! What the problem of a typed model and a command is: what each part of a body becomes in the kernel, the bounds of the
+//! relations, the formula, and why there may be no problem.
+#![tactic(auto)]
+
+pub mod fault;
+pub mod laws;
+
+pub use fault::LowerFault;

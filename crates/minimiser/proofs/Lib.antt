@@ -1,0 +1,3 @@
+pub mod Cells
+pub mod Going
+pub mod Answered

@@ -1,0 +1,34 @@
+-- What a descent comes to, and what its parts are.
+use Rattle.std.specs.Prelude.{◌≡◌, ◌≤◌, ℕ, List, ◌∷◌, map, All}
+use Rattle.refutation_check.specs.declared.log.Step.{Step as LogStep}
+use Rattle.refutation_check.specs.Part.{Parted}
+use Rattle.rel_formula.specs.Bounds.{Bounded}
+use Rattle.rel_formula.specs.Instance.{IsMinimalAbove, Includes}
+use Rattle.translation_rules.specs.Translation.{Translated}
+use Rattle.translation_rules.specs.Parts.{AreSearched, novel_in}
+use Rattle.translation_rules.specs.Descents.{Lowering, GoesDown}
+use Rattle.minimiser.specs.declared.descent.Down.{Down}
+use Rattle.minimiser.specs.declared.descent.Down.TheVariants.{Minimal, Spent}
+
+abbrev pub parts_of : Down → List Parted
+parts_of (Minimal scenario parts) = parts.items
+parts_of (Spent parts) = parts.items
+
+-- the parts are those of searches that go down from the start, and none leaves it
+pub record AreDescent (p : Bounded) (floor start : List ℕ) (parts : List Parted) : Type 0 where
+  pub lowerings : List Lowering
+  pub all_parts : parts ≡ map (λ x. x.part) lowerings
+  pub down : GoesDown p floor lowerings
+  pub first : (x : Lowering) (others : List Lowering) → lowerings ≡ x ∷ others → x.from ≡ start
+  pub within : All (λ x. Includes start x.from) lowerings
+
+-- the parts are those of a descent from the start, over the translation and the pool, with at most so many novel steps
+pub record IsDescent (t : Translated) (pool : List LogStep) (floor start : List ℕ) (budget : ℕ) (parts : List Parted) : Type 0 where
+  pub descent : AreDescent t.problem floor start parts
+  pub searched : AreSearched t pool parts
+  pub few : novel_in t pool parts ≤ budget
+
+-- the scenario is minimal above the floor, and lies in the start; or the budget is spent, all of it
+abbrev pub IsRight : Translated → List LogStep → List ℕ → List ℕ → ℕ → Down → Type 0
+IsRight t pool floor start budget (Minimal scenario parts) = IsMinimalAbove t.problem floor scenario × Includes start scenario
+IsRight t pool floor start budget (Spent parts) = novel_in t pool parts.items ≡ budget

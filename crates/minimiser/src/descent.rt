@@ -1,0 +1,96 @@
+// The descent.
+ghost use Rattle.std.specs.Prelude.{◌≡◌, ◌↔◌, ◌<◌, ◌≤◌, ℕ, length, Contains, IsTrue, AllPairs, IfOk};
+ghost use Rattle.cnf_core.specs.Valuation.{value_of};
+ghost use Rattle.refutation_check.specs.Chain.{IsAccepted};
+ghost use Rattle.rel_formula.specs.Instance.{AreCells, IsInstance, Includes};
+ghost use Rattle.translation_rules.specs.Translation.{var_of};
+ghost use Rattle.minimiser.specs.Down.{parts_of, IsDescent, IsRight};
+
+use crate::NoMemory;
+use cnf_core::Valuation;
+use local_clauses::descent_locals;
+use refutation_check::{Log, Part};
+use rel_formula::Scenario;
+use sat_core::{Answer, solve};
+use std::alloc::Global;
+use translation::Translation;
+use translation_rules::laws::descent_clauses_say_what_is_smaller;
+
+/// What a descent comes to, with its searches in order.
+#[derive(Drop)]
+pub enum Down {
+    /// A minimal scenario.
+    Minimal {
+        scenario: Scenario,
+        parts: Vec<Part>,
+    },
+    /// The budget was spent.
+    Spent {
+        parts: Vec<Part>,
+    },
+}
+
+/// Goes down from an instance that has the floor's cells to a scenario that is minimal above the floor.
+///
+/// Each search asks for an instance that has the floor's cells and is a proper part of the last one; its local clauses say
+/// just this. The descent takes at most `budget` novel steps, which is at most 100,000,000. The pool is an accepted log over
+/// the translation's clauses, of at most 20,000 steps. The error comes only for want of memory.
+pub fn minimise(
+    alloc: Global,
+    translation: &Translation,
+    pool: &Log,
+    floor: &Scenario,
+    start: &Scenario,
+    budget: u64,
+) -> Result<Down, NoMemory>
+    requires pool { IsAccepted translation.now.cnf.clauses pool.now }
+    requires few { length pool.now ≤ 20000 }
+    requires floor { AreCells translation.now.problem floor.now }
+    requires start { IsInstance translation.now.problem start.now }
+    requires above { Includes start.now floor.now }
+    requires budget { budget ≤ 100000000 }
+    ensures parts { IfOk result (λ down. IsDescent translation.now pool.now floor.now start.now budget (parts_of down)) }
+    ensures answer { IfOk result (IsRight translation.now pool.now floor.now start.now budget) }
+{
+    descent_clauses_say_what_is_smaller();
+    let problem = translation.problem();
+    let _ = problem.relations();
+    let _ = floor.numbers();
+    let mut scenario = start.copy(alloc)?;
+    let mut parts = Vec::new(alloc);
+    let mut left = budget;
+    'descent: loop {
+        let local = descent_locals(alloc, problem, floor, &scenario)?;
+        match solve(alloc, translation.cnf(), pool, local.as_slice(), left)? {
+            Answer::Found { valuation, log } => {
+                left -= log.steps().len() as u64;
+                parts.push(Part::of(local, log))?;
+                scenario = scenario_in(alloc, problem.cells(), &valuation)?;
+            }
+            Answer::Refuted { log } => {
+                parts.push(Part::of(local, log))?;
+                return Ok(Down::Minimal { scenario, parts });
+            }
+            Answer::Spent { log } => {
+                parts.push(Part::of(local, log))?;
+                return Ok(Down::Spent { parts });
+            }
+        }
+    }
+}
+
+// The scenario of the cells whose variables are true.
+fn scenario_in(alloc: Global, cells: u32, valuation: &Valuation) -> Result<Scenario, NoMemory>
+    requires { cells ≤ length valuation.now }
+    ensures cells { IfOk result (λ s. (cell : ℕ) → Contains s cell → cell < cells) }
+    ensures values { IfOk result (λ s. (cell : ℕ) → cell < cells → IsTrue (value_of valuation.now (var_of cell)) ↔ Contains s cell) }
+    ensures rising { IfOk result (λ s. AllPairs (λ m n. m < n) s) }
+{
+    let mut scenario = Scenario::new(alloc);
+    for cell in 0..cells {
+        if valuation.value(cell + 1) {
+            scenario.insert(cell)?;
+        }
+    }
+    Ok(scenario)
+}

@@ -1,0 +1,9 @@
+//! Descents from an instance to a minimal scenario.
+#![tactic(auto)]
+
+mod descent;
+#[cfg(test)]
+mod tests;
+
+pub use crate::descent::{Down, minimise};
+pub use std::alloc::AllocError as NoMemory;

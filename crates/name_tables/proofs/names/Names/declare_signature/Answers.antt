@@ -1,0 +1,27 @@
+use Rattle.std.proofs.Common.{sym, ap, subst, ◌∙◌}
+use Rattle.name_tables.specs.InForce.{in_force, AreTables, with_signature}
+use Rattle.name_tables.proofs.Meetings.{in_error, same_tables, same_names, signature_tables, signature_more}
+use Rattle.name_tables.proofs.names.Names.declare_signature.Goals as goal
+
+pub invariant_of-self-in_err-push : goal.invariant_of-self-in_err-push
+invariant_of-self-in_err-push c =
+    subst (λ xs. AreTables c.meet.new.self xs c.self.inside.fields c.self.inside.callees c.self.inside.entries.items c.self.inside.assertions c.self.inside.locals) (sym c.in_err-push.ensures.err)
+    (same_tables c.self.inside.words c.meet.new.self c.args.text.now c.in_ok-word.ensures.words c.self.inside.signatures c.self.inside.fields c.self.inside.callees c.self.inside.entries.items c.self.inside.assertions c.self.inside.locals c.self.invariant)
+
+pub returns-in_err-push-clause-err : goal.returns-in_err-push-clause-err
+returns-in_err-push-clause-err c =
+    in_error c.from_residual-in_err-push.result
+    (ap (λ xs. in_force c.meet.new.self xs c.self.inside.fields c.self.inside.entries.items c.self.inside.assertions c.self.inside.locals) c.in_err-push.ensures.err
+    ∙ same_names c.self.inside.words c.meet.new.self c.args.text.now c.in_ok-word.ensures.words c.self.inside.signatures c.self.inside.fields c.self.inside.callees c.self.inside.entries.items c.self.inside.assertions c.self.inside.locals c.self.invariant
+    ∙ c.self.view_is)
+
+pub invariant_of-self-2 : goal.invariant_of-self-2
+invariant_of-self-2 c =
+    subst (λ xs. AreTables c.meet.new.self xs c.self.inside.fields c.self.inside.callees c.self.inside.entries.items c.self.inside.assertions c.self.inside.locals) (sym c.in_ok-push.ensures.ok)
+    (signature_tables c.self.inside.words c.meet.new.self c.args.text.now c.in_ok-word.ensures.words c.self.inside.signatures c.self.inside.fields c.self.inside.callees c.self.inside.entries.items c.self.inside.assertions c.self.inside.locals c.self.invariant c.in_ok-word.word c.in_ok-word.ensures.number)
+
+pub returns-clause-ok : goal.returns-clause-ok
+returns-clause-ok c =
+    ap (λ xs. in_force c.meet.new.self xs c.self.inside.fields c.self.inside.entries.items c.self.inside.assertions c.self.inside.locals) c.in_ok-push.ensures.ok
+    ∙ signature_more c.self.inside.words c.meet.new.self c.args.text.now c.in_ok-word.ensures.words c.self.inside.signatures c.self.inside.fields c.self.inside.callees c.self.inside.entries.items c.self.inside.assertions c.self.inside.locals c.self.invariant c.in_ok-word.word c.in_ok-word.ensures.number
+    ∙ ap (λ n. with_signature n c.args.text.now) c.self.view_is

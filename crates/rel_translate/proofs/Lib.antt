@@ -1,0 +1,15 @@
+pub mod Lists
+pub mod Sized
+pub mod Spending
+pub mod Kept
+pub mod Atoms
+pub mod Operators
+pub mod Plain
+pub mod Tabled
+pub mod Doubled
+pub mod Whole
+pub mod Gated
+pub mod Compared
+pub mod Grounded
+pub mod Two
+pub mod Translatable

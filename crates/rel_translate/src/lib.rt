@@ -1,0 +1,15 @@
+//! The translation of a bounded relational problem into a circuit that is true exactly at its instances.
+#![tactic(auto)]
+
+mod comparing;
+mod expression;
+mod formula;
+mod gates;
+mod leaves;
+mod tables;
+#[cfg(test)]
+mod tests;
+mod translate;
+
+pub use crate::translate::{ProblemCircuit, circuit_of};
+pub use std::alloc::AllocError as NoMemory;

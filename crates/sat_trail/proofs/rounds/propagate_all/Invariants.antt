@@ -1,0 +1,15 @@
+use Rattle.std.proofs.Common.{◌≡◌, ◌+◌, ◌-◌, length}
+use Rattle.assignment_trail.specs.Trail.{ForcesMore, level_of}
+use Rattle.watched_literals.specs.Walk.{IsReady}
+use Rattle.sat_trail.proofs.rounds.propagate_all.Given as goal
+
+abbrev pub invariant-rounds : goal.invariant-rounds
+invariant-rounds l = record {
+  ready : IsReady l.store l.watches l.now l.pending.flags l.drawn;
+  vars : l.now.vars ≡ l.fn.now.vars;
+  more : ForcesMore l.fn.now.assigned l.now.assigned;
+  level : level_of l.now.assigned ≡ level_of l.fn.now.assigned;
+}
+
+abbrev pub decreases-rounds : goal.decreases-rounds
+decreases-rounds l = (l.now.vars + 2) - length l.now.assigned

@@ -1,0 +1,12 @@
+use Rattle.std.proofs.Common.{◌≤◌, length}
+use Rattle.watched_literals.specs.Walk.{IsReady}
+use Rattle.sat_trail.proofs.settling.settle.Given as goal
+
+abbrev pub invariant-settling : goal.invariant-settling
+invariant-settling l = record {
+  ready : IsReady l.store l.watches l.now l.pending.flags l.drawn;
+  in_range : l.i ≤ length l.pending.list;
+}
+
+abbrev pub decreases-settling : goal.decreases-settling
+decreases-settling l = l.i

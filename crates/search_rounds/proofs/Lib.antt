@@ -1,0 +1,7 @@
+pub mod Sizes
+pub mod Added
+pub mod Emptied
+pub mod Swaps
+pub mod Asked
+pub mod Led
+pub mod Going

@@ -1,0 +1,5 @@
+pub mod Searches
+pub mod Descended
+pub mod Classes
+pub mod Rounds
+pub mod Next

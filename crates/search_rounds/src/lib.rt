@@ -1,0 +1,17 @@
+//! What a session does for the next scenario at a floor: rounds of a search for what is left and a descent from what it finds,
+//! until a scenario is due and new, or nothing is left, or the budget is spent.
+#![tactic(auto)]
+
+mod classes;
+mod descent;
+mod locals;
+mod next;
+mod novel;
+mod round;
+mod search;
+#[cfg(test)]
+mod tests;
+
+pub use crate::locals::locals_of;
+pub use crate::next::{Found, NextAt, next_at};
+pub use std::alloc::AllocError as NoMemory;

@@ -1,0 +1,11 @@
+//! What a session keeps from one step to the next: the state of the session machine, and the copies of shown scenarios that its
+//! searches found.
+#![tactic(auto)]
+
+mod floors;
+mod store;
+#[cfg(test)]
+mod tests;
+
+pub use crate::store::SessionStore;
+pub use std::alloc::AllocError as NoMemory;

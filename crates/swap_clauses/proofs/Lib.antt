@@ -1,0 +1,6 @@
+pub mod Added
+pub mod Cases
+pub mod SameCells
+pub mod OneCell
+pub mod Links
+pub mod Pairs

@@ -1,0 +1,11 @@
+//! Clauses which say that swaps of two atoms make no scenario earlier.
+#![tactic(auto)]
+
+mod cells;
+mod comparison;
+mod swaps;
+#[cfg(test)]
+mod tests;
+
+pub use crate::swaps::{swap_clauses, swap_clauses_of};
+pub use std::alloc::AllocError as NoMemory;

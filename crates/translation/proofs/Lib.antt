@@ -1,0 +1,5 @@
+pub mod Chains
+pub mod Together
+pub mod Instances
+pub mod Few
+pub mod Whole

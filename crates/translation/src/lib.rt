@@ -1,0 +1,10 @@
+//! Translations: the clauses that a problem's instances satisfy, and those of the swaps of neighbouring atoms.
+#![tactic(auto)]
+
+mod swaps;
+#[cfg(test)]
+mod tests;
+mod translation;
+
+pub use crate::translation::Translation;
+pub use std::alloc::AllocError as NoMemory;

@@ -1,0 +1,99 @@
+// A problem and its clauses.
+ghost use Rattle.std.specs.Prelude.{◌≡◌, ◌<◌, ◌≤◌, ◌^◌, length, map, slice_get, Some, IfOk};
+ghost use Rattle.rel_formula.specs.Bounds.{cells_of};
+ghost use Rattle.rel_formula.specs.Renaming.{IsSymmetric};
+ghost use Rattle.rel_terms.specs.Terms.{IsTranslatable};
+ghost use Rattle.translation_rules.specs.Translation.{SwapClauses};
+ghost use Rattle.translation.specs.Numbered.{pair_of};
+ghost use Rattle.translation.specs.Kept.{IsTranslation};
+
+use crate::NoMemory;
+use crate::swaps::clauses_of_pairs;
+use circuit_cnf::clauses_of;
+use cnf_core::Cnf;
+use rel_formula::Problem;
+use rel_translate::circuit_of;
+use std::alloc::Global;
+use std::marker::Model;
+use swap_symmetry::neighbours;
+use tuple_core::Atom;
+
+/// A symmetric problem, the clauses that its instances satisfy, and for each swap of neighbouring atoms the clauses which say
+/// that it makes nothing earlier.
+///
+/// The variable of cell n is n + 1. Each swap has fresh variables of its own, behind those of the problem's clauses.
+#[derive(Drop)]
+pub struct Translation {
+    problem: Problem,
+    cnf: Cnf,
+    pairs: Vec<(Atom, Atom)>,
+    swaps: Vec<Cnf>,
+}
+
+impl Model for Translation {
+    ghost use Rattle.std.specs.Coded.{codes};
+    ghost use Rattle.rel_formula.specs.Code.{formula_code};
+    ghost use Rattle.std.specs.Prelude.{◌≡◌, length};
+    ghost use Rattle.translation_rules.specs.Translation.{Translated};
+    ghost use Rattle.translation.specs.Numbered.{swaps_of};
+    ghost use Rattle.translation.specs.Kept.{IsTranslation};
+
+    ghost Value = { Translated };
+
+    ghost coded = { Prim.hlevel (codes, formula_code) };
+
+    ghost view = { λ t. record { problem = t.problem; cnf = t.cnf; swaps = swaps_of t.pairs.items t.swaps.items } };
+
+    ghost invariant = { λ t. (length t.swaps.items ≡ length t.pairs.items) × IsTranslation (record { problem = t.problem; cnf = t.cnf; swaps = swaps_of t.pairs.items t.swaps.items }) };
+}
+
+impl Translation {
+    /// Translates a symmetric problem that has at most 64 atoms, top-level signatures with disjoint upper sets, and at most
+    /// 262,144 terms. The error comes only for want of memory.
+    pub fn build(alloc: Global, problem: Problem) -> Result<Translation, NoMemory>
+        requires translatable { IsTranslatable problem }
+        requires symmetric { IsSymmetric problem }
+        ensures { IfOk result (λ t. t.problem ≡ problem) }
+    {
+        let made = circuit_of(alloc, &problem)?;
+        let cnf = clauses_of(alloc, &made.circuit, made.node)?;
+        let pairs = neighbours(alloc, &problem)?;
+        let swaps = clauses_of_pairs(alloc, &problem, cnf.vars(), pairs.as_slice())?;
+        Ok(Translation {
+            problem,
+            cnf,
+            pairs,
+            swaps,
+        })
+    }
+
+    /// The problem.
+    pub fn problem(&self) -> &Problem
+        ensures value { result.now ≡ self.now.problem }
+        ensures well { IsTranslation self.now }
+    {
+        &self.problem
+    }
+
+    /// The clauses that the problem's instances satisfy.
+    pub fn cnf(&self) -> &Cnf
+        ensures { result.now ≡ self.now.cnf }
+    {
+        &self.cnf
+    }
+
+    /// The pairs of neighbouring atoms, in order of atoms.
+    pub fn pairs(&self) -> &[(Atom, Atom)]
+        ensures { result.now ≡ map pair_of self.now.swaps }
+    {
+        self.pairs.as_slice()
+    }
+
+    /// The clauses of the swap of a pair, by its place among them.
+    pub fn swap(&self, place: u32) -> &Cnf
+        requires { place < length self.now.swaps }
+        ensures { (x : SwapClauses) → slice_get self.now.swaps place ≡ Some x → result.now ≡ x.cnf }
+    {
+        &self.swaps[place as usize]
+    }
+}
