@@ -1,11 +1,11 @@
 -- What a descent comes to.
 use Rattle.std.proofs.Common.{◌≡◌, ◌<◌, ◌≤◌, ◌+◌, ◌-◌, ◌++◌, [], ◌∷◌, ◌⊎◌, ℕ, zero, suc, Bool, true, false, not, cond, Option, Some, None, List, length, get_or, take, All, arith, sym, ◌∙◌, ap, inl, inr, refl, subst, length-append}
 use Rattle.std.proofs.lemmas.Bool.{cases_lt, cases_eq, cases_Bool}
-use Rattle.std.proofs.lemmas.List.{get_or_default, take_all, take-append-le, get_or_append_left, map-append}
-use Rattle.std.proofs.Math.Seq.{get_or-append_seam, get_or-append_right}
+use Rattle.std.proofs.lemmas.List.{get_or_default, take_all, get_or_append_left, map-append}
+use Rattle.std.proofs.Math.Seq.{get_or-append_seam}
 use Rattle.std.proofs.lemmas.List.Elements.{Contains-append_left, Contains-get_or, Contains-push, Contains-push_cases}
 use Rattle.std.specs.List.{Contains}
-use Rattle.std.specs.Option.{IsSome, is_some, unwrap_or}
+use Rattle.std.specs.Option.{is_some, unwrap_or}
 use Rattle.cnf_core.specs.declared.literal.Lit.{Lit}
 use Rattle.cnf_core.specs.Literal.{negation_of, IsClause, HasVarsUpTo}
 use Rattle.cnf_core.specs.Valuation.{literal_value, clause_value, value_of}
@@ -16,12 +16,12 @@ use Rattle.refutation_check.proofs.Entailment.{lit_equal_or_not, false_clause}
 use Rattle.refutation_check.proofs.Sights.{lit_equal}
 use Rattle.assignment_trail.specs.declared.assigned.Assigned.{Assigned}
 use Rattle.assignment_trail.specs.Trail.{IsTrail, ForcesMore, falses_of, level_of}
-use Rattle.sat_trail.specs.Trailed.{Trailed, IsValue}
-use Rattle.sat_trail.specs.Closed.{IsClosed, IsClosedBelow}
+use Rattle.sat_trail.specs.Trailed.{IsValue}
+use Rattle.sat_trail.specs.Closed.{IsClosed}
 use Rattle.sat_trail.specs.Learnt.{IsFlat, IsAbove}
-use Rattle.assignment_trail.proofs.Trails.{falses_of-push, level_before, level_of_take, placed_level, from_front, vars_differ}
+use Rattle.assignment_trail.proofs.Trails.{falses_of-push, level_before, from_front, vars_differ}
 use Rattle.sat_core.specs.Answers.{IsModel}
-use Rattle.sat_core.specs.Search.{HasAllValues, AreValues, IsFull, IsStuck}
+use Rattle.sat_core.specs.Search.{HasAllValues, AreValues}
 
 not_cons : (y : Lit) (ys : List Lit) (x : Lit) → (y ≡ x → ⊥) → (Contains ys x → ⊥) → Contains (y ∷ ys) x → ⊥
 not_cons y ys x first rest (zero, h, e) = first e
@@ -41,7 +41,7 @@ contains_or_not (y ∷ ys) x =
 
 module _ (clauses : List (List Lit)) (falses : List Lit) (closed : IsClosed clauses falses) where
   -- what fewer false literals force is true already
-  forced_within : (fewer : List Lit) (hint : ℕ) (l : Lit) → ((k : Lit) → Contains fewer k → Contains falses k) → Forces clauses fewer hint l → Contains falses (negation_of l)
+  pub forced_within : (fewer : List Lit) (hint : ℕ) (l : Lit) → ((k : Lit) → Contains fewer k → Contains falses k) → Forces clauses fewer hint l → Contains falses (negation_of l)
   forced_within fewer hint l within f =
       let here = names_all (λ c. (¬ IsFalsified (Contains falses) c) × ((l : Lit) → ¬ IsUnit (Contains falses) c l)) clauses hint f.clause closed f.named in
       elim (contains_or_not falses (negation_of l)) [
@@ -75,38 +75,6 @@ module _ (clauses : List (List Lit)) (xs : List Assigned) where
       let up : (get_or xs i d).level ≤ level_of (take (length xs) xs) = level_before clauses xs trail (length xs) i d h (omega arith) in
       let same : level_of (take (length xs) xs) ≡ level_of xs = ap level_of (take_all (length xs) xs (omega arith)) in
       omega (arith, up, same, zero_level)
-
-  -- what is forced is no decision
-  pub closed_below_forced : (ys : List Assigned) → IsClosedBelow clauses xs → ForcesMore xs ys → IsClosedBelow clauses ys
-  closed_below_forced ys was forces =
-      subst (λ (zs : List Assigned). IsClosedBelow clauses zs) (sym forces.added) (λ i d h decided.
-      elim (cases_lt i (length xs)) [
-        | inl lt ↦
-            let front : take i (xs ++ forces.more) ≡ take i xs = take-append-le i xs forces.more (omega arith) in
-            let at : get_or (xs ++ forces.more) i d ≡ get_or xs i d = get_or_append_left xs forces.more d i lt in
-            subst (λ (zs : List Assigned). IsClosed clauses (falses_of zs)) (sym front) (was i d lt (ap (λ (a : Assigned). a.reason) (sym at) ∙ decided))
-        | inr ge ↦
-            let at : get_or (xs ++ forces.more) i d ≡ get_or forces.more (i - length xs) d = get_or-append_right xs forces.more i d ge in
-            let some = forces.forced (i - length xs) d (omega (arith, length-append xs forces.more)) in
-            absurd (some_not_none (get_or forces.more (i - length xs) d).reason some (ap (λ (a : Assigned). a.reason) (sym at) ∙ decided))
-      ])
-    where
-      some_not_none : (o : Option ℕ) → IsSome o → o ≡ None → ⊥
-      some_not_none None some none = cc
-      some_not_none (Some n) some none = cc
-
-  -- one more decision, where nothing is left for propagation
-  pub closed_below_decided : (a : Assigned) → IsClosedBelow clauses xs → IsClosed clauses (falses_of xs) → IsClosedBelow clauses (xs ++ a ∷ [])
-  closed_below_decided a was closed i d h decided =
-      elim (cases_lt i (length xs)) [
-        | inl lt ↦
-            let front : take i (xs ++ a ∷ []) ≡ take i xs = take-append-le i xs (a ∷ []) (omega arith) in
-            let at : get_or (xs ++ a ∷ []) i d ≡ get_or xs i d = get_or_append_left xs (a ∷ []) d i lt in
-            subst (λ (zs : List Assigned). IsClosed clauses (falses_of zs)) (sym front) (was i d lt (ap (λ (a : Assigned). a.reason) (sym at) ∙ decided))
-        | inr ge ↦
-            let front : take i (xs ++ a ∷ []) ≡ xs = take-append-le i xs (a ∷ []) (omega (arith, length-append xs (a ∷ []))) ∙ take_all i xs ge in
-            subst (λ (zs : List Assigned). IsClosed clauses (falses_of zs)) (sym front) closed
-      ]
 
   module _ (trail : IsTrail clauses xs) (conflict : ℕ) (refuted : Refutes clauses (falses_of xs) conflict) where
     -- a conflict at level 0
@@ -238,49 +206,14 @@ module _ (falses : List Lit) (values : List Bool) (are : AreValues falses values
             false_literal l var.0 (within k d h) (false_clause (value_of values) clause f l (Contains-get_or clause k d h))))
       ]
 
--- above level 0 there is a decision
-decision_above : (clauses : List (List Lit)) (xs : List Assigned) → IsTrail clauses xs → (n : ℕ) → n ≤ length xs → 0 < level_of (take n xs) → (i : ℕ) × (i < length xs) × ((d : Assigned) → (get_or xs i d).reason ≡ None)
-decision_above clauses xs trail zero h some = absurd (omega arith)
-decision_above clauses xs trail (suc n) h some =
-    let a : Assigned = record { lit = record { var = 0; positive = false }; level = 0; reason = None } in
-    let one : suc n ≡ n + 1 = omega arith in
-    let level : level_of (take (suc n) xs) ≡ (get_or xs n a).level = ap (λ (k : ℕ). level_of (take k xs)) one ∙ level_of_take xs n a (omega arith) in
-    elim (placed_level clauses (take n xs) (get_or xs n a) (trail n a (omega arith))) [
-      | inl same ↦ decision_above clauses xs trail n (omega arith) (omega (arith, level, same, some))
-      | inr more ↦ (n, omega arith, λ d. ap (λ (b : Assigned). b.reason) (get_or_default xs n d a (omega arith)) ∙ more.1)
-    ]
-
--- where the trail was closed before each decision, and the empty clause is a chain, nothing is decided
-direct_level : (clauses : List (List Lit)) (xs : List Assigned) → IsTrail clauses xs → IsClosedBelow clauses xs → (hints : List ℕ) → IsChain clauses [] hints → level_of xs ≡ 0
-direct_level clauses xs trail closed hints chain =
-    let all : level_of (take (length xs) xs) ≡ level_of xs = ap level_of (take_all (length xs) xs (omega arith)) in
-    elim (cases_eq (level_of xs) 0) [
-      | inl e ↦ e
-      | inr above ↦
-          let a : Assigned = record { lit = record { var = 0; positive = false }; level = 0; reason = None } in
-          let r = decision_above clauses xs trail (length xs) (omega arith) (omega (arith, all, above)) in
-          absurd (closed_no_chain clauses (falses_of (take r.0 xs)) (closed r.0 a r.1 (r.2 a)) hints chain)
-    ]
-
--- where propagation finds a falsified clause
-pub stuck_after : (old new : Trailed) (conflict : ℕ) → IsClosedBelow old.clauses old.assigned → new.clauses ≡ old.clauses → ForcesMore old.assigned new.assigned → IsTrail new.clauses new.assigned → Refutes new.clauses (falses_of new.assigned) conflict → IsStuck new conflict
-stuck_after old new conflict closed same more trail refuted =
-    let closed' : IsClosedBelow new.clauses new.assigned = subst (λ (cs : List (List Lit)). IsClosedBelow cs new.assigned) (sym same) (closed_below_forced old.clauses old.assigned new.assigned closed more) in
-    record { refuted = refuted; closed_below = closed'; direct = direct_level new.clauses new.assigned trail closed' }
-
--- where propagation leaves nothing, and a variable is open
-pub decided_after : (old new : Trailed) (a : Assigned) → IsClosedBelow old.clauses old.assigned → new.clauses ≡ old.clauses → ForcesMore old.assigned new.assigned → IsClosed new.clauses (falses_of new.assigned) → IsClosedBelow new.clauses (new.assigned ++ a ∷ [])
-decided_after old new a closed_below same more closed =
-    closed_below_decided new.clauses new.assigned a (subst (λ (cs : List (List Lit)). IsClosedBelow cs new.assigned) (sym same) (closed_below_forced old.clauses old.assigned new.assigned closed_below more)) closed
-
--- the values of a full trail satisfy its clauses
-pub full_model : (trail : Trailed) (values : List Bool) → IsFull trail → All IsClause trail.clauses → All (HasVarsUpTo trail.vars) trail.clauses → length values ≡ trail.vars → AreValues (falses_of trail.assigned) values → IsModel trail.vars trail.clauses values
-full_model trail values full each within long are =
-    let within' : All (HasVarsUpTo (length values)) trail.clauses = subst (λ (n : ℕ). All (HasVarsUpTo n) trail.clauses) (sym long) within in
+-- the values of a trail where nothing is left for propagation satisfy these clauses
+pub full_model : (vars first : ℕ) (clauses : List (List Lit)) (falses : List Lit) (values : List Bool) → IsClosed clauses falses → All IsClause clauses → All (HasVarsUpTo vars) clauses → length values ≡ vars → first ≤ vars → AreValues falses values → IsModel first clauses values
+full_model vars first clauses falses values closed each within long le are =
+    let within' : All (HasVarsUpTo (length values)) clauses = subst (λ (n : ℕ). All (HasVarsUpTo n) clauses) (sym long) within in
     record {
       enough = omega arith;
       within = within';
-      satisfied = λ k d h. clause_true (falses_of trail.assigned) values are (get_or trail.clauses k d) (each k d h) (within' k d h) (full.closed k d h).0;
+      satisfied = λ k d h. clause_true falses values are (get_or clauses k d) (each k d h) (within' k d h) (closed k d h).0;
     }
 
 -- one more value

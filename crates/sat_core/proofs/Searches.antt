@@ -1,28 +1,32 @@
 -- How a search goes on, and how it ends.
-use Rattle.std.proofs.Common.{◌≡◌, ◌≢◌, false, ◌<◌, ◌≤◌, ◌+◌, ◌-◌, ◌++◌, [], ◌∷◌, ◌⊎◌, ℕ, Bool, true, Some, None, List, length, get_or, take, map, All, arith, sym, ◌∙◌, ap, inl, inr, refl, subst, append_assoc, length-append}
-use Rattle.std.proofs.lemmas.Bool.{cases_lt, eqb-true, eq-eqb}
-use Rattle.std.proofs.lemmas.List.{take_all, take-append-le, get_or_append_left, map-append}
+use Rattle.std.proofs.Common.{◌≡◌, ◌≢◌, ◌<◌, ◌≤◌, ◌+◌, ◌-◌, ◌++◌, [], ◌∷◌, ◌⊎◌, ℕ, Bool, Some, None, List, length, get_or, take, map, All, arith, sym, ◌∙◌, ap, inl, inr, refl, subst, append_assoc, length-append}
+use Rattle.std.proofs.lemmas.Bool.{cases_lt}
+use Rattle.std.proofs.lemmas.List.{take_all, take_more, take-append-le, get_or_append_left, map-append, length-map}
 use Rattle.std.proofs.Math.Seq.{get_or-append_seam}
 use Rattle.std.proofs.lemmas.Option.{slice_get-get_or, get_or_from_slice_get, slice_get_cases}
-use Rattle.std.proofs.lemmas.List.Elements.{All-contains, All-push, All-append, All-map, Contains-append_cases}
+use Rattle.std.proofs.lemmas.List.Elements.{All-contains, All-push, All-append, All-map, All-nil, All-take, All-weaker, Contains-get_or, Contains-append_cases}
 use Rattle.std.specs.List.{Contains, slice_get}
 use Rattle.std.specs.Bool.{IsTrue}
-use Rattle.std.specs.Prelude.{◌==◌}
 use Rattle.cnf_core.specs.declared.literal.Lit.{Lit}
-use Rattle.cnf_core.specs.Literal.{HasVarsUpTo}
+use Rattle.cnf_core.specs.Literal.{IsVariable, IsClause, HasVarsUpTo}
 use Rattle.cnf_core.specs.Valuation.{clause_value, value_of, Satisfies}
 use Rattle.refutation_check.specs.declared.log.Step.{Step}
-use Rattle.refutation_check.specs.Chain.{IsChain, members_of, IsAccepted, IsNovel, EndsEmpty}
+use Rattle.refutation_check.specs.Chain.{Names, IsFalsified, IsUnit, Refutes, IsChain, members_of, IsAccepted, IsNovel, EndsEmpty}
+use Rattle.refutation_check.specs.SearchLog.{IsSearchLog, IsVarOf, HasNoEmpty, HasVarsOf, IsAllNovel, IsNovelButLast}
 use Rattle.refutation_check.proofs.Entailment.{each_entailed, no_valuation}
-use Rattle.refutation_check.specs.SearchLog.{IsSearchLog, IsVarOf, HasVarsOf, IsAllNovel, IsNovelButLast, IsDirect}
-use Rattle.assignment_trail.specs.Trail.{IsTrail, level_of}
-use Rattle.sat_trail.specs.Trailed.{Trailed, IsVarLimit}
-use Rattle.sat_trail.specs.Learnt.{IsFlat, IsAbove}
-use Rattle.sat_trail.specs.Closed.{IsClosedBelow}
-use Rattle.assignment_trail.proofs.Trails.{All-front}
-use Rattle.sat_core.proofs.Descents.{flat_or_above, flat_at_zero}
-use Rattle.sat_core.specs.Answers.{IsModel}
-use Rattle.sat_core.specs.Search.{Searching, IsStuck, IsEnd, IsProgress}
+use Rattle.refutation_check.proofs.Renumbered.{chain_renumbered}
+use Rattle.assignment_trail.specs.declared.assigned.Assigned.{Assigned}
+use Rattle.assignment_trail.specs.Trail.{IsTrail, IsBackTo, falses_of}
+use Rattle.assignment_trail.proofs.Trails.{All-front, IsTrail-cut, in_falses}
+use Rattle.sat_trail.specs.Trailed.{Trailed}
+use Rattle.sat_trail.specs.Learnt.{IsFlat, IsAbove, IsAsserting}
+use Rattle.sat_trail.specs.Closed.{IsClosed, IsClosedBelow}
+use Rattle.sat_core.specs.Answers.{HasEmptyOnlyLast, IsModel, NamesUnit, NamesNoUnits}
+use Rattle.sat_core.specs.Assuming.{AreTrue, IsAssumedFirst, IsClash}
+use Rattle.sat_core.specs.Search.{Searching, AreValues, IsStuck, IsProgress, IsVarIn}
+use Rattle.sat_core.proofs.Descents.{closed_no_chain, flat_or_above, full_model}
+use Rattle.sat_core.proofs.Assumes.{consistent, first_cut, front_true}
+use Rattle.sat_core.proofs.Kept.{Keeps, keeps_more, given_closed, never_closed, given_novel, given_clauses, given_vars}
 
 -- the members with one more step
 pub members_more : (given : List (List Lit)) (log : List Step) (s : Step) → members_of given (log ++ s ∷ []) ≡ members_of given log ++ s.clause ∷ []
@@ -114,102 +118,185 @@ pub novel_all : (given : List (List Lit)) (log : List Step) → IsAllNovel given
 novel_all given log was i s e = inl (was i s e)
 
 -- the conflict is above level 0, where what is learnt is not empty
-pub learnt_above : (old : Trailed) (conflict : ℕ) (clause : List Lit) → IsTrail old.clauses old.assigned → IsStuck old conflict → (IsFlat old.clauses old.assigned conflict → clause ≡ []) → clause ≢ [] → IsAbove old.clauses old.assigned conflict
-learnt_above old conflict clause trail stuck flat not_empty =
-    elim (flat_or_above old.clauses old.assigned trail conflict stuck.refuted) [ inl is_flat ↦ absurd (not_empty (flat is_flat)) | inr is_above ↦ is_above ]
+pub learnt_above : (old : Trailed) (conflict : ℕ) (clause : List Lit) → IsTrail old.clauses old.assigned → Refutes old.clauses (falses_of old.assigned) conflict → (IsFlat old.clauses old.assigned conflict → clause ≡ []) → clause ≢ [] → IsAbove old.clauses old.assigned conflict
+learnt_above old conflict clause trail refuted flat not_empty =
+    elim (flat_or_above old.clauses old.assigned trail conflict refuted) [ inl is_flat ↦ absurd (not_empty (flat is_flat)) | inr is_above ↦ is_above ]
 
--- what is learnt from a conflict above level 0
-module _ (old : Trailed) (conflict : ℕ) (trail : IsTrail old.clauses old.assigned) (stuck : IsStuck old conflict) (before after : List Step) (s : Step) (chain : IsChain old.clauses s.clause s.hints) (of : All (λ l. IsVarOf old.clauses l.var) s.clause) (added : after ≡ before ++ s ∷ []) where
-  pub learnt_end : s.clause ≡ [] → IsEnd old before after
-  learnt_end empty = record { extended = record { step = s; added = added; chain = chain; vars_of = of }; empty = empty }
+-- each literal of what is learnt is false
+learnt_false : (assigned : List Assigned) (clause : List Lit) → IsAsserting assigned clause → All (Contains (falses_of assigned)) clause
+learnt_false assigned clause asserting k d h =
+    let a : Assigned = record { lit = d; level = 0; reason = None } in
+    elim (asserting.others (get_or clause k d) a (Contains-get_or clause k d h)) [
+      | inl is ↦ subst (Contains (falses_of assigned)) is (in_falses assigned asserting.place a asserting.in_range)
+      | inr (j, in', low, is) ↦ subst (Contains (falses_of assigned)) is (in_falses assigned j a in')
+    ]
 
-  pub learnt_progress : (back new : Trailed) → (IsFlat old.clauses old.assigned conflict → s.clause ≡ []) → (IsAbove old.clauses old.assigned conflict → IsClosedBelow old.clauses old.assigned → IsNovel old.clauses s.clause) → s.clause ≢ [] →
-      new ≡ record { vars = back.vars; clauses = back.clauses ++ s.clause ∷ []; assigned = back.assigned } → back.vars ≡ old.vars → back.clauses ≡ old.clauses → IsClosedBelow (old.clauses ++ s.clause ∷ []) back.assigned → IsProgress old new before after
-  learnt_progress back new flat above not_empty is vars same closed =
+-- what is learnt where the empty clause is no chain
+module _ (old : Trailed) (conflict : ℕ) (trail : IsTrail old.clauses old.assigned) (refuted : Refutes old.clauses (falses_of old.assigned) conflict) (deep : (hints : List ℕ) → IsChain old.clauses [] hints → ⊥) (s : Step) (chain : IsChain old.clauses s.clause s.hints) where
+  pub learnt_some : s.clause ≢ []
+  learnt_some none = deep s.hints (subst (λ (c : List Lit). IsChain old.clauses c s.hints) none chain)
+
+  pub learnt_high : (IsFlat old.clauses old.assigned conflict → s.clause ≡ []) → IsAbove old.clauses old.assigned conflict
+  learnt_high flat = learnt_above old conflict s.clause trail refuted flat learnt_some
+
+  pub learnt_progress : (number : ℕ → ℕ) (back new : Trailed) (before after : List Step) (level : ℕ) → All (λ l. IsVarOf old.clauses l.var) s.clause → IsAsserting old.assigned s.clause → IsNovel old.clauses s.clause →
+      after ≡ before ++ record { clause = s.clause; hints = map number s.hints } ∷ [] → new ≡ record { vars = back.vars; clauses = back.clauses ++ s.clause ∷ []; assigned = back.assigned } → back.vars ≡ old.vars → back.clauses ≡ old.clauses →
+      IsBackTo level old.assigned back.assigned → IsClosedBelow (old.clauses ++ s.clause ∷ []) back.assigned → IsProgress number old new before after
+  learnt_progress number back new before after level of asserting novel added is vars same went closed =
       record {
-        extended = record { step = s; added = added; chain = chain; vars_of = of };
-        not_empty = not_empty;
-        novel = above (learnt_above old conflict s.clause trail stuck flat not_empty) stuck.closed_below;
+        step = s;
+        chain = chain;
+        added = added;
+        vars_of = of;
+        not_empty = learnt_some;
+        novel = novel;
+        is_false = learnt_false old.assigned s.clause asserting;
         vars = ap (λ (t : Trailed). t.vars) is ∙ vars;
         clauses = ap (λ (t : Trailed). t.clauses) is ∙ ap (λ (cs : List (List Lit)). cs ++ s.clause ∷ []) same;
         closed_below = subst (λ (t : Trailed). IsClosedBelow t.clauses t.assigned) (sym is) (subst (λ (cs : List (List Lit)). IsClosedBelow (cs ++ s.clause ∷ []) back.assigned) (sym same) closed);
-        deep = λ zero_level. not_empty (flat (flat_at_zero old.clauses old.assigned trail conflict stuck.refuted zero_level));
+        count = went.count;
+        stays = ap (λ (t : Trailed). t.assigned) is ∙ went.stays;
       }
 
+-- what satisfies clauses satisfies the first of them
+pub model_front : (first : ℕ) (clauses more : List (List Lit)) (values : List Bool) → IsModel first (clauses ++ more) values → IsModel first clauses values
+model_front first clauses more values model =
+    record {
+      enough = model.enough;
+      within = All-front (HasVarsUpTo (length values)) clauses more model.within;
+      satisfied = All-front (λ c. IsTrue (clause_value (value_of values) c)) clauses more model.satisfied;
+    }
+
 -- before the first step
-pub searching_start : (given : List (List Lit)) (first : ℕ) (trail : Trailed) (log : List Step) → log ≡ [] → trail.clauses ≡ given → IsVarLimit first trail.clauses trail.vars → trail.assigned ≡ [] → Searching given first trail log
-searching_start given first trail log none same limit open_ =
-    subst (Searching given first trail) (sym none) (record {
-      clauses = same ∙ sym (members_none given);
-      vars = subst (λ (cs : List (List Lit)). IsVarLimit first cs trail.vars) same limit;
+pub searching_start : (given kept local : List (List Lit)) (assumed : List Lit) (clauses first depth : ℕ) (trail : Trailed) (log : List Step) → log ≡ [] → trail.clauses ≡ kept → first ≤ trail.vars → All (IsVarIn trail.vars) assumed → trail.assigned ≡ [] →
+    Searching given kept local assumed clauses first depth trail log
+searching_start given kept local assumed clauses first depth trail log none same low in_range open_ =
+    subst (Searching given kept local assumed clauses first depth trail) (sym none) (record {
+      clauses_are = same ∙ sym (members_none kept);
+      vars = low;
+      in_range = in_range;
       closed_below = subst (IsClosedBelow trail.clauses) (sym open_) (λ i d h. absurd (omega arith));
+      assumed_first = subst (IsAssumedFirst assumed depth) (sym open_) (λ i d h. absurd (omega arith));
       accepted = λ i d h. absurd (omega arith);
       vars_of = λ i d h. absurd (omega arith);
       novel = λ i s e. absurd (let below : i < 0 = slice_get_below [] i s e in omega arith);
       no_empty = λ i d h. absurd (omega arith);
+      no_units = λ i d h. absurd (omega arith);
       direct = λ hints chain. refl;
     })
 
-module _ (given : List (List Lit)) (first : ℕ) (old mid : Trailed) (log : List Step) (was : Searching given first old log) (same : mid.clauses ≡ old.clauses) (vars : mid.vars ≡ old.vars) where
-  mid_members : mid.clauses ≡ members_of given log
-  mid_members = same ∙ was.clauses
+module _ (given kept local : List (List Lit)) (assumed : List Lit) (keeps : Keeps given kept assumed) (clauses first depth : ℕ) (old : Trailed) (log : List Step) (was : Searching given kept local assumed clauses first depth old log) where
+  -- the given clauses with the steps, and those that are kept
+  keeps_log : Keeps (members_of given log) (members_of kept log) assumed
+  keeps_log = keeps_more given kept (map (λ (s : Step). s.clause) log) assumed keeps
 
-  module _ (conflict : ℕ) (stuck : IsStuck mid conflict) (after : List Step) where
-    -- where the empty clause is a chain, the conflict is at level 0
-    direct_level : (hints : List ℕ) → IsChain given [] hints → level_of mid.assigned ≡ 0
-    direct_level hints chain =
-        let none : log ≡ [] = was.direct hints chain in
-        let all : mid.clauses ≡ given = mid_members ∙ (ap (members_of given) none ∙ members_none given) in
-        stuck.direct hints (subst (λ (cs : List (List Lit)). IsChain cs [] hints) (sym all) chain)
+  module _ (mid : Trailed) (same : mid.clauses ≡ old.clauses) (vars : mid.vars ≡ old.vars) (trail : IsTrail mid.clauses mid.assigned) where
+    mid_members : mid.clauses ≡ members_of kept log
+    mid_members = same ∙ was.clauses_are
 
-    -- one more step, which is not empty
-    pub searching_more : (new : Trailed) → IsProgress mid new log after → Searching given first new after
-    searching_more new p =
-        let s : Step = p.extended.step in
-        subst (Searching given first new) (sym p.extended.added) (record {
-          clauses = p.clauses ∙ (ap (λ (cs : List (List Lit)). cs ++ s.clause ∷ []) mid_members ∙ sym (members_more given log s));
-          vars = subst (IsVarLimit first given) (sym (p.vars ∙ vars)) was.vars;
-          closed_below = p.closed_below;
-          accepted = accepted_more given log s was.accepted (subst (λ (cs : List (List Lit)). IsChain cs s.clause s.hints) mid_members p.extended.chain);
-          vars_of = vars_more given log s was.vars_of (subst (λ (cs : List (List Lit)). All (λ l. IsVarOf cs l.var) s.clause) mid_members p.extended.vars_of);
-          novel = novel_more given log s was.novel (subst (λ (cs : List (List Lit)). IsNovel cs s.clause) mid_members p.novel);
-          no_empty = All-push (λ (s : Step). s.clause ≢ []) log s was.no_empty p.not_empty;
-          direct = λ hints chain. absurd (p.deep (direct_level hints chain));
-        })
+    -- where the trail is at its end for propagation and what is assumed is true, the given clauses force no more
+    pub all_closed : (place : ℕ) → IsClosed mid.clauses (falses_of (take place mid.assigned)) → AreTrue (falses_of (take place mid.assigned)) assumed → IsClosed (members_of given log) (falses_of (take place mid.assigned))
+    all_closed place closed is_true =
+        given_closed (members_of given log) (members_of kept log) assumed keeps_log (falses_of (take place mid.assigned))
+        (consistent mid.clauses (take place mid.assigned) (IsTrail-cut mid.clauses mid.assigned place trail))
+        (subst (λ (cs : List (List Lit)). IsClosed cs (falses_of (take place mid.assigned))) mid_members closed) is_true
 
-    module _ (end : IsEnd mid log after) where
-      pub end_accepted : IsAccepted given after
-      end_accepted = subst (IsAccepted given) (sym end.extended.added) (accepted_more given log end.extended.step was.accepted (subst (λ (cs : List (List Lit)). IsChain cs end.extended.step.clause end.extended.step.hints) mid_members end.extended.chain))
+    -- the clauses and what is assumed can't hold
+    pub none_closed : IsClash mid.clauses assumed → (falses : List Lit) → IsClosed (members_of given log) falses → ⊥
+    none_closed clash = never_closed (members_of given log) (members_of kept log) assumed keeps_log (subst (λ (cs : List (List Lit)). IsClash cs assumed) mid_members clash)
 
-      pub end_vars : HasVarsOf given after
-      end_vars = subst (HasVarsOf given) (sym end.extended.added) (vars_more given log end.extended.step was.vars_of (subst (λ (cs : List (List Lit)). All (λ l. IsVarOf cs l.var) end.extended.step.clause) mid_members end.extended.vars_of))
+    -- where propagation is at its end before some decision, the empty clause is no chain
+    pub deep_chain : (conflict : ℕ) → IsStuck assumed mid conflict → (hints : List ℕ) → IsChain mid.clauses [] hints → ⊥
+    deep_chain conflict stuck hints chain = closed_no_chain mid.clauses (falses_of (take stuck.place mid.assigned)) stuck.closed hints chain
 
-      pub end_novel : IsNovelButLast given after
-      end_novel = subst (IsNovelButLast given) (sym end.extended.added) (novel_but_last given log end.extended.step was.novel end.empty)
+    -- how many clauses the trail has
+    pub members_long : length mid.clauses ≡ length kept + length log
+    members_long = ap length mid_members ∙ (length-append kept (map (λ (s : Step). s.clause) log) ∙ ap (λ (n : ℕ). length kept + n) (length-map log (λ (s : Step). s.clause)))
 
-      pub end_empty : EndsEmpty after
-      end_empty = subst EndsEmpty (sym end.extended.added) (ends_empty given log end.extended.step end.empty)
+    -- the values of a full trail satisfy all that is given
+    pub found_model : (values : List Bool) → IsClosed mid.clauses (falses_of mid.assigned) → AreTrue (falses_of mid.assigned) assumed → All IsClause mid.clauses → All (HasVarsUpTo mid.vars) mid.clauses → All (λ l. IsVariable l.var) assumed →
+        length values ≡ mid.vars → AreValues (falses_of mid.assigned) values → IsModel first given values
+    found_model values closed is_true each within variables long are =
+        let falses : List Lit = falses_of mid.assigned in
+        let all : List (List Lit) = members_of given log in
+        let few : List (List Lit) = members_of kept log in
+        let low : first ≤ mid.vars = subst (λ (n : ℕ). first ≤ n) (sym vars) was.vars in
+        let in_range : All (IsVarIn mid.vars) assumed = subst (λ (n : ℕ). All (IsVarIn n) assumed) (sym vars) was.in_range in
+        let model : IsModel first all values = full_model mid.vars first all falses values
+        (given_closed all few assumed keeps_log falses (consistent mid.clauses mid.assigned trail) (subst (λ (cs : List (List Lit)). IsClosed cs falses) mid_members closed) is_true)
+        (given_clauses all few assumed keeps_log (subst (All IsClause) mid_members each) variables)
+        (given_vars all few assumed keeps_log mid.vars (subst (All (HasVarsUpTo mid.vars)) mid_members within) in_range) long low are in
+        model_front first given (map (λ (s : Step). s.clause) log) values model
 
-      pub end_long : length after ≡ length log + 1
-      end_long = ap length end.extended.added ∙ length-append log (end.extended.step ∷ [])
+    module _ (conflict : ℕ) (stuck : IsStuck assumed mid conflict) where
+      pub not_direct : (hints : List ℕ) → IsChain given [] hints → ⊥
+      not_direct hints chain =
+          closed_no_chain given (falses_of (take stuck.place mid.assigned)) (All-front (λ c. (¬ IsFalsified (Contains (falses_of (take stuck.place mid.assigned))) c) × ((l : Lit) → ¬ IsUnit (Contains (falses_of (take stuck.place mid.assigned))) c l)) given (map (λ (s : Step). s.clause) log) (all_closed stuck.place stuck.closed stuck.assumed_true)) hints chain
 
-      pub end_direct : (hints : List ℕ) → IsChain given [] hints → IsDirect after
-      end_direct hints chain =
-          let none : log ≡ [] = was.direct hints chain in
-          inr (end.extended.step, end.extended.added ∙ ap (λ (ss : List Step). ss ++ end.extended.step ∷ []) none, end.empty)
+      -- one more step
+      pub searching_more : (number : ℕ → ℕ) (new : Trailed) (after : List Step) (deep : ℕ) → IsAssumedFirst assumed deep mid.assigned → IsProgress number mid new log after →
+          ((hint : ℕ) (c : List Lit) → Names (members_of kept log) hint c → Names (members_of given log) (number hint) c) → ((hint : ℕ) → ¬ NamesUnit clauses local (number hint)) →
+          Searching given kept local assumed clauses first deep new after
+      searching_more number new after deep assumed_first p sends free =
+          let s : Step = record { clause = p.step.clause; hints = map number p.step.hints } in
+          let falses : List Lit = falses_of mid.assigned in
+          let chain : IsChain (members_of kept log) s.clause p.step.hints = subst (λ (cs : List (List Lit)). IsChain cs s.clause p.step.hints) mid_members p.chain in
+          let novel : IsNovel (members_of kept log) s.clause = subst (λ (cs : List (List Lit)). IsNovel cs s.clause) mid_members p.novel in
+          let of : All (λ (l : Lit). IsVarOf (members_of kept log) l.var) s.clause = subst (λ (cs : List (List Lit)). All (λ (l : Lit). IsVarOf cs l.var) s.clause) mid_members p.vars_of in
+          subst (Searching given kept local assumed clauses first deep new) (sym p.added) (record {
+            clauses_are = p.clauses ∙ (ap (λ (cs : List (List Lit)). cs ++ s.clause ∷ []) mid_members ∙ sym (members_more kept log s));
+            vars = subst (λ (n : ℕ). first ≤ n) (sym (p.vars ∙ vars)) was.vars;
+            in_range = subst (λ (n : ℕ). All (IsVarIn n) assumed) (sym (p.vars ∙ vars)) was.in_range;
+            closed_below = p.closed_below;
+            assumed_first = subst (IsAssumedFirst assumed deep) (sym p.stays) (first_cut mid.assigned assumed deep assumed_first p.count);
+            accepted = accepted_more given log s was.accepted (chain_renumbered number (members_of kept log) (members_of given log) s.clause p.step.hints (λ k d h c named. sends (get_or p.step.hints k d) c named) chain);
+            vars_of = vars_more given log s was.vars_of (All-weaker (λ (l : Lit). IsVarOf (members_of kept log) l.var) (λ (l : Lit). IsVarOf (members_of given log) l.var) (λ l v. record { clause = v.clause; literal = v.literal; given = keeps_log.of_kept v.clause v.given; member = v.member; same = v.same }) s.clause of);
+            novel = novel_more given log s was.novel (given_novel (members_of given log) (members_of kept log) assumed keeps_log falses (consistent mid.clauses mid.assigned trail) (front_true mid.assigned stuck.place assumed stuck.assumed_true) s.clause p.is_false novel);
+            no_empty = All-push (λ (s : Step). s.clause ≢ []) log s was.no_empty p.not_empty;
+            no_units = All-push (λ (s : Step). s.clause ≢ [] → All (λ hint. ¬ NamesUnit clauses local hint) s.hints) log s was.no_units (λ _. All-map (λ hint. ¬ NamesUnit clauses local hint) number p.step.hints (λ k d h. free (get_or p.step.hints k d)));
+            direct = λ hints chain. absurd (not_direct hints chain);
+          })
 
-      pub end_log : IsSearchLog given after
-      end_log = record { accepted = end_accepted; vars = end_vars; novel = end_novel; direct = end_direct }
+  -- a last empty step
+  module _ (s : Step) (after : List Step) (added : after ≡ log ++ s ∷ []) (empty : s.clause ≡ []) (chain : IsChain (members_of given log) s.clause s.hints) where
+    pub end_accepted : IsAccepted given after
+    end_accepted = subst (IsAccepted given) (sym added) (accepted_more given log s was.accepted chain)
 
--- the log while the search goes on
-pub log_so_far : (given : List (List Lit)) (first : ℕ) (trail : Trailed) (log : List Step) → Searching given first trail log → IsSearchLog given log
-log_so_far given first trail log s =
-    record {
-      accepted = s.accepted;
-      vars = s.vars_of;
-      novel = novel_all given log s.novel;
-      direct = λ hints chain. inl (s.direct hints chain);
-    }
+    pub end_vars : HasVarsOf given after
+    end_vars = subst (HasVarsOf given) (sym added) (vars_more given log s was.vars_of (subst (All (λ (l : Lit). IsVarOf (members_of given log) l.var)) (sym empty) (All-nil (λ (l : Lit). IsVarOf (members_of given log) l.var))))
+
+    pub end_empty : EndsEmpty after
+    end_empty = subst EndsEmpty (sym added) (ends_empty given log s empty)
+
+    pub end_last : HasEmptyOnlyLast after
+    end_last =
+        let last : length (log ++ s ∷ []) - 1 ≡ length log = omega (arith, length-append log (s ∷ [])) in
+        subst HasEmptyOnlyLast (sym added) (subst HasNoEmpty (sym (ap (λ (n : ℕ). take n (log ++ s ∷ [])) last ∙ front log s)) was.no_empty)
+
+    pub end_log : IsSearchLog given after
+    end_log =
+        record {
+          accepted = end_accepted;
+          vars = end_vars;
+          novel = subst (IsNovelButLast given) (sym added) (novel_but_last given log s was.novel empty);
+          direct = λ hints chain. inr (s, added ∙ ap (λ (ss : List Step). ss ++ s ∷ []) (was.direct hints chain), empty);
+        }
+
+    pub end_no_units : NamesNoUnits clauses local after
+    end_no_units = subst (NamesNoUnits clauses local) (sym added) (All-push (λ (s : Step). s.clause ≢ [] → All (λ hint. ¬ NamesUnit clauses local hint) s.hints) log s was.no_units (λ not_empty. absurd (not_empty empty)))
+
+  -- the log while the search goes on
+  pub last_so_far : HasEmptyOnlyLast log
+  last_so_far = All-take (λ (s : Step). s.clause ≢ []) (length log - 1) log was.no_empty
+
+  pub log_so_far : IsSearchLog given log
+  log_so_far =
+      record {
+        accepted = was.accepted;
+        vars = was.vars_of;
+        novel = novel_all given log was.novel;
+        direct = λ hints chain. inl (was.direct hints chain);
+      }
 
 -- a valuation that satisfies the formula and the local clauses satisfies the pool too
 pool_holds : (clauses local : List (List Lit)) (pool : List Step) → IsAccepted clauses pool → (v : ℕ → Bool) → Satisfies v (clauses ++ local) → Satisfies v (members_of (clauses ++ local) pool)
@@ -224,34 +311,6 @@ pub cannot_hold : (clauses local : List (List Lit)) (pool log : List Step) → I
 cannot_hold clauses local pool log pooled accepted ends v holds =
     no_valuation (members_of (clauses ++ local) pool) log (accepted, ends) v (pool_holds clauses local pool pooled v holds)
 
--- what satisfies the trail's clauses satisfies what was asked
-pub asked_model : (first vars : ℕ) (asked : List (List Lit)) (pool log : List Step) (clauses : List (List Lit)) (values : List Bool) → clauses ≡ members_of (members_of asked pool) log → first ≤ vars → IsModel vars clauses values → IsModel first asked values
-asked_model first vars asked pool log clauses values same le model =
-    record {
-      enough = let high : vars ≤ length values = model.enough in omega arith;
-      within = narrow (HasVarsUpTo (length values)) model.within;
-      satisfied = narrow (λ c. IsTrue (clause_value (value_of values) c)) model.satisfied;
-    }
-  where
-    narrow : (P : List Lit → Type 0) → All P clauses → All P asked
-    narrow P all = All-front P asked (map (λ (s : Step). s.clause) pool) (All-front P (members_of asked pool) (map (λ (s : Step). s.clause) log) (subst (All P) same all))
-
--- no literals
-pub none_left : (lits : List Lit) → length lits ≡ 0 → lits ≡ []
-none_left [] h = refl
-none_left (l ∷ ls) h = absurd (omega arith)
-
--- a list whose length is 0
-pub empty_when : (lits clause : List Lit) (b : Bool) → lits ≡ clause → b ≡ (length lits == 0) → b ≡ true → clause ≡ []
-empty_when lits clause b same is t =
-    let none : length lits ≡ 0 = eqb-true (length lits) 0 (sym is ∙ t) in
-    none_left clause (subst (λ (ls : List Lit). length ls ≡ 0) same none)
-
-pub not_empty_when : (lits clause : List Lit) (b : Bool) → lits ≡ clause → b ≡ (length lits == 0) → b ≡ false → clause ≢ []
-not_empty_when lits clause b same is f none =
-    let e : (length lits == 0) ≡ true = eq-eqb (length lits) 0 (ap length (same ∙ none)) in
-    let g : true ≡ false = sym e ∙ (sym is ∙ f) in cc
-
 -- where the variables of the clauses are bounded, those of the log are
 pub vars_bounded : (clauses local : List (List Lit)) (pool log : List Step) → HasVarsOf (members_of (clauses ++ local) pool) log → (n : ℕ) → All (HasVarsUpTo n) clauses → All (HasVarsUpTo n) local → All (λ s. HasVarsUpTo n s.clause) pool → All (λ s. HasVarsUpTo n s.clause) log
 vars_bounded clauses local pool log of n first second third k d h j e m =
@@ -260,3 +319,27 @@ vars_bounded clauses local pool log of n first second third k d h j e m =
     let var = of k d h j e m in
     let there : var.literal.var ≤ n = All-contains (λ (l : Lit). l.var ≤ n) var.clause var.literal (All-contains (HasVarsUpTo n) (members_of (clauses ++ local) pool) var.clause all var.given) var.member in
     subst (λ (v : ℕ). v ≤ n) var.same there
+
+-- where the variables of the given clauses are those of a trail, so are those of the log
+pub vars_within : (given : List (List Lit)) (log : List Step) (vars : ℕ) → HasVarsOf given log → All (HasVarsUpTo vars) given → All (λ s. HasVarsUpTo vars s.clause) log
+vars_within given log vars of within k d h j e m =
+    let var = of k d h j e m in
+    let there : var.literal.var ≤ vars = All-contains (λ (l : Lit). l.var ≤ vars) var.clause var.literal (All-contains (HasVarsUpTo vars) given var.clause within var.given) var.member in
+    subst (λ (v : ℕ). v ≤ vars) var.same there
+
+-- the members with the first steps, and one more of them
+pub members_taken : (given : List (List Lit)) (log : List Step) (i : ℕ) (d : Step) → i < length log → members_of given (take (i + 1) log) ≡ members_of given (take i log) ++ (get_or log i d).clause ∷ []
+members_taken given log i d h = ap (members_of given) (take_more log i d h) ∙ members_more given (take i log) (get_or log i d)
+
+pub members_all : (given : List (List Lit)) (log : List Step) (n : ℕ) → length log ≤ n → members_of given (take n log) ≡ members_of given log
+members_all given log n h = ap (members_of given) (take_all n log h)
+
+-- how many there are
+pub members_count : (clauses local : List (List Lit)) (pool log : List Step) → length (members_of (members_of (clauses ++ local) pool) log) ≡ ((length clauses + length local) + length pool) + length log
+members_count clauses local pool log =
+    let a = length-append (members_of (clauses ++ local) pool) (map (λ (s : Step). s.clause) log) in
+    let b = length-append (clauses ++ local) (map (λ (s : Step). s.clause) pool) in
+    let c = length-append clauses local in
+    let d = length-map pool (λ (s : Step). s.clause) in
+    let e = length-map log (λ (s : Step). s.clause) in
+    omega (arith, a, b, c, d, e)

@@ -1,10 +1,10 @@
 -- What an answer of a search says of the clauses that it was asked for.
-use Rattle.std.specs.Prelude.{◌≡◌, ◌≤◌, ℕ, Bool, List, All, length}
+use Rattle.std.specs.Prelude.{◌≡◌, ◌≢◌, ◌<◌, ◌≤◌, ◌-◌, ◌∷◌, [], ℕ, Bool, List, All, length, take}
 use Rattle.cnf_core.specs.declared.literal.Lit.{Lit}
 use Rattle.cnf_core.specs.Literal.{HasVarsUpTo}
 use Rattle.cnf_core.specs.Valuation.{Satisfies, value_of}
 use Rattle.refutation_check.specs.declared.log.Step.{Step}
-use Rattle.refutation_check.specs.Chain.{members_of, EndsEmpty}
+use Rattle.refutation_check.specs.Chain.{members_of, Names, EndsEmpty}
 use Rattle.refutation_check.specs.SearchLog.{HasNoEmpty, IsAllNovel}
 use Rattle.sat_core.specs.declared.search.Answer.{Answer}
 use Rattle.sat_core.specs.declared.search.Answer.TheVariants.{Found, Refuted, Spent}
@@ -20,6 +20,20 @@ pub record IsModel (vars : ℕ) (clauses : List (List Lit)) (valuation : List Bo
   pub enough : vars ≤ length valuation
   pub within : All (HasVarsUpTo (length valuation)) clauses
   pub satisfied : Satisfies (value_of valuation) clauses
+
+-- the hint names a local clause of one literal, where the local clauses are numbered after so many clauses of a formula
+pub record NamesUnit (clauses : ℕ) (local : List (List Lit)) (hint : ℕ) : Type 0 where
+  pub literal : Lit
+  pub after : clauses < hint
+  pub named : Names local (hint - clauses) (literal ∷ [])
+
+-- no hint of a step that is not empty names a local clause of one literal
+abbrev pub NamesNoUnits : ℕ → List (List Lit) → List Step → Type 0
+NamesNoUnits clauses local steps = All (λ s. s.clause ≢ [] → All (λ hint. ¬ NamesUnit clauses local hint) s.hints) steps
+
+-- no step but the last is empty
+abbrev pub HasEmptyOnlyLast : List Step → Type 0
+HasEmptyOnlyLast steps = HasNoEmpty (take (length steps - 1) steps)
 
 -- the clauses are satisfied, and no step is empty; or they can't be satisfied, and the last step is empty;
 -- or the budget is spent on novel steps, none of them empty

@@ -2,6 +2,7 @@
 #![tactic(auto)]
 
 mod descent;
+mod locals;
 mod search;
 #[cfg(test)]
 mod tests;

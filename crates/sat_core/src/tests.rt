@@ -1,4 +1,4 @@
-ghost use Rattle.std.specs.Prelude.{◌≡◌, ◌+◌, ◌≤◌, ◌<◌, All, IfOk, length};
+ghost use Rattle.std.specs.Prelude.{◌≡◌, ◌≤◌, ◌<◌, All, IfOk, length};
 ghost use Rattle.cnf_core.specs.Literal.{IsClause, HasVarsUpTo};
 ghost use Rattle.refutation_check.specs.Chain.{IsAccepted};
 
@@ -127,50 +127,139 @@ fn a_found_valuation_satisfies(rt: HostRuntime) -> Result<(), Fail> {
     Ok(())
 }
 
-/// The hints of the only step of a refutation with this pool and these local clauses.
+/// The clauses of these literals by their numbers.
+fn clauses_of(alloc: Global, clauses: &[&[i8]]) -> Result<Vec<Clause>, Fail>
+    ensures { IfOk result (λ made. length made.items ≡ length clauses.now) }
+{
+    let mut made = Vec::new(alloc);
+    for numbers in clauses {
+        made.push(clause(alloc, 13, numbers)?)?;
+    }
+    Ok(made)
+}
+
+/// What a search with a pool and local clauses comes to, and its log.
+fn searched(
+    alloc: Global,
+    f: &Cnf,
+    pool: &Log,
+    local: &[&[i8]],
+    budget: u64,
+) -> Result<(Kind, Log), Fail>
+    requires pool { IsAccepted f.now.clauses pool.now }
+    requires clauses { length f.now.clauses < 1000 }
+    requires steps { length pool.now < 1000 }
+    requires local { length local.now < 1000 }
+    requires budget { budget < 100000 }
+{
+    let clauses = clauses_of(alloc, local)?;
+    match solve(alloc, f, pool, clauses.as_slice(), budget)? {
+        Answer::Found { log, .. } => Ok((Kind::Found, log)),
+        Answer::Refuted { log } => Ok((Kind::Refuted, log)),
+        Answer::Spent { log } => Ok((Kind::Spent, log)),
+    }
+}
+
+/// The hints of the only step of a refutation with this pool and these local clauses, the lowest first.
 fn only_hints(alloc: Global, f: &Cnf, pool: &Log, local: &[&[i8]]) -> Result<Vec<u32>, Fail>
-    requires vars { f.now.vars < 128 }
     requires pool { IsAccepted f.now.clauses pool.now }
     requires clauses { length f.now.clauses < 1000 }
     requires steps { length pool.now < 1000 }
     requires local { length local.now < 1000 }
 {
-    let mut clauses = Vec::new(alloc);
-    for numbers in local {
-        clauses.push(clause(alloc, f.vars(), numbers)?)?;
-    }
-    match solve(alloc, f, pool, clauses.as_slice(), 1)? {
-        Answer::Refuted { log } => match log.steps() {
-            [step] => Ok(step.hints.copy(alloc)?.into_numbers()),
-            _ => Err("not one step")?,
-        },
-        _ => Err("not refuted")?,
+    let (kind, log) = searched(alloc, f, pool, local, 1)?;
+    match log.steps() {
+        [step] if kind == Kind::Refuted => {
+            let mut hints = step.hints.numbers().to_vec(alloc)?;
+            hints.sort()?;
+            Ok(hints)
+        }
+        _ => Err("not one step of a refutation")?,
     }
 }
 
 #[test]
-fn local_clauses_are_numbered_after_the_formula(rt: HostRuntime) -> Result<(), Fail> {
+fn contradicting_units_are_named_by_the_last_step(rt: HostRuntime) -> Result<(), Fail> {
     let alloc = rt.alloc();
     let one = formula(alloc, 2, &[&[1, 2]])?;
-    let contradicting = only_hints(alloc, &one, &Log::new(alloc), &[&[2], &[-2]])?;
-    assert_eq!(rt; contradicting.as_slice(), [2, 3].as_slice());
-    let empty = only_hints(alloc, &one, &Log::new(alloc), &[&[2], &[]])?;
-    assert_eq!(rt; empty.as_slice(), [3].as_slice());
+    let hints = only_hints(alloc, &one, &Log::new(alloc), &[&[1], &[2], &[2], &[-2]])?;
+    assert_eq!(rt; hints.as_slice(), [3, 5].as_slice());
     Ok(())
 }
 
-/// A pool of the step that the first variable is true.
-fn pool_of_one(alloc: Global, f: &Cnf) -> Result<Log, Fail>
-    requires { f.now.vars ≡ 2 }
+#[test]
+fn a_unit_may_be_false_before_any_decision(rt: HostRuntime) -> Result<(), Fail> {
+    let alloc = rt.alloc();
+    let chain = formula(alloc, 2, &[&[1], &[-1, 2]])?;
+    let hints = only_hints(alloc, &chain, &Log::new(alloc), &[&[-2]])?;
+    assert_eq!(rt; hints.as_slice(), [1, 2, 3].as_slice());
+    Ok(())
+}
+
+#[test]
+fn an_empty_local_clause_takes_a_step(rt: HostRuntime) -> Result<(), Fail> {
+    let alloc = rt.alloc();
+    let one = formula(alloc, 2, &[&[1, 2]])?;
+    let none = Log::new(alloc);
+    let (kind, _) = searched(alloc, &one, &none, &[&[-1], &[]], 0)?;
+    assert_eq!(rt; kind, Kind::Spent);
+    let hints = only_hints(alloc, &one, &none, &[&[-1], &[]])?;
+    assert_eq!(rt; hints.as_slice(), [3].as_slice());
+    Ok(())
+}
+
+#[test]
+fn units_of_further_variables_hold(rt: HostRuntime) -> Result<(), Fail> {
+    let alloc = rt.alloc();
+    let one = formula(alloc, 2, &[&[1, 2]])?;
+    let none = Log::new(alloc);
+    let (kind, _) = searched(alloc, &one, &none, &[&[5], &[-2], &[-4]], 0)?;
+    assert_eq!(rt; kind, Kind::Found);
+    let hints = only_hints(alloc, &one, &none, &[&[5], &[-5]])?;
+    assert_eq!(rt; hints.as_slice(), [2, 3].as_slice());
+    Ok(())
+}
+
+/// Where the first is true, so are the second, and so the third and the fourth, of which not both are.
+const FORK: [&[i8]; 4] = [&[-1, 2], &[-2, 3], &[-2, 4], &[-3, -4]];
+
+#[test]
+fn a_conflict_with_nothing_else_decided_takes_one_step(rt: HostRuntime) -> Result<(), Fail> {
+    let alloc = rt.alloc();
+    let fork = formula(alloc, 4, &FORK)?;
+    let none = Log::new(alloc);
+    let hints = only_hints(alloc, &fork, &none, &[&[1]])?;
+    assert_eq!(rt; hints.as_slice(), [1, 2, 3, 4, 5].as_slice());
+    let (kind, _) = searched(alloc, &fork, &none, &[&[-1]], 0)?;
+    assert_eq!(rt; kind, Kind::Found);
+    Ok(())
+}
+
+/// Where the first pigeon has the first hole.
+#[test]
+fn steps_are_learnt_under_a_unit(rt: HostRuntime) -> Result<(), Fail> {
+    let alloc = rt.alloc();
+    let pigeons = formula(alloc, 12, &PIGEONS)?;
+    let none = Log::new(alloc);
+    let (kind, _) = searched(alloc, &pigeons, &none, &[&[1]], 1000)?;
+    assert_eq!(rt; kind, Kind::Refuted);
+    let (kind, log) = searched(alloc, &pigeons, &none, &[&[1]], 1)?;
+    assert_eq!(rt; (kind, log.steps().len()), (Kind::Spent, 1));
+    Ok(())
+}
+
+/// A pool of the step with this clause and these hints.
+fn pool_of(alloc: Global, f: &Cnf, numbers: &[i8], hints: &[u32]) -> Result<Log, Fail>
+    requires { f.now.vars ≤ 13 }
     ensures accepted { IfOk result (IsAccepted f.now.clauses) }
     ensures few { IfOk result (λ pool. length pool < 1000) }
 {
     let mut pool = Log::new(alloc);
     pool.push(Step {
-        clause: clause(alloc, 2, &[1])?,
-        hints: Hints::of([1, 2].to_vec(alloc)?),
+        clause: clause(alloc, 13, numbers)?,
+        hints: Hints::of(hints.to_vec(alloc)?),
     })?;
-    let mut scratch = Scratch::for_vars(alloc, 2)?;
+    let mut scratch = Scratch::for_vars(alloc, 13)?;
     match check(f, &pool, &mut scratch) {
         Verdict::NoEmptyClause => Ok(pool),
         _ => Err("not accepted")?,
@@ -178,12 +267,32 @@ fn pool_of_one(alloc: Global, f: &Cnf) -> Result<Log, Fail>
 }
 
 #[test]
+fn local_clauses_come_between_the_formula_and_the_pool(rt: HostRuntime) -> Result<(), Fail> {
+    let alloc = rt.alloc();
+    let two = formula(alloc, 2, &[&[1, 2], &[1, -2]])?;
+    let pool = pool_of(alloc, &two, &[1], &[1, 2])?;
+    let hints = only_hints(alloc, &two, &pool, &[&[-2], &[-1, 2]])?;
+    assert_eq!(rt; hints.as_slice(), [3, 4, 5].as_slice());
+    Ok(())
+}
+
+#[test]
+fn a_pool_may_have_further_variables(rt: HostRuntime) -> Result<(), Fail> {
+    let alloc = rt.alloc();
+    let one = formula(alloc, 1, &[&[1]])?;
+    let pool = pool_of(alloc, &one, &[1, 3], &[1])?;
+    let (kind, _) = searched(alloc, &one, &pool, &[&[-3], &[-1, 2]], 0)?;
+    assert_eq!(rt; kind, Kind::Found);
+    Ok(())
+}
+
+#[test]
 fn pool_steps_are_numbered_after_the_formula(rt: HostRuntime) -> Result<(), Fail> {
     let alloc = rt.alloc();
     let square = formula(alloc, 2, &SQUARE)?;
-    let pool = pool_of_one(alloc, &square)?;
+    let pool = pool_of(alloc, &square, &[1], &[1, 2])?;
     let hints = only_hints(alloc, &square, &pool, &[])?;
-    assert_eq!(rt; hints.as_slice(), [5, 4, 3].as_slice());
+    assert_eq!(rt; hints.as_slice(), [3, 4, 5].as_slice());
     Ok(())
 }
 
@@ -191,9 +300,9 @@ fn pool_steps_are_numbered_after_the_formula(rt: HostRuntime) -> Result<(), Fail
 fn pool_steps_are_numbered_after_local_clauses(rt: HostRuntime) -> Result<(), Fail> {
     let alloc = rt.alloc();
     let two = formula(alloc, 2, &[&[1, 2], &[1, -2]])?;
-    let pool = pool_of_one(alloc, &two)?;
+    let pool = pool_of(alloc, &two, &[1], &[1, 2])?;
     let hints = only_hints(alloc, &two, &pool, &[&[-1, 2], &[-1, -2]])?;
-    assert_eq!(rt; hints.as_slice(), [5, 4, 3].as_slice());
+    assert_eq!(rt; hints.as_slice(), [3, 4, 5].as_slice());
     Ok(())
 }
 
@@ -206,6 +315,7 @@ fn four_pigeons_have_no_three_holes(rt: HostRuntime) -> Result<(), Fail> {
     Ok(())
 }
 
+/// Each of four pigeons has one of three holes, and no two have one hole.
 const PIGEONS: [&[i8]; 22] = [
     &[1, 2, 3],
     &[4, 5, 6],

@@ -2,6 +2,7 @@ pub mod Leads
 pub mod Sizes
 pub mod Soundness
 pub mod Placed
+pub mod Asked
 pub mod Exact
 pub mod Changed
 pub mod Digits

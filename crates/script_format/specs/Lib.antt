@@ -6,4 +6,5 @@ pub mod Reading
 pub mod Read
 pub mod Script
 pub mod Sound
+pub mod Limits
 pub mod Generated

@@ -3,6 +3,7 @@ ghost use Rattle.std.specs.Prelude.{◌≡◌, ◌≤◌, ◌<◌, ℕ, List, le
 ghost use Rattle.script_format.specs.declared.entries.Script.{Script};
 ghost use Rattle.script_format.specs.declared.fault.ScriptFault.{ScriptFault};
 ghost use Rattle.script_format.specs.Keys.{keys_of};
+ghost use Rattle.script_format.specs.Limits.{IsAllowed, asked_in};
 ghost use Rattle.script_format.specs.Script.{IsScript, HasFault};
 
 /// Bytes are one script at most.
@@ -17,11 +18,14 @@ pub fn bytes_have_one_fault()
 {}
 
 /// A script has at most 16 models, 64 sessions and 16 pairs of a model and a command. Its sessions are on its models, and
-/// the models' texts have at most 1,048,576 bytes.
+/// the models' texts have at most 1,048,576 bytes. Its sessions ask for at most 20,000 scenarios, with budgets of at most
+/// 100,000.
 pub fn scripts_keep_to_limits()
     ensures models { (bytes : List ℕ) (s : Script) → IsScript bytes s → length s.models ≤ 16 }
     ensures sessions { (bytes : List ℕ) (s : Script) → IsScript bytes s → length s.sessions ≤ 64 }
     ensures keys { (bytes : List ℕ) (s : Script) → IsScript bytes s → length (keys_of s.sessions) ≤ 16 }
     ensures named { (bytes : List ℕ) (s : Script) → IsScript bytes s → All (λ x. x.model < length s.models) s.sessions }
+    ensures asked { (bytes : List ℕ) (s : Script) → IsScript bytes s → asked_in s.sessions ≤ 20000 }
+    ensures allowed { (bytes : List ℕ) (s : Script) → IsScript bytes s → All (λ x. All IsAllowed x.commands) s.sessions }
     ensures small { (bytes : List ℕ) (s : Script) → IsScript bytes s → All (λ m. length m.text ≤ 1048576) s.models }
 {}

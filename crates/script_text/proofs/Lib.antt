@@ -1,3 +1,4 @@
+pub mod Answered
 pub mod Cuts
 pub mod ProofLines
 pub mod ReplyLemmas
@@ -7,3 +8,4 @@ pub mod Separated
 pub mod Shown
 pub mod Tables
 pub mod Told
+pub mod Zips

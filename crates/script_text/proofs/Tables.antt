@@ -1,10 +1,11 @@
 -- Lines of tables, and the atoms in them.
-use Rattle.std.proofs.Common.{◌≡◌, ℕ, zero, suc, ◌+◌, ◌<◌, inl, inr, List, [], ◌∷◌, ◌++◌, take, length, get_or, Contains, All, sym, ◌∙◌, ap, arith, add-one, append_assoc}
+use Rattle.std.proofs.Common.{◌≡◌, ℕ, zero, suc, ◌+◌, ◌<◌, inl, inr, List, [], ◌∷◌, ◌++◌, take, length, get_or, slice_get, Some, Contains, All, sym, ◌∙◌, ap, arith, add-one, append_assoc}
 use Rattle.std.proofs.lemmas.List.{append-nil}
 use Rattle.std.proofs.lemmas.List.Elements.{All-contains, Contains-get_or}
+use Rattle.tuple_core.specs.declared.atom.Atom.{Atom}
 use Rattle.tuple_core.specs.Rows.{Rows}
 use Rattle.rel_formula.specs.declared.problem.Relation.{Relation}
-use Rattle.rel_formula.specs.Bounds.{Bounded, IsProblem, relation_at}
+use Rattle.rel_formula.specs.Bounds.{Bounded, IsProblem, relation_at, cell_of, cells_of}
 use Rattle.rel_formula.specs.Tables.{AreTables}
 use Rattle.rel_formula.proofs.Open.{cell_open}
 use Rattle.rel_formula.proofs.Tabled.{no_relation}
@@ -36,3 +37,9 @@ table_tops p s vs well are k d l i e m j f n =
       | inr cell ↦ (cell_open p cell.0 k t cell.2).1
     ] in
     well.atoms a (relation_at p.relations k, Contains-get_or p.relations k no_relation in', (t, up, Contains-get_or t j f n))
+
+-- the atoms of a cell are the problem's
+pub cell_tops : (p : Bounded) (n r : ℕ) (t : List Atom) → IsProblem p → slice_get (cells_of p) n ≡ Some (cell_of r t) → All (λ a. a.top < length p.tops) t
+cell_tops p n r t well at j f l =
+    let stands = cell_open p n r t at in
+    well.atoms (get_or t j f) (relation_at p.relations r, Contains-get_or p.relations r no_relation stands.0, (t, stands.1, Contains-get_or t j f l))

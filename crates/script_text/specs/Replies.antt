@@ -7,6 +7,12 @@ use Rattle.rel_formula.specs.declared.problem.Cell.{Cell}
 use Rattle.rel_formula.specs.Bounds.{Bounded, relation_at, cell_of, cells_of}
 use Rattle.rel_formula.specs.Instance.{AreCells}
 use Rattle.rel_formula.specs.Tables.{AreTables}
+use Rattle.translation_rules.specs.Translation.{Translated}
+use Rattle.proof_lines.specs.Printed.{IsCheckable}
+use Rattle.session_rules.specs.Proofs.{Proves}
+use Rattle.session_rules.specs.declared.end_proof.ProofKind.TheVariants.{End}
+use Rattle.session_rules.specs.declared.answers.Reply.{Reply}
+use Rattle.session_rules.specs.declared.answers.Reply.TheVariants as reply
 use Rattle.script_text.specs.Lines.{tuple_text, relation_lines}
 use Rattle.script_text.specs.Printed.{Printed, shown, ended, offered, augmented, back, budget_set, listed, partly, proved, refused, no_memory}
 
@@ -45,7 +51,7 @@ IsReplyText p no_memory text = text ≡ codes "memory\n"
 -- the lines of replies, one after the other
 abbrev pub AreReplyTexts : Bounded → List Printed → List ℕ → Type 0
 AreReplyTexts p [] text = text ≡ []
-AreReplyTexts p (reply ∷ replies) text = (first : List ℕ) × (others : List ℕ) × IsReplyText p reply first × AreReplyTexts p replies others × (text ≡ first ++ others)
+AreReplyTexts p (r ∷ rs) text = (first : List ℕ) × (others : List ℕ) × IsReplyText p r first × AreReplyTexts p rs others × (text ≡ first ++ others)
 
 -- `== `, the session's name, and the lines of its replies
 abbrev pub IsSessionText : Bounded → List ℕ → List Printed → List ℕ → Type 0
@@ -68,4 +74,28 @@ FitsProblem p (shown number scenario) = AreCells p scenario
 FitsProblem p (offered cells) = AreCells p cells
 FitsProblem p (listed scenarios) = All (AreCells p) scenarios
 FitsProblem p (partly first scenarios) = All (AreCells p) scenarios
-FitsProblem p reply = Unit {0}
+FitsProblem p r = Unit {0}
+
+-- the cells that the reply names are the problem's
+abbrev pub NamesCellsOf : Bounded → Reply → Type 0
+NamesCellsOf p (reply.Shown number scenario) = AreCells p scenario
+NamesCellsOf p (reply.Offers cells) = AreCells p cells
+NamesCellsOf p (reply.All scenarios) = All (AreCells p) scenarios
+NamesCellsOf p (reply.Partly first scenarios) = All (AreCells p) scenarios
+NamesCellsOf p (reply.Proof proof) = All (AreCells p) proof.blocked
+NamesCellsOf p r = Unit {0}
+
+-- the reply prints no proof
+abbrev pub PrintsNoProof : Reply → Type 0
+PrintsNoProof (reply.Proof proof) = ⊥
+PrintsNoProof r = Unit {0}
+
+-- a proof that the reply prints is one of the end of this floor
+abbrev pub PrintsRightProof : Translated → List ℕ → Reply → Type 0
+PrintsRightProof t floor (reply.Proof proof) = Proves t floor End proof
+PrintsRightProof t floor r = Unit {0}
+
+-- the lines of a proof that the reply prints are accepted by `check`, where they are no longer than a proof text may be
+abbrev pub PrintsCheckableProof : Translated → List ℕ → Reply → Type 0
+PrintsCheckableProof t floor (reply.Proof proof) = IsCheckable t floor End proof
+PrintsCheckableProof t floor r = Unit {0}

@@ -3,7 +3,7 @@ ghost use Rattle.std.specs.Prelude.{◌≡◌, ◌≢◌, IfOk};
 ghost use Rattle.script_format.specs.declared.fault.ScriptFault.TheVariants.{Memory as NoMemory};
 ghost use Rattle.script_text.specs.Faults.{script_line, line_words, fault_words};
 
-use crate::relation_lines::push_number;
+use crate::numbers::push_number;
 use script_format::ScriptFault;
 use std::alloc::{AllocError, Global};
 
@@ -47,7 +47,7 @@ fn line_words(alloc: Global, line: u32, kind: &[u8]) -> Result<Vec<u8>, AllocErr
     ensures { IfOk result (λ words. words.items ≡ line_words line kind.now) }
 {
     let mut words = Vec::from_slice(alloc, b"line ")?;
-    push_number(&mut words, line)?;
+    push_number(&mut words, u64::from(line))?;
     words.extend_from_slice(b" ")?;
     words.extend_from_slice(kind)?;
     Ok(words)

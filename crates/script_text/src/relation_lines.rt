@@ -1,22 +1,13 @@
 // The lines of a scenario's relations.
-ghost use Rattle.std.specs.Prelude.{◌≡◌, ◌<◌, ◌==◌, if◌then◌else◌, ◌++◌, ◌∷◌, [], ℕ, List, length, map, take, codes, decimal, All, Contains, IfOk};
+ghost use Rattle.std.specs.Prelude.{◌≡◌, ◌<◌, ◌==◌, if◌then◌else◌, ◌++◌, ◌∷◌, [], ℕ, List, length, map, take, codes, All, IfOk};
 ghost use Rattle.tuple_core.specs.declared.atom.Atom.{Atom as AtomRecord};
 ghost use Rattle.rel_formula.specs.Bounds.{Bounded};
 ghost use Rattle.script_text.specs.Lines.{atom_text, tuple_text, relation_line, separated};
 
-use itoa::Buffer;
+use crate::numbers::push_number;
 use rel_formula::{Problem, Relation};
 use std::alloc::AllocError;
 use tuple_core::{Atom, Tuple};
-
-/// Adds a number in decimal.
-pub fn push_number(out: &mut Vec<u8>, number: u32) -> Result<(), AllocError>
-    ensures { IfOk result (λ _. out.new.items ≡ out.old.items ++ decimal number) }
-{
-    let mut buffer = Buffer::new();
-    out.extend_from_slice(buffer.format(number).as_bytes())?;
-    Ok(())
-}
 
 // Adds the separator, except before the first piece.
 fn push_between(out: &mut Vec<u8>, place: usize, between: &[u8]) -> Result<(), AllocError>
@@ -38,12 +29,12 @@ fn push_atom(out: &mut Vec<u8>, problem: &Problem, atom: Atom) -> Result<(), All
     let relation = &relations[top as usize];
     out.extend_from_slice(relation.name.text().as_bytes())?;
     out.extend_from_slice(b"$")?;
-    push_number(out, atom.place as u32)?;
+    push_number(out, u64::from(atom.place))?;
     Ok(())
 }
 
-// Adds a tuple.
-fn push_tuple(out: &mut Vec<u8>, problem: &Problem, atoms: &[Atom]) -> Result<(), AllocError>
+/// Adds a tuple. The signatures of its atoms are those of the problem.
+pub fn push_tuple(out: &mut Vec<u8>, problem: &Problem, atoms: &[Atom]) -> Result<(), AllocError>
     requires { All (λ a. a.top < length problem.now.tops) atoms.now }
     ensures { IfOk result (λ _. out.new.items ≡ out.old.items ++ tuple_text problem.now atoms.now) }
 {

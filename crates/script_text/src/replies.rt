@@ -1,16 +1,16 @@
-// The lines of replies, and the text of a session.
-ghost use Rattle.std.specs.Prelude.{◌≡◌, ◌++◌, ℕ, List, map, codes, decimal, All, IfOk};
-ghost use Rattle.rel_formula.specs.Instance.{AreCells};
+// The lines of replies to `next` alone, and the text of a session that has no others.
+ghost use Rattle.std.specs.Prelude.{◌≡◌, ◌++◌, ℕ, List, map, codes, All, IfOk};
 ghost use Rattle.script_text.specs.Printed.{printed_next};
-ghost use Rattle.script_text.specs.Replies.{FitsProblem, IsScenarioText, IsReplyText, IsSessionText};
+ghost use Rattle.script_text.specs.Replies.{FitsProblem, IsReplyText, IsSessionText};
 
-use crate::relation_lines::push_number;
-use crate::scenario_lines::push_scenario;
-use rel_formula::{Problem, Scenario};
+use crate::numbers::push_number_line;
+use crate::scenario_lines::push_shown;
+use rel_formula::Problem;
 use session_rules::Reply;
 use std::alloc::{AllocError, Global};
 
-/// The text of a session: its name and the lines of its replies. The scenarios in these are the problem's.
+/// The text of a session that was asked for `next` alone: its name and the lines of its replies. The scenarios in these are
+/// the problem's.
 pub fn text_of_replies(
     alloc: Global,
     name: &str,
@@ -28,8 +28,8 @@ pub fn text_of_replies(
     Ok(out)
 }
 
-// Adds the line with the session's name.
-fn push_name(out: &mut Vec<u8>, name: &str) -> Result<(), AllocError>
+/// Adds the line with the session's name.
+pub fn push_name(out: &mut Vec<u8>, name: &str) -> Result<(), AllocError>
     ensures { IfOk result (λ _. out.new.items ≡ out.old.items ++ (codes "== " ++ name.now ++ codes "\n")) }
 {
     out.extend_from_slice(b"== ")?;
@@ -52,35 +52,7 @@ fn push_reply(
         Reply::Shown { number, scenario } => Ok(push_shown(
             alloc, out, problem, *number, scenario,
         )?),
-        Reply::End { number } => Ok(push_end(out, *number)?),
+        Reply::End { number } => Ok(push_number_line(out, b"end ", u64::from(*number))?),
         Reply::Memory => Ok(out.extend_from_slice(b"memory\n")?),
     }
-}
-
-// Adds the lines of a shown scenario.
-fn push_shown(
-    alloc: Global,
-    out: &mut Vec<u8>,
-    problem: &Problem,
-    number: u32,
-    scenario: &Scenario,
-) -> Result<(), AllocError>
-    requires { AreCells problem.now scenario.now }
-    ensures { IfOk result (λ _. (lines : List ℕ) × IsScenarioText problem.now scenario.now lines × (out.new.items ≡ out.old.items ++ (codes "scenario " ++ decimal number ++ codes "\n" ++ lines))) }
-{
-    out.extend_from_slice(b"scenario ")?;
-    push_number(out, number)?;
-    out.extend_from_slice(b"\n")?;
-    push_scenario(alloc, out, problem, scenario)?;
-    Ok(())
-}
-
-// Adds the line of an end.
-fn push_end(out: &mut Vec<u8>, number: u32) -> Result<(), AllocError>
-    ensures { IfOk result (λ _. out.new.items ≡ out.old.items ++ (codes "end " ++ decimal number ++ codes "\n")) }
-{
-    out.extend_from_slice(b"end ")?;
-    push_number(out, number)?;
-    out.extend_from_slice(b"\n")?;
-    Ok(())
 }

@@ -1,7 +1,6 @@
-use Rattle.std.proofs.Common.{◌≡◌, ◌+◌, ◌-◌, length}
-use Rattle.assignment_trail.specs.Trail.{falses_of}
-use Rattle.sat_trail.specs.Closed.{IsClosedBelow}
-use Rattle.sat_core.specs.Search.{HasAllValues}
+use Rattle.std.proofs.Common.{◌≡◌, ◌≤◌, ◌+◌, ◌-◌, length}
+use Rattle.assignment_trail.specs.Trail.{falses_of, level_of}
+use Rattle.sat_core.specs.Search.{HasAllValues, IsAssumedTo}
 use Rattle.sat_core.proofs.descent.descend.Given as goal
 
 abbrev pub invariant-deciding : goal.invariant-deciding
@@ -9,7 +8,8 @@ invariant-deciding l = record {
   vars : l.trail.vars ≡ l.fn.trail.vars;
   clauses : l.trail.clauses ≡ l.fn.trail.clauses;
   values : HasAllValues l.first (falses_of l.trail.assigned);
-  closed_below : IsClosedBelow l.trail.clauses l.trail.assigned;
+  so_far : IsAssumedTo l.assumed (length l.assumed) l.depth l.trail;
+  low : l.depth ≤ level_of l.trail.assigned;
 }
 
 abbrev pub decreases-deciding : goal.decreases-deciding

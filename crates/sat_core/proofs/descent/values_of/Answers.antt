@@ -1,6 +1,7 @@
-use Rattle.std.proofs.Common.{◌≡◌, ◌+◌, ◌∷◌, [], Bool, List, length, arith, sym, ap, subst, length-append}
-use Rattle.sat_core.specs.Answers.{IsModel}
-use Rattle.sat_core.proofs.Descents.{full_model, value_false, values_more}
+use Rattle.std.proofs.Common.{◌+◌, ◌∷◌, [], Bool, List, length, arith, sym, ap, subst, length-append}
+use Rattle.assignment_trail.specs.Trail.{falses_of}
+use Rattle.sat_core.specs.Search.{AreValues}
+use Rattle.sat_core.proofs.Descents.{value_false, values_more}
 use Rattle.sat_core.proofs.descent.values_of.Goals as goal
 
 pub loop-var-preserved : goal.loop-var-preserved
@@ -13,7 +14,8 @@ loop-var-preserved c =
       values = rw items (values_more _ _ _ was.values (rw (was.long, c.unwrap_or.ensures) has));
     }
 
-pub returns : goal.returns
-returns c =
-    let long : length c.loop-var.values.items ≡ c.args.trail.now.vars = omega (arith, c.loop-var.invariant.long, c.vars-var-end.ensures.vars, c.loop-var-test.false) in
-    subst (λ (vs : List Bool). IsModel c.args.trail.now.vars c.args.trail.now.clauses vs) (sym c.of.ensures) (full_model _ _ c.requires c.vars-var-end.ensures.clauses c.vars-var-end.ensures.within long c.loop-var.invariant.values)
+pub returns-clause-long : goal.returns-clause-long
+returns-clause-long c = omega (arith, ap length c.of.ensures, c.loop-var.invariant.long, c.vars-var-end.ensures.vars, c.loop-var-test.false)
+
+pub returns-clause-values : goal.returns-clause-values
+returns-clause-values c = subst (λ (vs : List Bool). AreValues (falses_of c.args.trail.now.assigned) vs) (sym c.of.ensures) c.loop-var.invariant.values

@@ -1,4 +1,5 @@
 use Rattle.script_format.proofs.Exact.{few_models, few_sessions, few_keys, models_there, texts_small}
+use Rattle.script_format.proofs.Asked.{asked_few, all_allowed}
 use Rattle.script_format.proofs.laws.scripts_keep_to_limits.Goals as goal
 
 pub returns : goal.returns
@@ -7,5 +8,7 @@ returns c = record {
   sessions = λ bytes s is. few_sessions bytes s is;
   keys = λ bytes s is. few_keys bytes s is;
   named = λ bytes s is. models_there bytes s is;
+  asked = λ bytes s is. asked_few bytes s is;
+  allowed = λ bytes s is. all_allowed bytes s is;
   small = λ bytes s is. texts_small bytes s is;
 }

@@ -1,0 +1,14 @@
+//! The cells that an instance can be given: those outside it which some instance has together with it.
+#![tactic(auto)]
+
+mod answer;
+mod cells;
+mod offering;
+mod search;
+#[cfg(test)]
+mod tests;
+
+pub use crate::answer::Offers;
+pub use crate::offering::offers;
+pub use crate::search::{Sought, seek};
+pub use std::alloc::AllocError as NoMemory;

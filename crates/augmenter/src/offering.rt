@@ -1,0 +1,74 @@
+// The search for all cells that an instance can be given.
+ghost use Rattle.std.specs.Prelude.{◌≡◌, ◌≤◌, length, IfOk};
+ghost use Rattle.refutation_check.specs.Chain.{IsAccepted};
+ghost use Rattle.rel_formula.specs.Instance.{IsInstance, with_cell};
+ghost use Rattle.augmenter.specs.Offering.{parts_of, AreTrials, IsRight};
+
+use crate::NoMemory;
+use crate::answer::Offers;
+use crate::cells::{mark_true, marked_outside};
+use crate::search::{Sought, seek};
+use refutation_check::Log;
+use rel_formula::Scenario;
+use std::alloc::Global;
+use translation::Translation;
+
+/// All cells outside an instance that some instance has together with it.
+///
+/// Each search asks whether the instance can be given one more cell, and what it finds can be given at once: no search is
+/// made for a cell of an instance that was found. The searches take at most `budget` novel steps, which is at most
+/// 100,000,000. The pool is an accepted log over the translation's clauses, of at most 20,000 steps. The error comes only for
+/// want of memory.
+pub fn offers(
+    alloc: Global,
+    translation: &Translation,
+    pool: &Log,
+    scenario: &Scenario,
+    budget: u64,
+) -> Result<Offers, NoMemory>
+    requires pool { IsAccepted translation.now.cnf.clauses pool.now }
+    requires few { length pool.now ≤ 20000 }
+    requires scenario { IsInstance translation.now.problem scenario.now }
+    requires budget { budget ≤ 100000000 }
+    ensures parts { IfOk result (λ offers. AreTrials translation.now pool.now scenario.now budget (parts_of offers)) }
+    ensures answer { IfOk result (IsRight translation.now pool.now scenario.now budget) }
+{
+    let problem = translation.problem();
+    let _ = problem.relations();
+    let cells = problem.cells();
+    let mut possible = vec![in alloc; false; cells as usize]?;
+    let mut parts = Vec::new(alloc);
+    let mut left = budget;
+    for cell in 0..cells {
+        if scenario.has(cell) || possible[cell as usize] {
+            continue;
+        }
+        let wanted = with(alloc, scenario, cell)?;
+        match seek(alloc, translation, pool, &wanted, left)? {
+            Sought::Possible { valuation, part } => {
+                left -= part.log().steps().len() as u64;
+                parts.push(part)?;
+                mark_true(possible.as_mut_slice(), &valuation);
+            }
+            Sought::Impossible { part } => {
+                left -= part.log().steps().len() as u64;
+                parts.push(part)?;
+            }
+            Sought::Spent { part } => {
+                parts.push(part)?;
+                return Ok(Offers::Spent { parts });
+            }
+        }
+    }
+    let cells = marked_outside(alloc, scenario, possible.as_slice())?;
+    Ok(Offers::Exactly { cells, parts })
+}
+
+// The scenario with one more cell.
+fn with(alloc: Global, scenario: &Scenario, cell: u32) -> Result<Scenario, NoMemory>
+    ensures { IfOk result (λ more. more ≡ with_cell cell scenario.now) }
+{
+    let mut more = scenario.copy(alloc)?;
+    more.insert(cell)?;
+    Ok(more)
+}

@@ -1,0 +1,67 @@
+// One search for an instance that has some cells.
+ghost use Rattle.std.specs.Prelude.{◌≤◌, length, IfOk};
+ghost use Rattle.refutation_check.specs.Chain.{IsAccepted};
+ghost use Rattle.rel_formula.specs.Instance.{AreCells};
+ghost use Rattle.augmenter.specs.Search.{part_in, IsSearchFor, IsRightFor};
+
+use crate::NoMemory;
+use clause_pool::accepted_hints_name_members;
+use cnf_core::Valuation;
+use local_clauses::units_of;
+use refutation_check::{Log, Part, accepted_is_entailed};
+use rel_formula::Scenario;
+use sat_core::{Answer, solve};
+use std::alloc::Global;
+use translation::Translation;
+use translation_rules::laws::units_say_what_is_possible;
+
+/// What the search for an instance with some cells comes to, with what it derived.
+#[derive(Drop)]
+pub enum Sought {
+    /// The cells whose variables are true are such an instance.
+    Possible { valuation: Valuation, part: Part },
+    /// No instance has the cells: the log ends with the empty clause.
+    Impossible { part: Part },
+    /// The budget was spent.
+    Spent { part: Part },
+}
+
+/// Searches for an instance that has these cells.
+///
+/// The local clauses say of each cell that it is there, and only an empty step, which is the last one, rests on them. The
+/// search takes at most `budget` steps, which is at most 100,000,000. The pool is an accepted log over the translation's
+/// clauses, of at most 20,000 steps. The error comes only for want of memory.
+pub fn seek(
+    alloc: Global,
+    translation: &Translation,
+    pool: &Log,
+    cells: &Scenario,
+    budget: u64,
+) -> Result<Sought, NoMemory>
+    requires pool { IsAccepted translation.now.cnf.clauses pool.now }
+    requires few { length pool.now ≤ 20000 }
+    requires cells { AreCells translation.now.problem cells.now }
+    requires budget { budget ≤ 100000000 }
+    ensures part { IfOk result (λ sought. IsSearchFor translation.now pool.now cells.now budget (part_in sought)) }
+    ensures answer { IfOk result (IsRightFor translation.now pool.now cells.now budget) }
+{
+    accepted_hints_name_members();
+    accepted_is_entailed();
+    units_say_what_is_possible();
+    let _ = translation.problem().relations();
+    let local = units_of(alloc, cells.numbers())?;
+    match solve(alloc, translation.cnf(), pool, local.as_slice(), budget)? {
+        Answer::Found { valuation, log } => {
+            let part = Part::of(local, log);
+            Ok(Sought::Possible { valuation, part })
+        }
+        Answer::Refuted { log } => {
+            let part = Part::of(local, log);
+            Ok(Sought::Impossible { part })
+        }
+        Answer::Spent { log } => {
+            let part = Part::of(local, log);
+            Ok(Sought::Spent { part })
+        }
+    }
+}

@@ -1,0 +1,4 @@
+pub mod Accepted
+pub mod Hints
+pub mod Sizes
+pub mod Vars

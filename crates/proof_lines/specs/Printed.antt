@@ -1,0 +1,40 @@
+-- The formula and the log that are printed of a proof, and what `check` answers to them.
+use Rattle.std.specs.Prelude.{◌≡◌, ◌≤◌, ◌++◌, ℕ, List, [], ◌∷◌, max, length, codes}
+use Rattle.cnf_core.specs.declared.literal.Lit.{Lit}
+use Rattle.cnf_core.specs.Formula.{Formula}
+use Rattle.refutation_check.specs.declared.log.Step.{Step}
+use Rattle.refutation_check.specs.WrittenProof.{proof_text}
+use Rattle.proof_command.specs.Answer.{IsAnswerTo}
+use Rattle.translation_rules.specs.Translation.{SwapClauses, Translated}
+use Rattle.session_rules.specs.ProofOfEnd.{ProofOfEnd}
+use Rattle.session_rules.specs.Proofs.{whole_log, locals_for}
+use Rattle.session_rules.specs.declared.end_proof.ProofKind.{ProofKind}
+
+-- the largest number of variables of some swaps, or this one
+abbrev pub most_vars : ℕ → List SwapClauses → ℕ
+most_vars vars [] = vars
+most_vars vars (x ∷ xs) = most_vars (max vars x.cnf.vars) xs
+
+-- the clauses of the translation, and then the proof's local ones
+abbrev pub clauses_of_proof : Translated → List ℕ → ProofKind → ProofOfEnd → List (List Lit)
+clauses_of_proof t floor kind proof = t.cnf.clauses ++ locals_for t floor kind proof.blocked
+
+-- these clauses, over the variables of the translation
+abbrev pub formula_of_proof : Translated → List ℕ → ProofKind → ProofOfEnd → Formula
+formula_of_proof t floor kind proof = record { vars = most_vars t.cnf.vars t.swaps; clauses = clauses_of_proof t floor kind proof }
+
+-- the imported steps, with room made for the local clauses, and then the proof's own
+abbrev pub log_of_proof : Translated → List ℕ → ProofKind → ProofOfEnd → List Step
+log_of_proof t floor kind proof = whole_log t (locals_for t floor kind proof.blocked) proof
+
+-- the lines of a proof
+abbrev pub text_of_proof : Translated → List ℕ → ProofKind → ProofOfEnd → List ℕ
+text_of_proof t floor kind proof = proof_text (clauses_of_proof t floor kind proof) (log_of_proof t floor kind proof)
+
+-- whatever `check` answers to these bytes, it is that they are accepted
+abbrev pub IsAcceptedText : List ℕ → Type 0
+IsAcceptedText bytes = (status : ℕ) (answer : List ℕ) → IsAnswerTo bytes status answer → (status ≡ 0) × (answer ≡ codes "accepted\n")
+
+-- so are the lines of the proof, where they are no longer than a proof text may be
+abbrev pub IsCheckable : Translated → List ℕ → ProofKind → ProofOfEnd → Type 0
+IsCheckable t floor kind proof = let text = text_of_proof t floor kind proof in length text ≤ 268435456 → IsAcceptedText text

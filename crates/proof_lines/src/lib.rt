@@ -1,0 +1,14 @@
+//! What is printed of the proofs that sessions keep: a formula and a log that refutes it, whose lines the command `check`
+//! accepts.
+#![tactic(auto)]
+
+mod formula;
+pub mod laws;
+mod local;
+mod proof;
+mod steps;
+#[cfg(test)]
+mod tests;
+
+pub use crate::proof::{ProofText, proof_of, text_of_proof};
+pub use std::alloc::AllocError as NoMemory;

@@ -1,0 +1,4 @@
+pub mod Fits
+pub mod Proposed
+pub mod Replied
+pub mod Listed

@@ -1,0 +1,16 @@
+//! A session whose steps are answered by searches, each with what stands behind it.
+#![tactic(auto)]
+
+mod answer;
+mod asking;
+mod augmenting;
+mod listing;
+mod offering;
+mod plain;
+mod session;
+#[cfg(test)]
+mod tests;
+
+pub use crate::answer::Proposal;
+pub use crate::session::Session;
+pub use std::alloc::AllocError as NoMemory;

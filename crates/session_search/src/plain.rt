@@ -1,0 +1,42 @@
+// The steps that are answered without a search.
+ghost use Rattle.std.specs.Prelude.{◌≤◌, IfOk};
+ghost use Rattle.session_rules.specs.States.{State};
+ghost use Rattle.session_search.specs.Proposed.{IsPlainProposal};
+
+use crate::NoMemory;
+use crate::answer::{Proposal, at_once};
+use session_rules::answers::{Refusal, Reply};
+use session_store::SessionStore;
+use session_words::Step;
+use std::alloc::Global;
+
+/// What a session proposes where it is to leave the top floor.
+pub(crate) fn leave(alloc: Global, store: &SessionStore) -> Proposal
+    ensures { IsPlainProposal store.now.state Step.Back result }
+{
+    if store.height() == 0 {
+        return at_once(alloc, Reply::Refused(Refusal::Bottom));
+    }
+    at_once(alloc, Reply::Back)
+}
+
+/// What a session proposes where it is to have another budget.
+pub(crate) fn set(alloc: Global, budget: u32) -> Proposal
+    requires { budget ≤ 100000 }
+    ensures { (s : State) → IsPlainProposal s (Step.Budget budget) result }
+{
+    at_once(alloc, Reply::BudgetSet(budget))
+}
+
+/// What a session proposes where it is asked for the proof of the end of the top floor.
+pub(crate) fn prove(alloc: Global, store: &SessionStore) -> Result<Proposal, NoMemory>
+    ensures { IfOk result (IsPlainProposal store.now.state Step.Proof) }
+{
+    match store.proof() {
+        Some(proof) => {
+            let proof = proof.copy(alloc)?;
+            Ok(at_once(alloc, Reply::Proof { proof }))
+        }
+        None => Ok(at_once(alloc, Reply::Refused(Refusal::NoEnd))),
+    }
+}
