@@ -1,0 +1,4 @@
+pub mod Ranks
+pub mod Places
+pub mod Steps
+pub mod States

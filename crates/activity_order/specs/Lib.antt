@@ -1,0 +1,3 @@
+pub mod OrderState
+pub mod Heap
+pub mod Kept

@@ -1,0 +1,9 @@
+// The order in which a solver decides variables: those that wait, by their activity.
+#![tactic(auto)]
+
+mod heap;
+mod order;
+#[cfg(test)]
+mod tests;
+
+pub use order::ActivityOrder;
