@@ -5,8 +5,6 @@ mod answer;
 mod bounds;
 mod fault;
 mod paragraphs;
-#[cfg(test)]
-mod tests;
 
 pub use answer::parse;
 pub use fault::ParseFault;

@@ -2,12 +2,19 @@
 //! says what was made or found. Time it from outside; `docs/BENCHMARKS.md` says how.
 #![tactic(auto)]
 
+mod conditions;
+mod found;
 mod gates;
+mod journals;
+mod pools;
+mod powers;
 mod proof_texts;
 mod refutations;
 mod texts;
+mod translations;
 mod turns;
 
+use found::Found;
 use std::alloc::{AllocError, Global};
 use std::sync::Wait;
 use std::thread::Threads;
@@ -21,47 +28,57 @@ fn main(rt: HostRuntime) -> io::Result<()> {
     for pair in words.chunks_exact(2) {
         let found = measured(&rt, rt.alloc(), pair[0].as_str(), pair[1].as_str())?;
         match found {
-            Some(number) => println!(rt; "{} {} {number}", pair[0], pair[1])?,
+            Some(found) => println!(rt; "{} {} {found}", pair[0], pair[1])?,
             None => println!(rt; "{} {} is no measure", pair[0], pair[1])?,
         }
     }
     Ok(())
 }
 
-// The number that a measure gives at a count.
+// What a measure makes or finds at a count.
 fn measured<R: Threads + Wait + Sync>(
     rt: &R,
     alloc: Global,
     name: &str,
     count: &str,
-) -> Result<Option<u32>, AllocError> {
+) -> Result<Option<Found>, AllocError> {
     let Ok(count) = count.parse::<u32>() else {
         return Ok(None);
     };
-    if name == "gates" {
-        return Ok(Some(gates::made(alloc, count)?));
+    if let Some(number) = number_of(alloc, name, count)? {
+        return Ok(Some(Found::Number(number)));
     }
-    if name == "clauses" {
-        return Ok(Some(gates::clauses(alloc, count)?));
+    if let Some(turns) = turns_of(rt, alloc, name, count)? {
+        return Ok(Some(Found::Number(turns)));
     }
-    if name == "hints" {
-        return Ok(refutations::failing_step(alloc, count)?);
+    Ok(translations::found(alloc, name, count)?)
+}
+
+// The number that a measure gives at a count.
+fn number_of(alloc: Global, name: &str, count: u32) -> Result<Option<u32>, AllocError> {
+    match name {
+        "gates" => Ok(Some(gates::made(alloc, count)?)),
+        "clauses" => Ok(Some(gates::clauses(alloc, count)?)),
+        "hints" => Ok(refutations::failing_step(alloc, count)?),
+        "lex" => Ok(texts::tokens(alloc, count)?),
+        "parse" => Ok(texts::paragraphs(alloc, count)?),
+        "read_proof" => Ok(proof_texts::read(alloc, count)?),
+        "proof_text" => Ok(proof_texts::made(alloc, count)?),
+        "check_proof" => Ok(proof_texts::checked(alloc, count)?),
+        "free" => Ok(pools::freed(alloc, count)?),
+        "share" => Ok(pools::shared(alloc, count)?),
+        "record" => Ok(Some(journals::recorded(alloc, count)?)),
+        _ => Ok(None),
     }
-    if name == "lex" {
-        return Ok(texts::tokens(alloc, count)?);
-    }
-    if name == "parse" {
-        return Ok(texts::paragraphs(alloc, count)?);
-    }
-    if name == "read_proof" {
-        return Ok(proof_texts::read(alloc, count)?);
-    }
-    if name == "proof_text" {
-        return Ok(proof_texts::made(alloc, count)?);
-    }
-    if name == "check_proof" {
-        return Ok(proof_texts::checked(alloc, count)?);
-    }
+}
+
+// The turns of so many workers.
+fn turns_of<R: Threads + Wait + Sync>(
+    rt: &R,
+    alloc: Global,
+    name: &str,
+    count: u32,
+) -> Result<Option<u32>, AllocError> {
     match name {
         "turns" => Ok(Some(turns::taken(rt, alloc, 1, count)?)),
         "turns_of_two" => Ok(Some(turns::taken(rt, alloc, 2, count)?)),

@@ -12,6 +12,9 @@ const LONG: u32 = 1000;
 /// How many further literals each clause has.
 const WIDE: u32 = 20;
 
+/// How many variables the formula has.
+pub const VARS: u32 = LONG + WIDE;
+
 /// Checks a log of so many steps, each with 999 hints to clauses of 22 literals, and gives the step that fails: 0, as none does.
 pub fn failing_step(alloc: Global, steps: u32) -> Result<Option<u32>, AllocError> {
     let Some(formula) = formula_of(alloc)? else {
@@ -20,7 +23,7 @@ pub fn failing_step(alloc: Global, steps: u32) -> Result<Option<u32>, AllocError
     let Some(log) = log_of(alloc, steps)? else {
         return Ok(None);
     };
-    let mut scratch = Scratch::for_vars(alloc, LONG + WIDE)?;
+    let mut scratch = Scratch::for_vars(alloc, VARS)?;
     match check(&formula, &log, &mut scratch) {
         Verdict::Refused { step, .. } => Ok(Some(step)),
         Verdict::Accepted | Verdict::NoEmptyClause => Ok(Some(0)),
@@ -53,11 +56,11 @@ fn implication(alloc: Global, from: u32, to: u32) -> Result<Option<Clause>, Allo
     Ok(Clause::of(alloc, lits.as_slice())?)
 }
 
-// Each variable implies the next.
-fn formula_of(alloc: Global) -> Result<Option<Cnf>, AllocError>
+/// Each variable implies the next.
+pub fn formula_of(alloc: Global) -> Result<Option<Cnf>, AllocError>
     ensures { IfOk result (λ made. IfSome made (λ f. f.vars ≡ 1020)) }
 {
-    let mut formula = Cnf::new(alloc, LONG + WIDE);
+    let mut formula = Cnf::new(alloc, VARS);
     for i in 1..LONG {
         let Some(clause) = implication(alloc, i, i + 1)? else {
             return Ok(None);
@@ -91,8 +94,8 @@ fn few(steps: u32) -> u32
     if steps < 1_000_000 { steps } else { 1_000_000 }
 }
 
-// That step again and again.
-fn log_of(alloc: Global, steps: u32) -> Result<Option<Log>, AllocError>
+/// The step that the first variable implies the last, again and again: at most a million.
+pub fn log_of(alloc: Global, steps: u32) -> Result<Option<Log>, AllocError>
     ensures { IfOk result (λ made. IfSome made (All (λ s. HasVarsUpTo 1020 s.clause))) }
 {
     let mut log = Log::new(alloc);

@@ -17,9 +17,9 @@ long_fault bytes f more fault =
     ]
 
 -- a shorter front is the whole
-pub answers_whole : (bytes : List ℕ) (status : ℕ) (text : List ℕ) → IsAnswerTo (take 1048577 bytes) status text → IsAnswerTo bytes status text
-answers_whole bytes status text answer = elim (cases_lt (length bytes) 1048577) [
-  | inl less ↦ subst (λ (xs : List ℕ). IsAnswerTo xs status text) (take_all 1048577 bytes (omega arith)) answer
+pub answers_whole : (budget : ℕ) (bytes : List ℕ) (status : ℕ) (text : List ℕ) → IsAnswerTo budget (take 1048577 bytes) status text → IsAnswerTo budget bytes status text
+answers_whole budget bytes status text answer = elim (cases_lt (length bytes) 1048577) [
+  | inl less ↦ subst (λ (xs : List ℕ). IsAnswerTo budget xs status text) (take_all 1048577 bytes (omega arith)) answer
   | inr more ↦
       let front = length-take-le 1048577 bytes (omega arith) in
       elim answer [
@@ -28,5 +28,5 @@ answers_whole bytes status text answer = elim (cases_lt (length bytes) 1048577) 
       ]
 ]
 
-pub part_of_whole : (bytes old new : List ℕ) → IsPartOfAnswer (take 1048577 bytes) old new → IsPartOfAnswer bytes old new
-part_of_whole bytes old new part = (part.0, part.1, answers_whole bytes part.0 part.1 part.2, part.3)
+pub part_of_whole : (budget : ℕ) (bytes old new : List ℕ) → IsPartOfAnswer budget (take 1048577 bytes) old new → IsPartOfAnswer budget bytes old new
+part_of_whole budget bytes old new part = (part.0, part.1, answers_whole budget bytes part.0 part.1 part.2, part.3)

@@ -1,8 +1,10 @@
+pub mod Atoms
 pub mod Commands
 pub mod Fronts
 pub mod Refusals
-pub mod RunLemmas
+pub mod Replied
 pub mod Served
 pub mod Shows
 pub mod Statuses
+pub mod Translations
 pub mod Usables

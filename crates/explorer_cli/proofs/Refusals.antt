@@ -1,13 +1,12 @@
 -- A model is usable or refused, and of a list of models there is one first refusal at most.
 use Rattle.std.proofs.Common.{◌≡◌, ◌⊎◌, inl, inr, ℕ, ◌+◌, List, [], ◌∷◌, ◌++◌, length, Some, refl, sym, ap, subst, ◌∙◌, arith}
-use Rattle.alloy_syntax.specs.Tree.{ModelTree}
 use Rattle.script_format.specs.declared.entries.ModelEntry.{ModelEntry}
 use Rattle.script_format.specs.declared.entries.SessionEntry.{SessionEntry}
 use Rattle.short_models.specs.Problem.{Short}
 use Rattle.short_trees.specs.ShortTree.{said_by}
 use Rattle.model_texts.specs.ModelText.{SaysShort}
 use Rattle.model_texts.proofs.Ways.{one_tree, one_fault, no_short, no_other, short_or_other}
-use Rattle.explorer_cli.specs.Models.{IsLeastOther, IsUsable, no_command, LacksCommand, IsRefused, AreUsable, IsFirstRefused}
+use Rattle.explorer_cli.specs.Models.{HasFewTerms, HasManyTerms, IsLeastOther, IsUsable, no_command, IsTooLarge, LacksCommand, HasBadCommand, IsRefused, AreUsable, IsFirstRefused}
 
 same_some : (m n : Short) → Some m ≡ Some n → m ≡ n
 same_some m n e = cc
@@ -30,15 +29,30 @@ module _ (sessions : List SessionEntry) where
       let down = y.least a x.asked x.other in
       omega arith
 
-  usable_or_refused : (place : ℕ) (text words : List ℕ) (m : Short) → IsUsable sessions place text m → IsRefused sessions place text words → ⊥
-  usable_or_refused place text words m is (inl faulty) = no_short text words m faulty is.0
-  usable_or_refused place text words m is (inr (inl other)) = short_or_other text m is.0 other.0
-  usable_or_refused place text words m is (inr (inr lacks)) = let least = lacks.2.1 in least.other (is.1 lacks.2.0 least.asked)
+  few_or_many : (m : Short) → HasFewTerms m → HasManyTerms m → ⊥
+  few_or_many m few many = let over = many few.0 few.1 in let under = few.2 in omega arith
 
-  same_number : (place : ℕ) (text words others : List ℕ) → LacksCommand sessions place text words → LacksCommand sessions place text others → words ≡ others
-  same_number place text words others a b =
-      let same : a.2.0 ≡ b.2.0 = one_number place a.2.0 b.2.0 a.2.1 b.2.1 in
-      a.2.2 ∙ ap no_command same ∙ sym b.2.2
+  usable_or_bad : (place : ℕ) (text words : List ℕ) (m : Short) → IsUsable sessions place text m → IsTooLarge sessions place m words ⊎ LacksCommand sessions place m words → ⊥
+  usable_or_bad place text words m is (inl large) = few_or_many m (is.servable large.0) large.1
+  usable_or_bad place text words m is (inr lacks) = let least = lacks.1.1 in least.other (is.first lacks.1.0 least.asked)
+
+  usable_or_refused : (place : ℕ) (text words : List ℕ) (m : Short) → IsUsable sessions place text m → IsRefused sessions place text words → ⊥
+  usable_or_refused place text words m is (inl faulty) = no_short text words m faulty is.says
+  usable_or_refused place text words m is (inr (inl other)) = short_or_other text m is.says other.0
+  usable_or_refused place text words m is (inr (inr bad)) =
+      let same : bad.0 ≡ m = one_short text bad.0 m bad.1 is.says in
+      usable_or_bad place text words m is (subst (λ (n : Short). IsTooLarge sessions place n words ⊎ LacksCommand sessions place n words) same bad.2)
+
+  one_bad : (place : ℕ) (words others : List ℕ) (m : Short) → IsTooLarge sessions place m words ⊎ LacksCommand sessions place m words → IsTooLarge sessions place m others ⊎ LacksCommand sessions place m others → words ≡ others
+  one_bad place words others m (inl a) (inl b) = a.2 ∙ sym b.2
+  one_bad place words others m (inl a) (inr b) = absurd (few_or_many m (b.0 a.0) a.1)
+  one_bad place words others m (inr a) (inl b) = absurd (few_or_many m (a.0 b.0) b.1)
+  one_bad place words others m (inr a) (inr b) = a.1.2 ∙ ap no_command (one_number place a.1.0 b.1.0 a.1.1 b.1.1) ∙ sym b.1.2
+
+  same_bad : (place : ℕ) (text words others : List ℕ) → HasBadCommand sessions place text words → HasBadCommand sessions place text others → words ≡ others
+  same_bad place text words others a b =
+      let same : b.0 ≡ a.0 = one_short text b.0 a.0 b.1 a.1 in
+      one_bad place words others a.0 a.2 (subst (λ (m : Short). IsTooLarge sessions place m others ⊎ LacksCommand sessions place m others) same b.2)
 
   one_refusal : (place : ℕ) (text words others : List ℕ) → IsRefused sessions place text words → IsRefused sessions place text others → words ≡ others
   one_refusal place text words others (inl a) (inl b) = one_fault text words others a b
@@ -49,7 +63,7 @@ module _ (sessions : List SessionEntry) where
   one_refusal place text words others (inr (inl a)) (inr (inr b)) = absurd (short_or_other text b.0 b.1 a.0)
   one_refusal place text words others (inr (inr a)) (inl b) = absurd (no_short text others a.0 b a.1)
   one_refusal place text words others (inr (inr a)) (inr (inl b)) = absurd (short_or_other text a.0 a.1 b.0)
-  one_refusal place text words others (inr (inr a)) (inr (inr b)) = same_number place text words others a b
+  one_refusal place text words others (inr (inr a)) (inr (inr b)) = same_bad place text words others a b
 
   -- the model at a place further on
   refused_on : (place : ℕ) (x : ModelEntry) (before : List ModelEntry) (text words : List ℕ) → IsRefused sessions (place + length (x ∷ before)) text words → IsRefused sessions ((place + 1) + length before) text words
@@ -111,4 +125,4 @@ module _ (sessions : List SessionEntry) where
   one_list place [] (m ∷ ms) ns us vs = absurd us
   one_list place (e ∷ es) [] ns us vs = absurd us
   one_list place (e ∷ es) (m ∷ ms) [] us vs = absurd vs
-  one_list place (e ∷ es) (m ∷ ms) (n ∷ ns) us vs = cons_same m n ms ns (one_short e.text m n us.0.0 vs.0.0) (one_list (place + 1) es ms ns us.1 vs.1)
+  one_list place (e ∷ es) (m ∷ ms) (n ∷ ns) us vs = cons_same m n ms ns (one_short e.text m n us.0.says vs.0.says) (one_list (place + 1) es ms ns us.1 vs.1)

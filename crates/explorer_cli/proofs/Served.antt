@@ -1,45 +1,105 @@
--- The output of sessions, one session more.
-use Rattle.std.proofs.Common.{◌≡◌, ℕ, ◌+◌, ◌<◌, List, [], ◌∷◌, ◌++◌, map, length, take, get_or, Some, refl, sym, ap, subst, ◌∙◌, append_assoc}
+-- The output of sessions, one session more; and on the problems of models.
+use Rattle.std.proofs.Common.{◌≡◌, ℕ, ◌+◌, ◌<◌, List, [], ◌∷◌, ◌++◌, length, take, get_or, Option, Some, All, refl, sym, ap, subst, ◌∙◌}
 use Rattle.std.specs.Prelude.{slice_get}
 use Rattle.std.specs.List.{AllZip}
-use Rattle.std.specs.Option.{option_map}
-use Rattle.std.proofs.lemmas.List.{take_more, append-nil}
-use Rattle.std.proofs.lemmas.Option.{slice_get-get_or, slice_get-map}
+use Rattle.std.proofs.lemmas.List.{take_more}
+use Rattle.std.proofs.lemmas.List.Elements.{All-nil, All-cons}
+use Rattle.rel_formula.specs.Bounds.{Bounded}
 use Rattle.refutation_check.proofs.TextLines.{zip_push}
+use Rattle.translation_rules.specs.Translation.{Translated}
+use Rattle.translation.specs.Kept.{IsTranslation}
+use Rattle.session_words.specs.declared.commands.Command.{Command}
+use Rattle.session_rules.specs.States.{Start}
+use Rattle.session_rules.specs.Steps.{Exchange}
+use Rattle.session_rules.specs.Transcripts.{IsTranscript}
+use Rattle.session_rules.specs.declared.answers.Reply.{Reply}
+use Rattle.script_format.specs.declared.entries.Script.{Script}
+use Rattle.script_format.specs.declared.entries.ModelEntry.{ModelEntry}
 use Rattle.script_format.specs.declared.entries.SessionEntry.{SessionEntry}
-use Rattle.script_text.specs.Replies.{PrintedSession, IsSessionText, IsOutput}
-use Rattle.short_models.specs.declared.model.ShortModel.{ShortModel}
-use Rattle.short_models.specs.Problem.{Short, short_of}
-use Rattle.explorer_cli.specs.Runs.{IsRunOf, IsRunAmong, AreRunsOf}
+use Rattle.script_text.specs.Printed.{all_printed}
+use Rattle.script_text.specs.Replies.{PrintedSession, NamesCellsOf, PrintsRightProof, PrintsCheckableProof, IsSessionText, IsOutput}
+use Rattle.explorer_run.specs.Serving.{IsPrintable, AreBacked}
+use Rattle.short_models.specs.Problem.{Short}
+use Rattle.explorer_cli.specs.Models.{AreUsable, AreReady, AreUsed}
+use Rattle.explorer_cli.specs.Runs.{IsRunOn, IsRunAmong, AreRunsOf, IsRunOver, AreRunsOver}
+use Rattle.explorer_cli.proofs.Usables.{ready_at}
 
--- the model at a place
-model_at : (models : List ShortModel) (k : ℕ) (model : ShortModel) → k < length models → model ≡ get_or models k model → slice_get (map short_of models) k ≡ Some (short_of model)
-model_at models k model l is =
-    slice_get-map short_of models k ∙ ap (option_map short_of) (slice_get-get_or models k model l ∙ ap (λ (m : ShortModel). Some m) (sym is))
-
-output_push : (ss : List PrintedSession) (s : PrintedSession) (text lines : List ℕ) → IsOutput ss text → IsSessionText s.problem s.name s.replies lines → IsOutput (ss ++ s ∷ []) (text ++ lines)
-output_push [] s text lines e is = (lines, [], is, refl, ap (λ (xs : List ℕ). xs ++ lines) e ∙ sym (append-nil lines))
-output_push (t ∷ ts) s text lines h is =
-    (h.0, h.1 ++ lines, h.2, output_push ts s h.1 lines h.3 is, ap (λ (xs : List ℕ). xs ++ lines) h.4 ∙ append_assoc h.0 h.1 lines)
+-- outputs go on with the text of the next session
+abbrev pub OutputsGoOn : Type 0
+OutputsGoOn = (ss : List PrintedSession) (text : List ℕ) (next : PrintedSession) (lines : List ℕ) → IsOutput ss text → IsSessionText next.problem next.name next.replies lines → IsOutput (ss ++ next ∷ []) (text ++ lines)
 
 -- what the run of one session gives
-abbrev pub IsServed : SessionEntry → Short → List ℕ → Type 0
-IsServed x m lines = (s : PrintedSession) × IsRunOf x m s × IsSessionText s.problem s.name s.replies lines
+abbrev pub IsServed : ℕ → SessionEntry → Bounded → List ℕ → Type 0
+IsServed budget x p lines = (s : PrintedSession) × IsRunOn p budget x s × IsSessionText s.problem s.name s.replies lines
 
-runs_push : (sessions : List SessionEntry) (models : List Short) (x : SessionEntry) (m : Short) (text lines : List ℕ)
-    → AreRunsOf sessions models text → slice_get models x.model ≡ Some m → IsServed x m lines → AreRunsOf (sessions ++ x ∷ []) models (text ++ lines)
-runs_push sessions models x m text lines are at served = (
+runs_push : OutputsGoOn → (budget : ℕ) (sessions : List SessionEntry) (ts : List (Option Translated)) (x : SessionEntry) (t : Translated) (text lines : List ℕ)
+    → AreRunsOver budget sessions ts text → slice_get ts x.model ≡ Some (Some t) → IsServed budget x t.problem lines → AreRunsOver budget (sessions ++ x ∷ []) ts (text ++ lines)
+runs_push go_on budget sessions ts x t text lines are at served = (
   are.0 ++ served.0 ∷ [],
-  zip_push (IsRunAmong models) sessions are.0 x served.0 are.1 (m, at, served.1),
-  output_push are.0 served.0 text lines are.2 served.2,
+  zip_push (IsRunOver budget ts) sessions are.0 x served.0 are.1 (t, at, served.1),
+  go_on are.0 text served.0 lines are.2 served.2,
 )
 
 -- the turn of the loop that serves sessions
-pub runs_more : (sessions : List SessionEntry) (models : List ShortModel) (i : ℕ) (x : SessionEntry) (model : ShortModel) (old new lines : List ℕ)
-    → i < length sessions → x ≡ get_or sessions i x → x.model < length models → model ≡ get_or models x.model model → new ≡ old ++ lines
-    → AreRunsOf (take i sessions) (map short_of models) old → IsServed x (short_of model) lines → AreRunsOf (take (i + 1) sessions) (map short_of models) new
-runs_more sessions models i x model old new lines l item in' at added are served =
+pub runs_more : OutputsGoOn → (budget : ℕ) (sessions : List SessionEntry) (ts : List (Option Translated)) (i : ℕ) (x : SessionEntry) (t : Translated) (old new lines : List ℕ)
+    → i < length sessions → x ≡ get_or sessions i x → slice_get ts x.model ≡ Some (Some t) → new ≡ old ++ lines
+    → AreRunsOver budget (take i sessions) ts old → IsServed budget x t.problem lines → AreRunsOver budget (take (i + 1) sessions) ts new
+runs_more go_on budget sessions ts i x t old new lines l item at added are served =
     let more : take (i + 1) sessions ≡ take i sessions ++ x ∷ [] = take_more sessions i x l ∙ ap (λ (y : SessionEntry). take i sessions ++ y ∷ []) (sym item) in
-    subst (λ (ys : List SessionEntry). AreRunsOf ys (map short_of models) new) (sym more)
-    (subst (λ (t : List ℕ). AreRunsOf (take i sessions ++ x ∷ []) (map short_of models) t) (sym added)
-    (runs_push (take i sessions) (map short_of models) x (short_of model) old lines are (model_at models x.model model in' at) served))
+    subst (λ (ys : List SessionEntry). AreRunsOver budget ys ts new) (sym more)
+    (subst (AreRunsOver budget (take i sessions ++ x ∷ []) ts) (sym added) (runs_push go_on budget (take i sessions) ts x t old lines are at served))
+
+zip_on : {X Y : Type 0} (R S : X → Y → Type 0) → ((x : X) (y : Y) → R x y → S x y) → (xs : List X) (ys : List Y) → AllZip R xs ys → AllZip S xs ys
+zip_on R S f [] [] zip = tt
+zip_on R S f [] (y ∷ ys) zip = absurd zip
+zip_on R S f (x ∷ xs) [] zip = absurd zip
+zip_on R S f (x ∷ xs) (y ∷ ys) zip = (f x y zip.0, zip_on R S f xs ys zip.1)
+
+-- runs over the translations of models are runs on the models' problems
+pub runs_on_models : (budget : ℕ) (sessions : List SessionEntry) (entries : List ModelEntry) (ms : List Short) (ts : List (Option Translated)) (text : List ℕ)
+    → AreUsable sessions 0 entries ms → AreReady sessions 0 ms ts → AreRunsOver budget sessions ts text → AreRunsOf budget sessions ms text
+runs_on_models budget sessions entries ms ts text usable ready are =
+    let among : (x : SessionEntry) (s : PrintedSession) → IsRunOver budget ts x s → IsRunAmong budget ms x s =
+    λ x s over.
+    let h = ready_at sessions 0 entries ms ts x.model over.0 usable ready over.1 in
+    (h.0, h.1, h.2, subst (λ (p : Bounded). IsRunOn p budget x s) h.3 over.2) in
+    (are.0, zip_on (IsRunOver budget ts) (IsRunAmong budget ms) among sessions are.0 are.1, are.2)
+
+-- what was found of the models of a script, and the runs of its sessions over that, make its answer
+pub run_answer_of : (budget : ℕ) (s : Script) (sessions : List SessionEntry) (entries : List ModelEntry) (ts us : List (Option Translated)) (text : List ℕ) → sessions ≡ s.sessions → entries ≡ s.models → us ≡ ts
+    → AreUsed sessions entries ts → AreRunsOver budget sessions us text → (ms : List Short) × AreUsable s.sessions 0 s.models ms × AreRunsOf budget s.sessions ms text
+run_answer_of budget s sessions entries ts us text e f g used runs =
+    let u = subst (λ (es : List ModelEntry). AreUsed s.sessions es ts) f (subst (λ (xs : List SessionEntry). AreUsed xs entries ts) e used) in
+    let r = subst (λ (vs : List (Option Translated)). AreRunsOver budget s.sessions vs text) g (subst (λ (xs : List SessionEntry). AreRunsOver budget xs us text) e runs) in
+    (u.0, u.1, runs_on_models budget s.sessions s.models u.0 ts text u.1 u.2 r)
+
+-- ---- one session
+
+-- a transcript over a translation, and its text
+pub is_served : (budget : ℕ) (x : SessionEntry) (t : Translated) (commands : List Command) (name : List ℕ) (replies : List Reply) (floors : List (List ℕ)) (text : List ℕ) → IsTranslation t → commands ≡ x.commands → name ≡ x.name
+    → (xs : List Exchange) × IsTranscript t.problem (Start budget) commands replies floors xs × AreBacked t [] (Start budget) xs → AllZip (PrintsCheckableProof t) floors replies → IsSessionText t.problem name (all_printed t floors replies) text → IsServed budget x t.problem text
+is_served budget x t commands name replies floors text well e f run checkable is = (
+  record { problem = t.problem; name = x.name; replies = all_printed t floors replies },
+  record {
+    translation = t;
+    stands = well.stands;
+    replies = replies;
+    floors = floors;
+    exchanges = run.0;
+    transcript = subst (λ (cs : List Command). IsTranscript t.problem (Start budget) cs replies floors run.0) e run.1;
+    backed = run.2;
+    checkable = checkable;
+    is = refl;
+  },
+  subst (λ (n : List ℕ). IsSessionText t.problem n (all_printed t floors replies) text) f is,
+)
+
+-- replies that can be printed name cells of the problem, and print proofs of their floors' ends
+pub name_cells : (t : Translated) (floors : List (List ℕ)) (replies : List Reply) → AllZip (IsPrintable t) floors replies → All (NamesCellsOf t.problem) replies
+name_cells t [] [] zip = All-nil (NamesCellsOf t.problem)
+name_cells t [] (r ∷ rs) zip = absurd zip
+name_cells t (f ∷ fs) [] zip = absurd zip
+name_cells t (f ∷ fs) (r ∷ rs) zip = All-cons (NamesCellsOf t.problem) r rs zip.0.cells (name_cells t fs rs zip.1)
+
+pub right_proofs : (t : Translated) (floors : List (List ℕ)) (replies : List Reply) → AllZip (IsPrintable t) floors replies → AllZip (PrintsRightProof t) floors replies
+right_proofs t floors replies zip = zip_on (IsPrintable t) (PrintsRightProof t) (λ f r is. is.proof) floors replies zip

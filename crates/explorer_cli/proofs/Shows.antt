@@ -1,145 +1,239 @@
--- What the replies of a run show, where each step asks for the next scenario.
-use Rattle.std.proofs.Common.{◌≡◌, ℕ, zero, suc, ◌+◌, ◌<◌, ◌⊎◌, inl, inr, List, [], ◌∷◌, ◌++◌, map, filter, take, length, Contains, Some, slice_get, Bool, true, cond, refl, sym, ◌∙◌, ap, subst, arith, append_assoc}
+-- What replies show, and what exchanges leave of what was shown.
+use Rattle.std.proofs.Common.{◌≡◌, ◌≢◌, ◌⊎◌, inl, inr, ℕ, suc, ◌+◌, Bool, true, false, cond, if◌then◌else◌, List, [], ◌∷◌, ◌++◌, map, filter, length, AllPairs, Contains, refl, sym, ◌∙◌, ap, subst, arith, append_assoc}
 use Rattle.std.specs.Prelude.{bytes_eq}
-use Rattle.std.proofs.lemmas.Bool.{cases_lt}
 use Rattle.std.proofs.lemmas.List.{append-nil, map-append}
-use Rattle.std.proofs.lemmas.List.Elements.{filter-append, Contains-append_right, Contains-append_cases}
+use Rattle.std.proofs.lemmas.List.Elements.{filter-append, All-contains, Contains-append_left, Contains-append_right, Contains-push}
 use Rattle.std.proofs.lemmas.Slice.Eq.{bytes_eq-Decides}
 use Rattle.rel_formula.specs.Bounds.{Bounded}
+use Rattle.rel_formula.proofs.Open.{cons_cases}
 use Rattle.swap_symmetry.specs.Due.{IsDue}
-use Rattle.session_rules.specs.declared.reply.Step.TheVariants.{Next}
-use Rattle.session_rules.specs.declared.reply.Reply.{Reply}
-use Rattle.session_rules.specs.declared.reply.Reply.TheVariants.{Shown, End, Memory}
-use Rattle.session_rules.specs.Machine.{ShownAt, State, Start, top_floor, shown_here, ShowsNext, EndsNow, EndedBefore, MachineStep, MachineRun}
-use Rattle.explorer_cli.specs.Runs.{to_next, AreRepliesOn, scenarios_in, IsShownBefore}
+use Rattle.swap_symmetry.specs.Order.{IsEarlier}
+use Rattle.session_words.specs.declared.steps.Step.{Step}
+use Rattle.session_words.specs.declared.steps.Step.TheVariants as step
+use Rattle.session_words.specs.declared.commands.Command.{Command}
+use Rattle.session_words.specs.declared.commands.Command.TheVariants as command
+use Rattle.session_rules.specs.ProofOfEnd.{ProofOfEnd}
+use Rattle.translation_rules.proofs.Tests.{has_any}
+use Rattle.session_rules.specs.States.{State, Start, ShownAt, EndedAt, top_floor, shown_at, shown_here, has_ended, HasEndedWith, after}
+use Rattle.session_rules.specs.Steps.{ShowsNext, EndsNow, OffersCells, MayAnswer, Exchange, MachineRun, IsReached, state_after}
+use Rattle.session_rules.specs.Sound.{IsSound}
+use Rattle.session_rules.specs.Transcripts.{showings, ComesToEnd, Serves}
+use Rattle.session_rules.specs.declared.answers.Reply.{Reply}
+use Rattle.session_rules.specs.declared.answers.Reply.TheVariants as reply
+use Rattle.explorer_cli.specs.Runs.{Shows, ShowsNew}
 
--- at this floor just these scenarios were shown, and all that are due if it has ended
-pub record HasShown (p : Bounded) (floor : List ℕ) (front : List (List ℕ)) (s : State) : Type 0 where
-  pub floor_is : top_floor s ≡ floor
-  pub shown_is : shown_here s ≡ front
-  pub all : Contains s.ended floor → (t : List ℕ) → IsDue p floor t → Contains front t
+-- ---- what a step's reply may be
 
-here : (xs : List ShownAt) (floor scenario : List ℕ)
-    → map (λ (x : ShownAt). x.scenario) (filter (λ (x : ShownAt). bytes_eq x.floor floor) (xs ++ record { floor = floor; scenario = scenario } ∷ []))
-    ≡ map (λ (x : ShownAt). x.scenario) (filter (λ (x : ShownAt). bytes_eq x.floor floor) xs) ++ scenario ∷ []
-here xs floor scenario =
-    let test : ShownAt → Bool = λ x. bytes_eq x.floor floor in
-    let new : ShownAt = record { floor = floor; scenario = scenario } in
-    let same : bytes_eq floor floor ≡ true = (bytes_eq-Decides floor floor).1 refl in
-    ap (map (λ (x : ShownAt). x.scenario)) (filter-append test xs (new ∷ []) ∙ ap (λ (b : Bool). filter test xs ++ cond b (new ∷ []) []) same)
-    ∙ map-append (λ (x : ShownAt). x.scenario) (filter test xs) (new ∷ [])
+shows_next : (p : Bounded) (s : State) (x : Step) (number : ℕ) (scenario : List ℕ) → MayAnswer p s x (reply.Shown number scenario) → ShowsNext p s number scenario
+shows_next p s step.Next number scenario may = may
+shows_next p s step.Offers number scenario may = absurd may
+shows_next p s (step.Augment relation tuple) number scenario may = absurd may
+shows_next p s step.Back number scenario may = absurd may
+shows_next p s (step.Budget budget) number scenario may = absurd may
+shows_next p s step.Proof number scenario may = absurd may
 
-module _ (p : Bounded) (floor : List ℕ) (front : List (List ℕ)) (s new : State) (before : HasShown p floor front s) where
-  shows : (number : ℕ) (scenario : List ℕ) → ShowsNext p s number scenario new → HasShown p floor (front ++ scenario ∷ []) new
-  shows number scenario step = subst (HasShown p floor (front ++ scenario ∷ [])) (sym step.after) (record {
-    floor_is = before.floor_is;
-    shown_is = here s.shown (top_floor s) scenario ∙ ap (λ xs. xs ++ scenario ∷ []) before.shown_is;
-    all = λ c. absurd (step.not_ended (subst (Contains s.ended) (sym before.floor_is) c));
-  })
+ends_next : (p : Bounded) (s : State) (x : Step) (number : ℕ) (proof : ProofOfEnd) → MayAnswer p s x (reply.End number proof) → (number ≡ length (shown_here s)) × (HasEndedWith s proof ⊎ EndsNow p s)
+ends_next p s step.Next number proof may = may
+ends_next p s step.Offers number proof may = absurd may
+ends_next p s (step.Augment relation tuple) number proof may = absurd may
+ends_next p s step.Back number proof may = absurd may
+ends_next p s (step.Budget budget) number proof may = absurd may
+ends_next p s step.Proof number proof may = absurd may
 
-  ends : EndsNow p s new ⊎ EndedBefore s new → HasShown p floor front new
-  ends (inl now) = subst (HasShown p floor front) (sym now.after) (record {
-    floor_is = before.floor_is;
-    shown_is = before.shown_is;
-    all = λ c t due. subst (λ xs. Contains xs t) before.shown_is (now.all_shown t (subst (λ f. IsDue p f t) (sym before.floor_is) due));
-  })
-  ends (inr earlier) = subst (HasShown p floor front) (sym earlier.after) before
+offers_next : (p : Bounded) (s : State) (x : Step) (cells : List ℕ) → MayAnswer p s x (reply.Offers cells) → OffersCells p s cells
+offers_next p s step.Next cells may = absurd may
+offers_next p s step.Offers cells may = may
+offers_next p s (step.Augment relation tuple) cells may = absurd may
+offers_next p s step.Back cells may = absurd may
+offers_next p s (step.Budget budget) cells may = absurd may
+offers_next p s step.Proof cells may = absurd may
 
-  step_on : (reply : Reply) → MachineStep p s Next reply new → HasShown p floor (front ++ scenarios_in (reply ∷ [])) new
-  step_on (Shown number scenario) step = shows number scenario step
-  step_on (End number) step = subst (λ xs. HasShown p floor xs new) (sym (append-nil front)) (ends step.1)
-  step_on Memory step = subst (λ xs. HasShown p floor xs new) (sym (append-nil front)) (subst (HasShown p floor front) (sym step) before)
+no_list : (p : Bounded) (s : State) (x : Step) (scenarios : List (List ℕ)) → MayAnswer p s x (reply.All scenarios) → ⊥
+no_list p s step.Next scenarios may = may
+no_list p s step.Offers scenarios may = may
+no_list p s (step.Augment relation tuple) scenarios may = may
+no_list p s step.Back scenarios may = may
+no_list p s (step.Budget budget) scenarios may = may
+no_list p s step.Proof scenarios may = may
 
-first_apart : (reply : Reply) (others : List Reply) → scenarios_in (reply ∷ []) ++ scenarios_in others ≡ scenarios_in (reply ∷ others)
-first_apart (Shown number scenario) others = refl
-first_apart (End number) others = refl
-first_apart Memory others = refl
+no_part : (p : Bounded) (s : State) (x : Step) (first : ℕ) (scenarios : List (List ℕ)) → MayAnswer p s x (reply.Partly first scenarios) → ⊥
+no_part p s step.Next first scenarios may = may
+no_part p s step.Offers first scenarios may = may
+no_part p s (step.Augment relation tuple) first scenarios may = may
+no_part p s step.Back first scenarios may = may
+no_part p s (step.Budget budget) first scenarios may = may
+no_part p s step.Proof first scenarios may = may
 
-same_reply : (x y : Reply) → Some x ≡ Some y → x ≡ y
-same_reply x y e = cc
+-- the reply to a step is one that the machine may have
+answered : (p : Bounded) (s : State) (x : Step) (r : Reply) (xs : List Exchange) → Serves p s (command.Step x) r xs → MayAnswer p s x r
+answered p s x r xs h = let run = subst (MachineRun p s) h.read h.run in run.0
 
--- what a run has shown before the reply at some place, and the step that gave it
-run_at : (p : Bounded) (floor : List ℕ) (replies : List Reply) (place : ℕ) (reply : Reply) (front : List (List ℕ)) (s last : State)
-    → HasShown p floor front s → MachineRun p s (map to_next replies) last → slice_get replies place ≡ Some reply
-    → (old : State) × (new : State) × HasShown p floor (front ++ scenarios_in (take place replies)) old × MachineStep p old Next reply new
-run_at p floor [] place reply front s last before run e = absurd (cc)
-run_at p floor (r ∷ rs) zero reply front s last before run e =
-    (s, run.0, subst (λ xs. HasShown p floor xs s) (sym (append-nil front)) before, subst (λ (x : Reply). MachineStep p s Next x run.0) (same_reply r reply e) run.1)
-run_at p floor (r ∷ rs) (suc n) reply front s last before run e =
-    let h = run_at p floor rs n reply (front ++ scenarios_in (r ∷ [])) run.0 last (step_on p floor front s run.0 before r run.1) run.2 e in
-    (h.0, h.1, subst (λ xs. HasShown p floor xs h.0) (append_assoc front (scenarios_in (r ∷ [])) (scenarios_in (take n rs)) ∙ ap (λ xs. front ++ xs) (first_apart r (take n rs))) h.2, h.3)
+-- ---- runs, one after the other
 
--- a scenario that is shown before a place is one of those that are
-shown_is_in : (replies : List Reply) (n m number : ℕ) (scenario : List ℕ) → slice_get replies m ≡ Some (Shown number scenario) → m < n → Contains (scenarios_in (take n replies)) scenario
-shown_is_in [] n m number scenario e l = absurd (cc)
-shown_is_in (r ∷ rs) zero m number scenario e l = absurd (omega arith)
-shown_is_in (r ∷ rs) (suc n) zero number scenario e l =
-    subst (λ (x : Reply). Contains (scenarios_in (x ∷ take n rs)) scenario) (sym (same_reply r (Shown number scenario) e)) (zero, omega arith, refl)
-shown_is_in (r ∷ rs) (suc n) (suc m) number scenario e l =
-    subst (λ xs. Contains xs scenario) (first_apart r (take n rs)) (Contains-append_right (scenarios_in (r ∷ [])) (scenarios_in (take n rs)) scenario (shown_is_in rs n m number scenario e (omega arith)))
+pub states_join : (s : State) (xs ys : List Exchange) → state_after s (xs ++ ys) ≡ state_after (state_after s xs) ys
+states_join s [] ys = refl
+states_join s (x ∷ xs) ys = states_join (after s x.reply) xs ys
 
-only_one : (s t : List ℕ) → Contains (s ∷ []) t → s ≡ t
-only_one s t (zero, l, e) = e
-only_one s t (suc k, l, e) = absurd (omega arith)
+runs_join : (p : Bounded) (s : State) (xs ys : List Exchange) → MachineRun p s xs → MachineRun p (state_after s xs) ys → MachineRun p s (xs ++ ys)
+runs_join p s [] ys run later = later
+runs_join p s (x ∷ xs) ys run later = (run.0, runs_join p (after s x.reply) xs ys run.1 later)
 
-one_on : (r : Reply) (rs : List Reply) (n : ℕ) (scenario : List ℕ) → IsShownBefore rs n scenario → IsShownBefore (r ∷ rs) (suc n) scenario
-one_on r rs n scenario h = (suc h.0, h.1, (let l = h.2 in omega arith), h.3)
+pub reached_on : (p : Bounded) (s : State) (xs : List Exchange) → IsReached p s → MachineRun p s xs → IsReached p (state_after s xs)
+reached_on p s xs r run = record {
+  budget = r.budget;
+  exchanges = r.exchanges ++ xs;
+  run = runs_join p (Start r.budget) r.exchanges xs r.run (subst (λ (t : State). MachineRun p t xs) r.state run);
+  state = ap (λ (t : State). state_after t xs) r.state ∙ sym (states_join (Start r.budget) r.exchanges xs);
+}
 
--- one of those scenarios is shown at some place before
-in_is_shown : (replies : List Reply) (n : ℕ) (scenario : List ℕ) → Contains (scenarios_in (take n replies)) scenario → IsShownBefore replies n scenario
-in_is_shown [] zero scenario c = absurd (let l = c.1 in omega arith)
-in_is_shown [] (suc n) scenario c = absurd (let l = c.1 in omega arith)
-in_is_shown (r ∷ rs) zero scenario c = absurd (let l = c.1 in omega arith)
-in_is_shown (Shown number s ∷ rs) (suc n) scenario c =
-    elim (Contains-append_cases (s ∷ []) (scenarios_in (take n rs)) scenario c) [
-      | inl first ↦ (zero, number, omega arith, ap (λ t. Some (Shown number t)) (only_one s scenario first))
-      | inr later ↦ one_on (Shown number s) rs n scenario (in_is_shown rs n scenario later)
-    ]
-in_is_shown (End number ∷ rs) (suc n) scenario c = one_on (End number) rs n scenario (in_is_shown rs n scenario c)
-in_is_shown (Memory ∷ rs) (suc n) scenario c = one_on Memory rs n scenario (in_is_shown rs n scenario c)
+-- ---- what was shown stays shown
 
-starts : (p : Bounded) → HasShown p [] [] (Start 20000)
-starts p = record { floor_is = refl; shown_is = refl; all = λ c. absurd (let l = c.1 in omega arith) }
+-- what was shown at a floor, where one more was shown
+more : (at : List ℕ) (s : State) (x : ShownAt) → shown_at at (record s { shown = s.shown ++ x ∷ [] }) ≡ shown_at at s ++ map (λ (y : ShownAt). y.scenario) (filter (λ (y : ShownAt). bytes_eq y.floor at) (x ∷ []))
+more at s x =
+    let test : ShownAt → Bool = λ y. bytes_eq y.floor at in
+    ap (map (λ (y : ShownAt). y.scenario)) (filter-append test s.shown (x ∷ [])) ∙ map-append (λ (y : ShownAt). y.scenario) (filter test s.shown) (filter test (x ∷ []))
 
-module _ (p : Bounded) (replies : List Reply) (run : AreRepliesOn p replies) where
-  reached : (place : ℕ) (reply : Reply) → slice_get replies place ≡ Some reply
-      → (old : State) × (new : State) × HasShown p [] (scenarios_in (take place replies)) old × MachineStep p old Next reply new
-  reached place reply e = run_at p [] replies place reply [] (Start 20000) run.0 (starts p) run.1 e
+abbrev ended_by : State → ProofOfEnd → State
+ended_by s proof = record s { ended = s.ended ++ record { floor = top_floor s; proof = proof } ∷ [] }
 
-  pub shown_due : (place number : ℕ) (scenario : List ℕ) → slice_get replies place ≡ Some (Shown number scenario) → IsDue p [] scenario
-  shown_due place number scenario e =
-      let h = reached place (Shown number scenario) e in
-      subst (λ f. IsDue p f scenario) h.2.floor_is h.3.due
+stays : (s : State) (r : Reply) (at x : List ℕ) → Contains (shown_at at s) x → Contains (shown_at at (after s r)) x
+stays s (reply.Shown number scenario) at x c =
+    let new : ShownAt = record { floor = top_floor s; scenario = scenario } in
+    subst (λ (zs : List (List ℕ)). Contains zs x) (sym (more at s new))
+    (Contains-append_left (shown_at at s) (map (λ (y : ShownAt). y.scenario) (filter (λ (y : ShownAt). bytes_eq y.floor at) (new ∷ []))) x c)
+stays s (reply.End number proof) at x c = elim (has_ended (top_floor s) s) as (λ b. Contains (shown_at at (if b then s else ended_by s proof)) x) [ true ↦ c | false ↦ c ]
+stays s (reply.Offers cells) at x c = c
+stays s (reply.Augmented floor) at x c = c
+stays s reply.Back at x c = c
+stays s (reply.BudgetSet budget) at x c = c
+stays s (reply.All scenarios) at x c = c
+stays s (reply.Partly first scenarios) at x c = c
+stays s (reply.Proof proof) at x c = c
+stays s (reply.Refused refusal) at x c = c
+stays s reply.Memory at x c = c
 
-  pub shown_place : (place number : ℕ) (scenario : List ℕ) → slice_get replies place ≡ Some (Shown number scenario) → number ≡ length (scenarios_in (take place replies)) + 1
-  shown_place place number scenario e =
-      let h = reached place (Shown number scenario) e in
-      h.3.place ∙ ap (λ xs. length xs + 1) h.2.shown_is
+pub kept : (s : State) (xs : List Exchange) (at x : List ℕ) → Contains (shown_at at s) x → Contains (shown_at at (state_after s xs)) x
+kept s [] at x c = c
+kept s (e ∷ es) at x c = kept (after s e.reply) es at x (stays s e.reply at x c)
 
-  shown_new : (place number : ℕ) (scenario : List ℕ) → slice_get replies place ≡ Some (Shown number scenario) → Contains (scenarios_in (take place replies)) scenario → ⊥
-  shown_new place number scenario e c =
-      let h = reached place (Shown number scenario) e in
-      h.3.fresh (subst (λ xs. Contains xs scenario) (sym h.2.shown_is) c)
+-- ---- scenarios that are shown one after the other
 
-  pub shown_once : (first second number other : ℕ) (scenario : List ℕ) → slice_get replies first ≡ Some (Shown number scenario) → slice_get replies second ≡ Some (Shown other scenario) → first ≡ second
-  shown_once first second number other scenario e f =
-      elim (cases_lt first second) [
-        | inl less ↦ absurd (shown_new second other scenario f (shown_is_in replies second first number scenario e less))
-        | inr past ↦ elim (cases_lt second first) [
-          | inl more ↦ absurd (shown_new first number scenario e (shown_is_in replies first second other scenario f more))
-          | inr none ↦ omega arith
-        ]
-      ]
+one_here : (s : State) (number : ℕ) (scenario : List ℕ) → shown_at (top_floor s) (after s (reply.Shown number scenario)) ≡ shown_at (top_floor s) s ++ scenario ∷ []
+one_here s number scenario =
+    let new : ShownAt = record { floor = top_floor s; scenario = scenario } in
+    let same : bytes_eq (top_floor s) (top_floor s) ≡ true = (bytes_eq-Decides (top_floor s) (top_floor s)).1 refl in
+    more (top_floor s) s new ∙ ap (λ (b : Bool). shown_at (top_floor s) s ++ map (λ (y : ShownAt). y.scenario) (cond b (new ∷ []) [])) same
 
-  pub end_all : (end number : ℕ) → slice_get replies end ≡ Some (End number) → (scenario : List ℕ) → IsDue p [] scenario → IsShownBefore replies end scenario
-  end_all end number e scenario due =
-      let h = reached end (End number) e in
-      in_is_shown replies end scenario (elim h.3.1 [
-        | inl now ↦ subst (λ xs. Contains xs scenario) h.2.shown_is (now.all_shown scenario (subst (λ f. IsDue p f scenario) (sym h.2.floor_is) due))
-        | inr earlier ↦ h.2.all (subst (Contains h.0.ended) h.2.floor_is earlier.ended) scenario due
-      ])
+top_showings : (s : State) (n : ℕ) (ss : List (List ℕ)) → top_floor (state_after s (showings n ss)) ≡ top_floor s
+top_showings s n [] = refl
+top_showings s n (x ∷ ss) = top_showings (after s (reply.Shown n x)) (n + 1) ss
 
-  pub end_number : (end number : ℕ) → slice_get replies end ≡ Some (End number) → number ≡ length (scenarios_in (take end replies))
-  end_number end number e =
-      let h = reached end (End number) e in
-      h.3.0 ∙ ap length h.2.shown_is
+showings_here : (s : State) (n : ℕ) (ss : List (List ℕ)) → shown_at (top_floor s) (state_after s (showings n ss)) ≡ shown_at (top_floor s) s ++ ss
+showings_here s n [] = sym (append-nil (shown_at (top_floor s) s))
+showings_here s n (x ∷ ss) =
+    showings_here (after s (reply.Shown n x)) (n + 1) ss ∙ ap (λ (zs : List (List ℕ)). zs ++ ss) (one_here s n x) ∙ append_assoc (shown_at (top_floor s) s) (x ∷ []) ss
+
+fresh_showings : (p : Bounded) (s : State) (n : ℕ) (ss : List (List ℕ)) (x : List ℕ) → MachineRun p s (showings n ss) → Contains ss x → Contains (shown_at (top_floor s) s) x → ⊥
+fresh_showings p s n [] x run c old = absurd (let l = c.1 in omega arith)
+fresh_showings p s n (y ∷ ss) x run c old = elim (cons_cases y ss x c) [
+  | inl same ↦ run.0.fresh (subst (Contains (shown_here s)) (sym same) old)
+  | inr later ↦ fresh_showings p (after s (reply.Shown n y)) (n + 1) ss x run.1 later (stays s (reply.Shown n y) (top_floor s) x old)
+]
+
+top_end : (s : State) (number : ℕ) (proof : ProofOfEnd) → top_floor (after s (reply.End number proof)) ≡ top_floor s
+top_end s number proof = elim (has_ended (top_floor s) s) as (λ b. top_floor (if b then s else ended_by s proof) ≡ top_floor s) [ true ↦ refl | false ↦ refl ]
+
+-- an end is reached at the floor at which one began
+pub top_comes : (s : State) (n : ℕ) (xs : List Exchange) → ComesToEnd n xs → top_floor (state_after s xs) ≡ top_floor s
+top_comes s n xs h =
+    let c = h.comes in
+    let last : Exchange = record { step = step.Next; reply = reply.End h.number h.proof } in
+    let before = showings c.first c.scenarios in
+    ap (λ (ys : List Exchange). top_floor (state_after s ys)) c.exchanges ∙ ap top_floor (states_join s before (last ∷ []))
+    ∙ top_end (state_after s before) h.number h.proof ∙ top_showings s c.first c.scenarios
+
+-- ---- what a reply shows
+
+-- afterwards it is among what was shown at the floor
+pub shown_after : (p : Bounded) (s : State) (c : Command) (r : Reply) (xs : List Exchange) (x : List ℕ) → Serves p s c r xs → Shows r x → Contains (shown_at (top_floor s) (state_after s xs)) x
+shown_after p s (command.Step st) (reply.Shown number scenario) xs x h is =
+    let there : Contains (shown_at (top_floor s) (after s (reply.Shown number scenario))) scenario =
+    subst (λ (zs : List (List ℕ)). Contains zs scenario) (sym (one_here s number scenario)) (Contains-push (shown_at (top_floor s) s) scenario) in
+    subst (λ (ys : List Exchange). Contains (shown_at (top_floor s) (state_after s ys)) x) (sym h.read) (subst (Contains (shown_at (top_floor s) (after s (reply.Shown number scenario)))) (sym is) there)
+shown_after p s (command.Step st) (reply.All scenarios) xs x h is = absurd (no_list p s st scenarios (answered p s st (reply.All scenarios) xs h))
+shown_after p s (command.Step st) (reply.Partly first scenarios) xs x h is = absurd (no_part p s st first scenarios (answered p s st (reply.Partly first scenarios) xs h))
+shown_after p s (command.All n) (reply.Shown number scenario) xs x h is = absurd h.read
+shown_after p s (command.All n) (reply.All scenarios) xs x h is =
+    subst (λ (f : List ℕ). Contains (shown_at f (state_after s xs)) x) (top_comes s n xs h.read.0) ((h.read.1.same x).0 is)
+shown_after p s (command.All n) (reply.Partly first scenarios) xs x h is =
+    subst (λ (ys : List Exchange). Contains (shown_at (top_floor s) (state_after s ys)) x) (sym h.read.1)
+    (subst (λ (zs : List (List ℕ)). Contains zs x) (sym (showings_here s first scenarios)) (Contains-append_right (shown_at (top_floor s) s) scenarios x is))
+shown_after p s c (reply.End number proof) xs x h is = absurd is
+shown_after p s c (reply.Offers cells) xs x h is = absurd is
+shown_after p s c (reply.Augmented floor) xs x h is = absurd is
+shown_after p s c reply.Back xs x h is = absurd is
+shown_after p s c (reply.BudgetSet budget) xs x h is = absurd is
+shown_after p s c (reply.Proof proof) xs x h is = absurd is
+shown_after p s c (reply.Refused refusal) xs x h is = absurd is
+shown_after p s c reply.Memory xs x h is = absurd is
+
+-- what it shows as new was not shown at the floor before
+pub new_is_fresh : (p : Bounded) (s : State) (c : Command) (r : Reply) (xs : List Exchange) (x : List ℕ) → Serves p s c r xs → ShowsNew r x → Contains (shown_at (top_floor s) s) x → ⊥
+new_is_fresh p s (command.Step st) (reply.Shown number scenario) xs x h is old =
+    let next = shows_next p s st number scenario (answered p s st (reply.Shown number scenario) xs h) in
+    next.fresh (subst (Contains (shown_here s)) is old)
+new_is_fresh p s (command.Step st) (reply.Partly first scenarios) xs x h is old = no_part p s st first scenarios (answered p s st (reply.Partly first scenarios) xs h)
+new_is_fresh p s (command.All n) (reply.Shown number scenario) xs x h is old = h.read
+new_is_fresh p s (command.All n) (reply.Partly first scenarios) xs x h is old = fresh_showings p s first scenarios x (subst (MachineRun p s) h.read.1 h.run) is old
+new_is_fresh p s c (reply.All scenarios) xs x h is old = is
+new_is_fresh p s c (reply.End number proof) xs x h is old = is
+new_is_fresh p s c (reply.Offers cells) xs x h is old = is
+new_is_fresh p s c (reply.Augmented floor) xs x h is old = is
+new_is_fresh p s c reply.Back xs x h is old = is
+new_is_fresh p s c (reply.BudgetSet budget) xs x h is old = is
+new_is_fresh p s c (reply.Proof proof) xs x h is old = is
+new_is_fresh p s c (reply.Refused refusal) xs x h is old = is
+new_is_fresh p s c reply.Memory xs x h is old = is
+
+-- it is due at the floor
+pub is_due : (p : Bounded) (s : State) (c : Command) (r : Reply) (xs : List Exchange) (x : List ℕ) → IsSound p (state_after s xs) → Serves p s c r xs → Shows r x → IsDue p (top_floor s) x
+is_due p s c r xs x now h is =
+    All-contains (IsDue p (top_floor s)) (shown_at (top_floor s) (state_after s xs)) x (now.due (top_floor s)) (shown_after p s c r xs x h is)
+
+-- an end, offers, and lists
+
+pub ends : (p : Bounded) (s : State) (c : Command) (number : ℕ) (proof : ProofOfEnd) (xs : List Exchange) → Serves p s c (reply.End number proof) xs → (number ≡ length (shown_here s)) × (HasEndedWith s proof ⊎ EndsNow p s)
+ends p s (command.Step st) number proof xs h = ends_next p s st number proof (answered p s st (reply.End number proof) xs h)
+ends p s (command.All n) number proof xs h = absurd h.read
+
+pub all_is_shown : (p : Bounded) (s : State) (proof : ProofOfEnd) → IsSound p s → HasEndedWith s proof ⊎ EndsNow p s → (x : List ℕ) → IsDue p (top_floor s) x → Contains (shown_here s) x
+all_is_shown p s proof sound (inl was) = sound.complete (top_floor s) (has_any (λ (x : EndedAt). bytes_eq x.floor (top_floor s)) s.ended (record { floor = top_floor s; proof = proof }) was ((bytes_eq-Decides (top_floor s) (top_floor s)).1 refl))
+all_is_shown p s proof sound (inr now) = now.all_shown
+
+pub offers : (p : Bounded) (s : State) (c : Command) (cells : List ℕ) (xs : List Exchange) → Serves p s c (reply.Offers cells) xs → OffersCells p s cells
+offers p s (command.Step st) cells xs h = offers_next p s st cells (answered p s st (reply.Offers cells) xs h)
+offers p s (command.All n) cells xs h = absurd h.read
+
+-- the scenarios that are shown together are distinct
+tail_pairs : (xs ys : List (List ℕ)) → AllPairs (λ x y. x ≢ y) (xs ++ ys) → AllPairs (λ x y. x ≢ y) ys
+tail_pairs [] ys all = all
+tail_pairs (x ∷ xs) ys all = tail_pairs xs ys (λ i j d l h. all (suc i) (suc j) d (omega arith) (omega arith))
+
+pub once_partly : (p : Bounded) (s : State) (c : Command) (first : ℕ) (scenarios : List (List ℕ)) (xs : List Exchange) → IsSound p (state_after s xs) → Serves p s c (reply.Partly first scenarios) xs → AllPairs (λ x y. x ≢ y) scenarios
+once_partly p s (command.Step st) first scenarios xs now h = absurd (no_part p s st first scenarios (answered p s st (reply.Partly first scenarios) xs h))
+once_partly p s (command.All n) first scenarios xs now h =
+    let same : shown_at (top_floor s) (state_after s xs) ≡ shown_at (top_floor s) s ++ scenarios = ap (λ (ys : List Exchange). shown_at (top_floor s) (state_after s ys)) h.read.1 ∙ showings_here s first scenarios in
+    tail_pairs (shown_at (top_floor s) s) scenarios (subst (AllPairs (λ (x y : List ℕ). x ≢ y)) same (now.once (top_floor s)))
+
+-- a list that ends a floor: its command, its order, and the floor that it ends
+pub asked_by_all : (p : Bounded) (s : State) (c : Command) (scenarios : List (List ℕ)) (xs : List Exchange) → Serves p s c (reply.All scenarios) xs → (n : ℕ) × (c ≡ command.All n)
+asked_by_all p s (command.Step st) scenarios xs h = absurd (no_list p s st scenarios (answered p s st (reply.All scenarios) xs h))
+asked_by_all p s (command.All n) scenarios xs h = (n, refl)
+
+pub listed_in_order : (p : Bounded) (s : State) (c : Command) (scenarios : List (List ℕ)) (xs : List Exchange) → Serves p s c (reply.All scenarios) xs → AllPairs IsEarlier scenarios
+listed_in_order p s (command.Step st) scenarios xs h = absurd (no_list p s st scenarios (answered p s st (reply.All scenarios) xs h))
+listed_in_order p s (command.All n) scenarios xs h = h.read.1.sorted
+
+pub list_ends : (p : Bounded) (s : State) (n : ℕ) (scenarios : List (List ℕ)) (xs : List Exchange) → Serves p s (command.All n) (reply.All scenarios) xs → top_floor (state_after s xs) ≡ top_floor s
+list_ends p s n scenarios xs h = top_comes s n xs h.read.0

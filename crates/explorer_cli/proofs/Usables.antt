@@ -1,15 +1,21 @@
 -- Models that sessions can run on: one model more, and what holds of all of them.
-use Rattle.std.proofs.Common.{◌≡◌, ◌≢◌, ◌⊎◌, inl, inr, ℕ, zero, suc, ◌+◌, ◌≤◌, ◌<◌, List, [], ◌∷◌, ◌++◌, map, length, take, drop, get_or, Contains, All, Option, None, Some, MatchOption, refl, sym, ap, subst, ◌∙◌, arith}
-use Rattle.std.specs.Prelude.{min}
-use Rattle.std.specs.List.{AllByRecursion}
+use Rattle.std.proofs.Common.{◌≡◌, ◌≢◌, ◌⊎◌, inl, inr, ℕ, zero, suc, ◌+◌, ◌≤◌, ◌<◌, List, [], ◌∷◌, ◌++◌, length, take, drop, get_or, Contains, All, Option, None, Some, refl, sym, ap, subst, ◌∙◌, arith}
+use Rattle.std.specs.Prelude.{min, slice_get}
 use Rattle.std.proofs.lemmas.Bool.{cases_lt}
-use Rattle.std.proofs.lemmas.List.{length-take-le, take_more, take-append-drop, drop_more, map-append}
-use Rattle.std.proofs.lemmas.List.Elements.{All-from_recursion, Contains-append_left, Contains-append_right, Contains-append_cases}
+use Rattle.std.proofs.lemmas.List.{length-take-le, take_more, take-append-drop, drop_more}
+use Rattle.std.proofs.lemmas.List.Elements.{Contains-get_or, Contains-append_left, Contains-append_right, Contains-append_cases}
 use Rattle.script_format.specs.declared.entries.ModelEntry.{ModelEntry}
 use Rattle.script_format.specs.declared.entries.SessionEntry.{SessionEntry}
-use Rattle.short_models.specs.declared.model.ShortModel.{ShortModel}
-use Rattle.short_models.specs.Problem.{Short, IsShort, short_of}
-use Rattle.explorer_cli.specs.Models.{IsAsked, AskTheFirst, IsLeastOther, IsUsable, IsRefused, AreUsable, IsFirstRefused, IsFound}
+use Rattle.script_format.specs.Limits.{asked_by, asked_in}
+use Rattle.translation_rules.specs.Translation.{Translated}
+use Rattle.short_models.specs.Problem.{Short, IsShort, problem_of}
+use Rattle.model_texts.specs.ModelText.{SaysShort}
+use Rattle.explorer_cli.specs.declared.models.UsedModel.{UsedModel}
+use Rattle.explorer_cli.specs.declared.models.UsedModel.TheVariants as used
+use Rattle.explorer_cli.specs.Models.{HasFewTerms, HasOthers, IsTranslationOf, IsUsed, IsUsedShort, IsAsked, AskTheFirst, IsLeastOther, IsUsable, IsRefused, AreUsable, IsFirstRefused, IsFound, IsReady, AreReady, AreUsed, IsTranslated}
+
+same_ready : (x y : Option Translated) → Some x ≡ Some y → x ≡ y
+same_ready x y e = cc
 
 -- ---- models
 
@@ -25,18 +31,43 @@ module _ (sessions : List SessionEntry) where
       let same : place + length (e ∷ es) ≡ (place + 1) + length es = omega arith in
       (are.0, usable_push (place + 1) es xs entry m are.1 (subst (λ (n : ℕ). IsUsable sessions n entry.text m) same is))
 
+  ready_push : (place : ℕ) (ms : List Short) (xs : List (Option Translated)) (m : Short) (x : Option Translated)
+      → AreReady sessions place ms xs → IsReady sessions (place + length ms) m x → AreReady sessions place (ms ++ m ∷ []) (xs ++ x ∷ [])
+  ready_push place [] [] m x are is =
+      let same : place + 0 ≡ place = omega arith in
+      (subst (λ (n : ℕ). IsReady sessions n m x) same is, tt)
+  ready_push place [] (y ∷ ys) m x are is = absurd are
+  ready_push place (n ∷ ns) [] m x are is = absurd are
+  ready_push place (n ∷ ns) (y ∷ ys) m x are is =
+      let same : place + length (n ∷ ns) ≡ (place + 1) + length ns = omega arith in
+      (are.0, ready_push (place + 1) ns ys m x are.1 (subst (λ (k : ℕ). IsReady sessions k m x) same is))
+
+  pub usable_length : (place : ℕ) (entries : List ModelEntry) (ms : List Short) → AreUsable sessions place entries ms → length ms ≡ length entries
+  usable_length place [] [] are = refl
+  usable_length place [] (x ∷ xs) are = absurd are
+  usable_length place (e ∷ es) [] are = absurd are
+  usable_length place (e ∷ es) (x ∷ xs) are = let l = usable_length (place + 1) es xs are.1 in omega arith
+
+  ready_length : (place : ℕ) (ms : List Short) (xs : List (Option Translated)) → AreReady sessions place ms xs → length xs ≡ length ms
+  ready_length place [] [] are = refl
+  ready_length place [] (x ∷ xs) are = absurd are
+  ready_length place (m ∷ ms) [] are = absurd are
+  ready_length place (m ∷ ms) (x ∷ xs) are = let l = ready_length (place + 1) ms xs are.1 in omega arith
+
   -- the turn of the loop that reads models
-  pub usable_more : (entries : List ModelEntry) (i : ℕ) (entry : ModelEntry) (text : List ℕ) (old new : List ShortModel) (model : ShortModel)
-      → i < length entries → entry ≡ get_or entries i entry → text ≡ entry.text → new ≡ old ++ model ∷ []
-      → AreUsable sessions 0 (take i entries) (map short_of old) → IsUsable sessions i text (short_of model) → AreUsable sessions 0 (take (i + 1) entries) (map short_of new)
-  usable_more entries i entry text old new model l item told pushed are is_text =
-      let is = subst (λ (t : List ℕ). IsUsable sessions i t (short_of model)) told is_text in
-      let long : 0 + length (take i entries) ≡ i = let e = length-take-le i entries (omega arith) in omega arith in
-      let more : take (i + 1) entries ≡ take i entries ++ entry ∷ [] = take_more entries i entry l ∙ ap (λ (e : ModelEntry). take i entries ++ e ∷ []) (sym item) in
-      let models : map short_of new ≡ map short_of old ++ short_of model ∷ [] = ap (map short_of) pushed ∙ map-append short_of old (model ∷ []) in
-      subst (λ (es : List ModelEntry). AreUsable sessions 0 es (map short_of new)) (sym more)
-      (subst (λ (ms : List Short). AreUsable sessions 0 (take i entries ++ entry ∷ []) ms) (sym models)
-      (usable_push 0 (take i entries) (map short_of old) entry (short_of model) are (subst (λ (n : ℕ). IsUsable sessions n entry.text (short_of model)) (sym long) is)))
+  pub used_more : (entries : List ModelEntry) (i : ℕ) (entry : ModelEntry) (text : List ℕ) (old new : List (Option Translated)) (ready : Option Translated)
+      → i < length entries → entry ≡ get_or entries i entry → text ≡ entry.text → new ≡ old ++ ready ∷ []
+      → AreUsed sessions (take i entries) old → (m : Short) → IsUsable sessions i text m → IsReady sessions i m ready → AreUsed sessions (take (i + 1) entries) new
+  used_more entries i entry text old new ready l item told pushed (ms, usable, are) m is_text is_ready =
+      let is = subst (λ (t : List ℕ). IsUsable sessions i t m) told is_text in
+      let front : length (take i entries) ≡ i = length-take-le i entries (omega arith) in
+      let long : 0 + length (take i entries) ≡ i = omega arith in
+      let many : 0 + length ms ≡ i = let e = usable_length 0 (take i entries) ms usable in omega arith in
+      let more : take (i + 1) entries ≡ take i entries ++ entry ∷ [] = take_more entries i entry l ∙ ap (λ (e : ModelEntry). take i entries ++ e ∷ []) (sym item) in (
+        ms ++ m ∷ [],
+        subst (λ (es : List ModelEntry). AreUsable sessions 0 es (ms ++ m ∷ [])) (sym more) (usable_push 0 (take i entries) ms entry m usable (subst (λ (n : ℕ). IsUsable sessions n entry.text m) (sym long) is)),
+        subst (AreReady sessions 0 (ms ++ m ∷ [])) (sym pushed) (ready_push 0 ms old m ready are (subst (λ (n : ℕ). IsReady sessions n m ready) (sym many) is_ready)),
+      )
 
   -- the loop stops at the first model that can't be used
   pub first_refused : (entries : List ModelEntry) (i : ℕ) (entry : ModelEntry) (text words : List ℕ) (models : List Short) → i < length entries → entry ≡ get_or entries i entry → text ≡ entry.text
@@ -54,20 +85,62 @@ module _ (sessions : List SessionEntry) where
         name_is = refl;
       }
 
-  pub usable_length : (place : ℕ) (entries : List ModelEntry) (ms : List Short) → AreUsable sessions place entries ms → length ms ≡ length entries
-  usable_length place [] [] are = refl
-  usable_length place [] (x ∷ xs) are = absurd are
-  usable_length place (e ∷ es) [] are = absurd are
-  usable_length place (e ∷ es) (x ∷ xs) are = let l = usable_length (place + 1) es xs are.1 in omega arith
+  -- the translation at a place is that of the short model there
+  pub ready_at : (place : ℕ) (entries : List ModelEntry) (ms : List Short) (xs : List (Option Translated)) (k : ℕ) (t : Translated) → AreUsable sessions place entries ms → AreReady sessions place ms xs
+      → slice_get xs k ≡ Some (Some t) → (m : Short) × (slice_get ms k ≡ Some m) × IsShort m × (t.problem ≡ problem_of m)
+  ready_at place entries [] [] k t us rs e = absurd (cc)
+  ready_at place entries [] (x ∷ xs) k t us rs e = absurd rs
+  ready_at place entries (m ∷ ms) [] k t us rs e = absurd rs
+  ready_at place [] (m ∷ ms) (x ∷ xs) k t us rs e = absurd us
+  ready_at place (entry ∷ es) (m ∷ ms) (x ∷ xs) zero t us rs e = (m, refl, us.0.says.2.1, subst (IsReady sessions place m) (same_ready x (Some t) e) rs.0)
+  ready_at place (entry ∷ es) (m ∷ ms) (x ∷ xs) (suc k) t us rs e = ready_at (place + 1) es ms xs k t us.1 rs.1 e
 
-  shorts : (place : ℕ) (entries : List ModelEntry) (models : List ShortModel) → AreUsable sessions place entries (map short_of models) → AllByRecursion (λ (m : ShortModel). IsShort (short_of m)) models
-  shorts place [] [] are = tt
-  shorts place [] (x ∷ xs) are = absurd are
-  shorts place (e ∷ es) [] are = tt
-  shorts place (e ∷ es) (x ∷ xs) are = (are.0.0.2.1, shorts (place + 1) es xs are.1)
+  -- there is one where sessions are
+  ready_there : (place : ℕ) (entries : List ModelEntry) (ms : List Short) (xs : List (Option Translated)) (k number : ℕ) → AreUsable sessions place entries ms → AreReady sessions place ms xs
+      → k < length xs → IsAsked sessions (place + k) number → (t : Translated) × (slice_get xs k ≡ Some (Some t))
+  ready_there place entries [] [] k number us rs l asked = absurd (omega arith)
+  ready_there place entries [] (x ∷ xs) k number us rs l asked = absurd rs
+  ready_there place entries (m ∷ ms) [] k number us rs l asked = absurd rs
+  ready_there place [] (m ∷ ms) (x ∷ xs) k number us rs l asked = absurd us
+  ready_there place (entry ∷ es) (m ∷ ms) (None ∷ xs) zero number us rs l asked =
+      let same : place + 0 ≡ place = omega arith in
+      let here = subst (λ (n : ℕ). IsAsked sessions n number) same asked in
+      absurd (rs.0 (subst (IsAsked sessions place) (us.0.first number here) here))
+  ready_there place (entry ∷ es) (m ∷ ms) (Some t ∷ xs) zero number us rs l asked = (t, refl)
+  ready_there place (entry ∷ es) (m ∷ ms) (x ∷ xs) (suc k) number us rs l asked =
+      let same : place + suc k ≡ (place + 1) + k = omega arith in
+      ready_there (place + 1) es ms xs k number us.1 rs.1 (omega arith) (subst (λ (n : ℕ). IsAsked sessions n number) same asked)
 
-  pub usable_short : (entries : List ModelEntry) (models : List ShortModel) → AreUsable sessions 0 entries (map short_of models) → All (λ (m : ShortModel). IsShort (short_of m)) models
-  usable_short entries models are = All-from_recursion (λ (m : ShortModel). IsShort (short_of m)) models (shorts 0 entries models are)
+  -- each session has the translation of its model
+  pub all_translated : (entries : List ModelEntry) (xs : List (Option Translated)) → AreUsed sessions entries xs → All (λ x. x.model < length entries) sessions → All (IsTranslated xs) sessions
+  all_translated entries xs (ms, usable, are) named k d l =
+      let x = get_or sessions k d in
+      let in' = named k d l in
+      let long = usable_length 0 entries ms usable in
+      let ready = ready_length 0 ms xs are in
+      let same : x.model ≡ 0 + x.model = omega arith in
+      ready_there 0 entries ms xs x.model x.number usable are (omega arith) (subst (λ (n : ℕ). IsAsked sessions n x.number) same (x, Contains-get_or sessions k d l, refl, refl))
+
+-- ---- what the code has found of one model
+
+module _ (sessions : List SessionEntry) (place : ℕ) where
+  pub used_of_short : (text : List ℕ) (m : Short) (found : UsedModel) → SaysShort text m → IsUsedShort sessions place m found → IsUsed sessions place text found
+  used_of_short text m (used.Ready ready) says is = (m, record { says = says; servable = is.0; first = is.1 }, is.2)
+  used_of_short text m (used.Refused words) says is = inr (inr (m, says, is))
+
+  pub unused_of_others : (m : Short) (found : UsedModel) → (IsAsked sessions place 1 → ⊥) → HasOthers sessions place None found → IsUsedShort sessions place m found
+  unused_of_others m (used.Ready ready) none others = (λ asked. absurd (none asked), others.0, subst (IsReady sessions place m) (sym others.1) none)
+  unused_of_others m (used.Refused words) none others = inr (λ asked. absurd (none asked), others)
+
+  pub short_of_others : (m : Short) (t : Translated) (found : UsedModel) → HasFewTerms m → IsTranslationOf m t → HasOthers sessions place (Some t) found → IsUsedShort sessions place m found
+  short_of_others m t (used.Ready ready) few is others = (λ asked. few, others.0, subst (IsReady sessions place m) (sym others.1) is)
+  short_of_others m t (used.Refused words) few is others = inr (λ asked. few, others)
+
+-- each session asks for no more than all of them
+pub asked_each : (sessions : List SessionEntry) (most : ℕ) → asked_in sessions ≤ most → All (λ x. asked_by x.commands ≤ most) sessions
+asked_each [] most few k d l = absurd (omega arith)
+asked_each (x ∷ xs) most few zero d l = omega arith
+asked_each (x ∷ xs) most few (suc k) d l = asked_each xs most (omega arith) k d (omega arith)
 
 -- ---- what sessions are on
 

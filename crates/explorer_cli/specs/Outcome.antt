@@ -1,12 +1,9 @@
 -- What the program answers: its words, its texts and its statuses.
-use Rattle.std.specs.Prelude.{◌≡◌, ◌⊎◌, ℕ, List, ◌++◌, codes, All}
+use Rattle.std.specs.Prelude.{◌≡◌, ◌⊎◌, ℕ, List, ◌++◌, codes}
 use Rattle.command_words.specs.declared.reading.Command.TheVariants.{Run}
 use Rattle.command_words.specs.Words.{Says}
 use Rattle.outside_io.specs.Front.{AppendsPart}
-use Rattle.session_words.specs.declared.commands.Command.TheVariants.{Step}
-use Rattle.session_words.specs.declared.steps.Step.TheVariants.{Next}
 use Rattle.script_format.specs.declared.entries.Script.{Script}
-use Rattle.script_format.specs.declared.entries.SessionEntry.{SessionEntry}
 use Rattle.script_format.specs.declared.fault.ScriptFault.{ScriptFault}
 use Rattle.script_format.specs.Script.{IsScript, HasFault}
 use Rattle.script_text.specs.Faults.{script_line, fault_words}
@@ -18,51 +15,43 @@ use Rattle.explorer_cli.specs.Runs.{AreRunsOf}
 abbrev pub words_line : List ℕ
 words_line = codes "fault words\n"
 
--- each command of each session is `next`
-abbrev pub AskNextAlone : List SessionEntry → Type 0
-AskNextAlone sessions = All (λ x. All (λ c. c ≡ Step Next) x.commands) sessions
-
 -- the bytes are no script, and under 3 the text is the line that tells their fault
 abbrev pub IsFaultAnswer : List ℕ → ℕ → List ℕ → Type 0
 IsFaultAnswer bytes status text = (f : ScriptFault) × HasFault bytes f × (status ≡ 3) × (text ≡ script_line (fault_words f))
 
--- some command is another one than `next`, and under 3 the text is the line that says so
-abbrev pub IsOtherAnswer : Script → ℕ → List ℕ → Type 0
-IsOtherAnswer s status text = (¬ AskNextAlone s.sessions) × (status ≡ 3) × (text ≡ script_line (codes "not_yet"))
-
 -- a model can't be used, and under 4 the text is the line that refuses the first of these
 abbrev pub IsModelAnswer : Script → ℕ → List ℕ → Type 0
 IsModelAnswer s status text =
-    AskNextAlone s.sessions × (status ≡ 4) × ((name : List ℕ) × (words : List ℕ) × IsFirstRefused s.sessions s.models name words × (text ≡ model_line name words))
+    (status ≡ 4) × ((name : List ℕ) × (words : List ℕ) × IsFirstRefused s.sessions s.models name words × (text ≡ model_line name words))
 
--- the models can be used, and under 0 the text is that of runs of the sessions on them, in order
-abbrev pub IsRunAnswer : Script → ℕ → List ℕ → Type 0
-IsRunAnswer s status text =
-    AskNextAlone s.sessions × (status ≡ 0) × ((models : List Short) × AreUsable s.sessions 0 s.models models × AreRunsOf s.sessions models text)
+-- the models can be used, and under 0 the text is that of runs of the sessions on them, in order, from this budget
+abbrev pub IsRunAnswer : ℕ → Script → ℕ → List ℕ → Type 0
+IsRunAnswer budget s status text =
+    (status ≡ 0) × ((models : List Short) × AreUsable s.sessions 0 s.models models × AreRunsOf budget s.sessions models text)
 
--- a status and a text answer a script
-abbrev pub IsAnswerToScript : Script → ℕ → List ℕ → Type 0
-IsAnswerToScript s status text = IsOtherAnswer s status text ⊎ IsModelAnswer s status text ⊎ IsRunAnswer s status text
+-- a status and a text answer a script whose sessions begin with this budget
+abbrev pub IsAnswerToScript : ℕ → Script → ℕ → List ℕ → Type 0
+IsAnswerToScript budget s status text = IsModelAnswer s status text ⊎ IsRunAnswer budget s status text
 
 -- a status and a text answer the bytes of the input: those of a script as it says, and others with the line of their fault
-abbrev pub IsAnswerTo : List ℕ → ℕ → List ℕ → Type 0
-IsAnswerTo bytes status text = IsFaultAnswer bytes status text ⊎ ((s : Script) × IsScript bytes s × IsAnswerToScript s status text)
+abbrev pub IsAnswerTo : ℕ → List ℕ → ℕ → List ℕ → Type 0
+IsAnswerTo budget bytes status text = IsFaultAnswer bytes status text ⊎ ((s : Script) × IsScript bytes s × IsAnswerToScript budget s status text)
 
 -- the answer to these bytes has this status
-abbrev pub IsStatusOf : List ℕ → ℕ → Type 0
-IsStatusOf bytes status = (text : List ℕ) × IsAnswerTo bytes status text
+abbrev pub IsStatusOf : ℕ → List ℕ → ℕ → Type 0
+IsStatusOf budget bytes status = (text : List ℕ) × IsAnswerTo budget bytes status text
 
 -- the answer to these bytes has this status, and its text was appended
-abbrev pub Wrote : List ℕ → ℕ → List ℕ → List ℕ → Type 0
-Wrote bytes status old new = (text : List ℕ) × IsAnswerTo bytes status text × (new ≡ old ++ text)
+abbrev pub Wrote : ℕ → List ℕ → ℕ → List ℕ → List ℕ → Type 0
+Wrote budget bytes status old new = (text : List ℕ) × IsAnswerTo budget bytes status text × (new ≡ old ++ text)
 
 -- some bytes of an answer to these bytes were appended, and not all of it
-abbrev pub IsPartOfAnswer : List ℕ → List ℕ → List ℕ → Type 0
-IsPartOfAnswer bytes old new = (status : ℕ) × (text : List ℕ) × IsAnswerTo bytes status text × AppendsPart old new text
+abbrev pub IsPartOfAnswer : ℕ → List ℕ → List ℕ → List ℕ → Type 0
+IsPartOfAnswer budget bytes old new = (status : ℕ) × (text : List ℕ) × IsAnswerTo budget bytes status text × AppendsPart old new text
 
--- the words say `run`, with some options
-abbrev pub SaysRun : List (List ℕ) → Type 0
-SaysRun words = (workers : ℕ) × (budget : ℕ) × Says words (Run workers budget)
+-- the words say `run` with this budget, and some number of workers
+abbrev pub SaysRun : List (List ℕ) → ℕ → Type 0
+SaysRun words budget = (workers : ℕ) × Says words (Run workers budget)
 
 -- of `run`: done, a refused script, a refused model, a source that failed, a sink that failed, want of memory
 abbrev pub IsRunStatus : ℕ → Type 0

@@ -1,52 +1,91 @@
--- Runs of sessions that are always asked for the next scenario.
-use Rattle.std.specs.Prelude.{◌≡◌, ◌<◌, ℕ, List, [], ◌∷◌, map, length, slice_get, Some}
+-- Runs of sessions: what is printed of them, and what their replies show.
+use Rattle.std.specs.Prelude.{◌≡◌, ◌≢◌, ◌<◌, ℕ, List, [], ◌∷◌, ◌++◌, length, Option, Some, slice_get, All, AllPairs, Contains}
 use Rattle.std.specs.List.{AllZip}
 use Rattle.rel_formula.specs.Bounds.{Bounded}
-use Rattle.rel_formula.specs.Renaming.{IsRenamingOf}
-use Rattle.session_rules.specs.declared.reply.Step.TheVariants.{Next}
-use Rattle.session_rules.specs.declared.reply.Reply.{Reply}
-use Rattle.session_rules.specs.declared.reply.Reply.TheVariants.{Shown, End, Memory}
-use Rattle.session_rules.specs.Machine.{State, Start, Exchange, MachineRun}
-use Rattle.script_text.specs.Printed.{printed_next}
-use Rattle.script_text.specs.Replies.{PrintedSession, IsOutput}
+use Rattle.swap_symmetry.specs.Due.{IsDue}
+use Rattle.translation_rules.specs.Translation.{Translated, StandsFor}
+use Rattle.translation_rules.specs.Offers.{AreOffers}
+use Rattle.session_words.specs.declared.commands.Command.{Command}
+use Rattle.session_rules.specs.declared.answers.Reply.{Reply}
+use Rattle.session_rules.specs.declared.answers.Reply.TheVariants.{Shown, All as AllShown, Partly}
+use Rattle.session_rules.specs.States.{Start}
+use Rattle.session_rules.specs.Steps.{Exchange}
+use Rattle.session_rules.specs.Transcripts.{IsTranscript}
+use Rattle.explorer_run.specs.Serving.{AreBacked}
+use Rattle.script_text.specs.Printed.{all_printed}
+use Rattle.script_text.specs.Replies.{PrintedSession, PrintsCheckableProof, IsOutput}
 use Rattle.script_format.specs.declared.entries.SessionEntry.{SessionEntry}
 use Rattle.short_models.specs.Problem.{Short, IsShort, problem_of}
 
--- replies to a session that is always asked for the next scenario
-abbrev pub to_next : Reply → Exchange
-to_next reply = record { step = Next; reply = reply }
+-- the replies, each at the top floor before it, are a transcript of these commands: a run of the session machine over the
+-- problem, from the start with this budget
+abbrev pub AreRepliesOn : Bounded → ℕ → List Command → List Reply → List (List ℕ) → Type 0
+AreRepliesOn p budget commands replies floors = (xs : List Exchange) × IsTranscript p (Start budget) commands replies floors xs
 
--- these replies are a run of the session machine over the problem, from the start with the budget of a session that is given none
-abbrev pub AreRepliesOn : Bounded → List Reply → Type 0
-AreRepliesOn p replies = (last : State) × MachineRun p (Start 20000) (map to_next replies) last
-
--- what is printed of the session is that of a run on the problem of a short model, with one reply for each command
-pub record IsRunOf (x : SessionEntry) (m : Short) (s : PrintedSession) : Type 0 where
-  pub short : IsShort m
+-- what is printed of the session is its transcript on the problem, over a translation that stands for it, with nothing
+-- imported: each proof that a reply makes, and each spent budget, has its evidence there, and `check` accepts the proofs that
+-- are printed
+pub record IsRunOn (p : Bounded) (budget : ℕ) (x : SessionEntry) (s : PrintedSession) : Type 0 where
+  pub translation : Translated
+  pub stands : StandsFor p translation
   pub replies : List Reply
-  pub count : length replies ≡ length x.commands
-  pub run : AreRepliesOn (problem_of m) replies
-  pub is : s ≡ record { problem = problem_of m; name = x.name; replies = map printed_next replies }
+  pub floors : List (List ℕ)
+  pub exchanges : List Exchange
+  pub transcript : IsTranscript p (Start budget) x.commands replies floors exchanges
+  pub backed : AreBacked translation [] (Start budget) exchanges
+  pub checkable : AllZip (PrintsCheckableProof translation) floors replies
+  pub is : s ≡ record { problem = p; name = x.name; replies = all_printed translation floors replies }
 
--- the session runs on that of the models on which it is
-abbrev pub IsRunAmong : List Short → SessionEntry → PrintedSession → Type 0
-IsRunAmong models x s = (m : Short) × (slice_get models x.model ≡ Some m) × IsRunOf x m s
+-- the session runs on the problem of that of the models on which it is
+abbrev pub IsRunAmong : ℕ → List Short → SessionEntry → PrintedSession → Type 0
+IsRunAmong budget models x s = (m : Short) × (slice_get models x.model ≡ Some m) × IsShort m × IsRunOn (problem_of m) budget x s
 
 -- the text is the output of runs of the sessions, in order
-abbrev pub AreRunsOf : List SessionEntry → List Short → List ℕ → Type 0
-AreRunsOf sessions models text = (runs : List PrintedSession) × AllZip (IsRunAmong models) sessions runs × IsOutput runs text
+abbrev pub AreRunsOf : ℕ → List SessionEntry → List Short → List ℕ → Type 0
+AreRunsOf budget sessions models text = (runs : List PrintedSession) × AllZip (IsRunAmong budget models) sessions runs × IsOutput runs text
 
--- the scenarios that replies show, in order
-abbrev pub scenarios_in : List Reply → List (List ℕ)
-scenarios_in [] = []
-scenarios_in (Shown number scenario ∷ others) = scenario ∷ scenarios_in others
-scenarios_in (End number ∷ others) = scenarios_in others
-scenarios_in (Memory ∷ others) = scenarios_in others
+-- the reply at a place, and the top floor before it
+abbrev pub IsReplyAt : List Reply → List (List ℕ) → ℕ → Reply → List ℕ → Type 0
+IsReplyAt replies floors place reply floor = (slice_get replies place ≡ Some reply) × (slice_get floors place ≡ Some floor)
 
--- the scenario was shown at a place before this one
-abbrev pub IsShownBefore : List Reply → ℕ → List ℕ → Type 0
-IsShownBefore replies before scenario = (place : ℕ) × (number : ℕ) × (place < before) × (slice_get replies place ≡ Some (Shown number scenario))
+-- the reply shows the scenario, maybe again
+abbrev pub Shows : Reply → List ℕ → Type 0
+Shows (Shown number scenario) x = x ≡ scenario
+Shows (AllShown scenarios) x = Contains scenarios x
+Shows (Partly first scenarios) x = Contains scenarios x
+Shows reply x = ⊥
 
--- a renaming takes the scenario to one that was shown before
-abbrev pub IsRenamingOfShown : Bounded → List Reply → ℕ → List ℕ → Type 0
-IsRenamingOfShown p replies before scenario = (image : List ℕ) × IsRenamingOf p scenario image × IsShownBefore replies before image
+-- the reply shows the scenario for the first time
+abbrev pub ShowsNew : Reply → List ℕ → Type 0
+ShowsNew (AllShown scenarios) x = ⊥
+ShowsNew reply x = Shows reply x
+
+-- what was shown at a floor before this place: all of it is due, none twice; what the replies before show there is among it
+pub record IsShownBefore (p : Bounded) (replies : List Reply) (floors : List (List ℕ)) (place : ℕ) (floor : List ℕ) (shown : List (List ℕ)) : Type 0 where
+  pub due : All (IsDue p floor) shown
+  pub once : AllPairs (λ x y. x ≢ y) shown
+  pub told : (earlier : ℕ) (reply : Reply) (x : List ℕ) → earlier < place → IsReplyAt replies floors earlier reply floor → Shows reply x → Contains shown x
+
+-- the floor has ended at this place: all that is due was shown, and that were so many
+pub record EndsAt (p : Bounded) (replies : List Reply) (floors : List (List ℕ)) (place : ℕ) (floor : List ℕ) (number : ℕ) : Type 0 where
+  pub shown : List (List ℕ)
+  pub before : IsShownBefore p replies floors place floor shown
+  pub all : (x : List ℕ) → IsDue p floor x → Contains shown x
+  pub number_is : number ≡ length shown
+
+-- the cells are all that some instance adds to the last scenario that was shown at the floor before this place, in order
+pub record OffersAt (p : Bounded) (replies : List Reply) (floors : List (List ℕ)) (place : ℕ) (floor cells : List ℕ) : Type 0 where
+  pub earlier : List (List ℕ)
+  pub current : List ℕ
+  pub before : IsShownBefore p replies floors place floor (earlier ++ current ∷ [])
+  pub offers : AreOffers p current cells
+
+-- ---- what the code has served
+
+-- the session runs on the problem of the translation at the place of its model
+abbrev pub IsRunOver : ℕ → List (Option Translated) → SessionEntry → PrintedSession → Type 0
+IsRunOver budget translations x s = (t : Translated) × (slice_get translations x.model ≡ Some (Some t)) × IsRunOn t.problem budget x s
+
+-- the text is the output of runs of the sessions over these translations, in order
+abbrev pub AreRunsOver : ℕ → List SessionEntry → List (Option Translated) → List ℕ → Type 0
+AreRunsOver budget sessions translations text = (runs : List PrintedSession) × AllZip (IsRunOver budget translations) sessions runs × IsOutput runs text

@@ -1,14 +1,13 @@
 // What the program answers to what it read.
-ghost use Rattle.std.specs.Prelude.{◌≡◌, ◌≤◌, ◌<◌, ◌↔◌, length, All, IsTrue, IfOk};
-ghost use Rattle.session_words.specs.declared.commands.Command.TheVariants.{Step as ToStep};
-ghost use Rattle.session_words.specs.declared.steps.Step.TheVariants.{Next};
-ghost use Rattle.explorer_cli.specs.Outcome.{AskNextAlone, IsAnswerTo, IsAnswerToScript};
+ghost use Rattle.std.specs.Prelude.{◌≡◌, ◌≤◌, ◌<◌, length, All, IfOk};
+ghost use Rattle.script_format.specs.Limits.{IsAllowed, asked_in};
+ghost use Rattle.explorer_cli.specs.Outcome.{IsAnswerTo, IsAnswerToScript};
 
 use crate::models::{Models, read_models};
 use crate::sessions::text_of_sessions;
-use script_format::{Script, SessionEntry, read_script};
-use script_text::{fault_line, script_line};
-use session_words::{Command, Step};
+use script_format::laws::scripts_keep_to_limits;
+use script_format::{Script, read_script};
+use script_text::fault_line;
 use std::alloc::{AllocError, Global};
 
 /// A status, and the text that is written under it.
@@ -18,12 +17,14 @@ pub struct Answer {
     pub text: Vec<u8>,
 }
 
-/// The answer to the bytes of the input.
-pub fn answer_to(alloc: Global, bytes: &[u8]) -> Result<Answer, AllocError>
-    ensures { IfOk result (λ a. IsAnswerTo bytes.now a.status a.text.items) }
+/// The answer to the bytes of the input, where sessions begin with this budget, of at most 100,000.
+pub fn answer_to(alloc: Global, budget: u32, bytes: &[u8]) -> Result<Answer, AllocError>
+    requires { budget ≤ 100000 }
+    ensures { IfOk result (λ a. IsAnswerTo budget bytes.now a.status a.text.items) }
 {
+    scripts_keep_to_limits();
     match read_script(alloc, bytes) {
-        Ok(script) => Ok(answer_script(alloc, &script)?),
+        Ok(script) => Ok(answer_script(alloc, budget, &script)?),
         Err(fault) => Ok(Answer {
             status: 3,
             text: fault_line(alloc, fault)?,
@@ -32,49 +33,24 @@ pub fn answer_to(alloc: Global, bytes: &[u8]) -> Result<Answer, AllocError>
 }
 
 // The answer to a script.
-fn answer_script(alloc: Global, script: &Script) -> Result<Answer, AllocError>
+fn answer_script(alloc: Global, budget: u32, script: &Script) -> Result<Answer, AllocError>
+    requires budget { budget ≤ 100000 }
+    requires few { length script.now.sessions ≤ 64 }
     requires named { All (λ x. x.model < length script.now.models) script.now.sessions }
     requires small { All (λ m. length m.text ≤ 1048576) script.now.models }
-    ensures { IfOk result (λ a. IsAnswerToScript script.now a.status a.text.items) }
+    requires allowed { All (λ x. All IsAllowed x.commands) script.now.sessions }
+    requires asked { asked_in script.now.sessions ≤ 20000 }
+    ensures { IfOk result (λ a. IsAnswerToScript budget script.now a.status a.text.items) }
 {
     let sessions = script.sessions.entries();
-    if !ask_next_alone(sessions) {
-        return Ok(Answer {
-            status: 3,
-            text: script_line(alloc, b"not_yet")?,
-        });
-    }
     match read_models(alloc, script.models.entries(), sessions)? {
-        Models::Short(models) => Ok(Answer {
+        Models::Ready(models) => Ok(Answer {
             status: 0,
-            text: text_of_sessions(alloc, sessions, &models)?,
+            text: text_of_sessions(alloc, budget, sessions, &models)?,
         }),
         Models::Refused(line) => Ok(Answer {
             status: 4,
             text: line,
         }),
     }
-}
-
-// Whether each command of each session is `next`.
-fn ask_next_alone(sessions: &[SessionEntry]) -> bool
-    ensures { IsTrue result ↔ AskNextAlone sessions.now }
-{
-    sessions.iter().all(|session| asks_next_alone(session))
-}
-
-fn asks_next_alone(session: &SessionEntry) -> bool
-    ensures { IsTrue result ↔ All (λ c. c ≡ ToStep Next) session.now.commands }
-{
-    session
-        .commands
-        .commands()
-        .iter()
-        .all(|command| is_next(command))
-}
-
-fn is_next(command: &Command) -> bool
-    ensures { IsTrue result ↔ (command.now ≡ ToStep Next) }
-{
-    matches!(command, Command::Step(Step::Next))
 }

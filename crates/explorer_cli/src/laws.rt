@@ -1,67 +1,99 @@
 // Laws of the definitions: each is the contract of a function that does nothing.
-ghost use Rattle.std.specs.Prelude.{◌≡◌, ◌+◌, ℕ, List, [], length, take, slice_get, codes, Some};
-ghost use Rattle.rel_formula.specs.Bounds.{Bounded};
+ghost use Rattle.std.specs.Prelude.{◌≡◌, ◌≢◌, ◌↔◌, ℕ, List, AllPairs, Contains};
+ghost use Rattle.rel_formula.specs.Bounds.{Bounded, HasFewAtoms, HasDisjointTops};
 ghost use Rattle.rel_formula.specs.Instance.{IsMinimalAbove};
 ghost use Rattle.swap_symmetry.specs.Due.{IsDue};
-ghost use Rattle.session_rules.specs.declared.reply.Reply.{Reply};
-ghost use Rattle.session_rules.specs.declared.reply.Reply.TheVariants.{Shown, End};
+ghost use Rattle.swap_symmetry.specs.Order.{IsEarlier};
+ghost use Rattle.session_words.specs.declared.commands.Command.{Command as CommandData};
+ghost use Rattle.session_rules.specs.ProofOfEnd.{ProofOfEnd};
+ghost use Rattle.session_rules.specs.Proofs.{HasRenamingAmong};
+ghost use Rattle.session_rules.specs.declared.answers.Reply.{Reply};
+ghost use Rattle.session_rules.specs.declared.answers.Reply.TheVariants.{End, Offers, All as AllShown, Partly};
 ghost use Rattle.script_format.specs.declared.entries.Script.{Script as ScriptData};
-ghost use Rattle.script_format.specs.declared.entries.SessionEntry.{SessionEntry as SessionData};
 ghost use Rattle.script_format.specs.declared.fault.ScriptFault.{ScriptFault as ScriptFaultData};
 ghost use Rattle.script_format.specs.Script.{IsScript, HasFault};
 ghost use Rattle.script_text.specs.Faults.{script_line, fault_words};
-ghost use Rattle.script_text.specs.Replies.{PrintedSession};
-ghost use Rattle.short_models.specs.Problem.{Short, problem_of};
+ghost use Rattle.short_models.specs.Problem.{Short, IsShort, problem_of};
 ghost use Rattle.explorer_cli.specs.Models.{AreUsable, IsFirstRefused, model_line};
-ghost use Rattle.explorer_cli.specs.Outcome.{AskNextAlone, IsAnswerTo};
-ghost use Rattle.explorer_cli.specs.Runs.{AreRepliesOn, IsRunOf, AreRunsOf, scenarios_in, IsShownBefore, IsRenamingOfShown};
+ghost use Rattle.explorer_cli.specs.Outcome.{IsAnswerTo};
+ghost use Rattle.explorer_cli.specs.Runs.{AreRepliesOn, AreRunsOf, IsReplyAt, Shows, ShowsNew, EndsAt, OffersAt};
 
-/// The answer to bytes is one of four, each with its cause: bytes that are no script are answered under 3 with their fault; a
-/// script with another command than `next` under 3 with the line that says so; one that asks for `next` alone under 4 with its
-/// first model that can't be used, or, where all its models can be, under 0 with runs of its sessions on these.
+use session_rules::laws::{a_run_is_sound, an_all_lists_what_is_due};
+use short_models::laws::problems_are_symmetric;
+use swap_symmetry::laws::each_minimal_has_a_due_renaming_beside;
+
+/// The answer to bytes is one of three, each with its cause: bytes that are no script are answered under 3 with their fault; a
+/// script under 4 with its first model that can't be used, or, where all its models can be, under 0 with runs of its sessions
+/// on these.
 pub fn each_answer_has_its_cause()
-    ensures fault { (bytes : List ℕ) (f : ScriptFaultData) (status : ℕ) (text : List ℕ)
-        → HasFault bytes f → IsAnswerTo bytes status text → (status ≡ 3) × (text ≡ script_line (fault_words f)) }
-    ensures other { (bytes : List ℕ) (s : ScriptData) (status : ℕ) (text : List ℕ)
-        → IsScript bytes s → ¬ AskNextAlone s.sessions → IsAnswerTo bytes status text → (status ≡ 3) × (text ≡ script_line (codes "not_yet")) }
-    ensures model { (bytes : List ℕ) (s : ScriptData) (name words : List ℕ) (status : ℕ) (text : List ℕ)
-        → IsScript bytes s → AskNextAlone s.sessions → IsFirstRefused s.sessions s.models name words → IsAnswerTo bytes status text
-        → (status ≡ 4) × (text ≡ model_line name words) }
-    ensures run { (bytes : List ℕ) (s : ScriptData) (models : List Short) (status : ℕ) (text : List ℕ)
-        → IsScript bytes s → AskNextAlone s.sessions → AreUsable s.sessions 0 s.models models → IsAnswerTo bytes status text
-        → (status ≡ 0) × AreRunsOf s.sessions models text }
+    ensures fault { (budget : ℕ) (bytes : List ℕ) (f : ScriptFaultData) (status : ℕ) (text : List ℕ)
+        → HasFault bytes f → IsAnswerTo budget bytes status text → (status ≡ 3) × (text ≡ script_line (fault_words f)) }
+    ensures model { (budget : ℕ) (bytes : List ℕ) (s : ScriptData) (name words : List ℕ) (status : ℕ) (text : List ℕ)
+        → IsScript bytes s → IsFirstRefused s.sessions s.models name words → IsAnswerTo budget bytes status text → (status ≡ 4) × (text ≡ model_line name words) }
+    ensures run { (budget : ℕ) (bytes : List ℕ) (s : ScriptData) (models : List Short) (status : ℕ) (text : List ℕ)
+        → IsScript bytes s → AreUsable s.sessions 0 s.models models → IsAnswerTo budget bytes status text → (status ≡ 0) × AreRunsOf budget s.sessions models text }
 {}
 
-/// Each scenario that is shown is due, and its number is its place, from 1, among those that are shown.
+/// The problem of a short model has at most 64 atoms, each of one top-level signature alone.
+pub fn short_problems_are_small()
+    ensures few { (m : Short) → IsShort m → HasFewAtoms (problem_of m) }
+    ensures disjoint { (m : Short) → IsShort m → HasDisjointTops (problem_of m) }
+{}
+
+/// Each scenario that a reply shows is due at its floor: a minimal instance above it.
 pub fn shown_are_due()
-    ensures due { (p : Bounded) (replies : List Reply) → AreRepliesOn p replies
-        → (place number : ℕ) (scenario : List ℕ) → slice_get replies place ≡ Some (Shown number scenario) → IsDue p [] scenario }
-    ensures number { (p : Bounded) (replies : List Reply) → AreRepliesOn p replies
-        → (place number : ℕ) (scenario : List ℕ) → slice_get replies place ≡ Some (Shown number scenario)
-        → number ≡ length (scenarios_in (take place replies)) + 1 }
-{}
+    ensures { (p : Bounded) (budget : ℕ) (commands : List CommandData) (replies : List Reply) (floors : List (List ℕ)) → AreRepliesOn p budget commands replies floors
+        → (place : ℕ) (reply : Reply) (floor x : List ℕ) → IsReplyAt replies floors place reply floor → Shows reply x → IsDue p floor x }
+{
+    a_run_is_sound();
+}
 
-/// No scenario is shown twice.
+/// No scenario is shown as new twice at a floor: not by two replies, nor by one that shows several; and no list has one twice.
 pub fn none_is_shown_twice()
-    ensures { (p : Bounded) (replies : List Reply) → AreRepliesOn p replies
-        → (first second number other : ℕ) (scenario : List ℕ)
-        → slice_get replies first ≡ Some (Shown number scenario) → slice_get replies second ≡ Some (Shown other scenario)
-        → first ≡ second }
-{}
+    ensures apart { (p : Bounded) (budget : ℕ) (commands : List CommandData) (replies : List Reply) (floors : List (List ℕ)) → AreRepliesOn p budget commands replies floors
+        → (first second : ℕ) (reply other : Reply) (floor x : List ℕ) → IsReplyAt replies floors first reply floor → IsReplyAt replies floors second other floor
+        → ShowsNew reply x → ShowsNew other x → first ≡ second }
+    ensures partly { (p : Bounded) (budget : ℕ) (commands : List CommandData) (replies : List Reply) (floors : List (List ℕ)) → AreRepliesOn p budget commands replies floors
+        → (place number : ℕ) (scenarios : List (List ℕ)) (floor : List ℕ) → IsReplyAt replies floors place (Partly number scenarios) floor → AllPairs (λ x y. x ≢ y) scenarios }
+    ensures listed { (p : Bounded) (budget : ℕ) (commands : List CommandData) (replies : List Reply) (floors : List (List ℕ)) → AreRepliesOn p budget commands replies floors
+        → (place : ℕ) (scenarios : List (List ℕ)) (floor : List ℕ) → IsReplyAt replies floors place (AllShown scenarios) floor → AllPairs IsEarlier scenarios }
+{
+    a_run_is_sound();
+}
 
-/// At an end every scenario that is due was shown before, and the end's number is how many were shown.
-pub fn end_says_all()
-    ensures all { (p : Bounded) (replies : List Reply) → AreRepliesOn p replies
-        → (end number : ℕ) → slice_get replies end ≡ Some (End number)
-        → (scenario : List ℕ) → IsDue p [] scenario → IsShownBefore replies end scenario }
-    ensures number { (p : Bounded) (replies : List Reply) → AreRepliesOn p replies
-        → (end number : ℕ) → slice_get replies end ≡ Some (End number)
-        → number ≡ length (scenarios_in (take end replies)) }
-{}
+/// At an end all that is due at the floor was shown there, and the end's number is how many that were.
+pub fn an_end_shows_all()
+    ensures { (p : Bounded) (budget : ℕ) (commands : List CommandData) (replies : List Reply) (floors : List (List ℕ)) → AreRepliesOn p budget commands replies floors
+        → (place number : ℕ) (proof : ProofOfEnd) (floor : List ℕ) → IsReplyAt replies floors place (End number proof) floor → EndsAt p replies floors place floor number }
+{
+    a_run_is_sound();
+}
 
-/// Once a session on a short model was answered by an end, every minimal scenario is a renaming of one that was shown.
-pub fn nothing_is_left_after_an_end()
-    ensures { (x : SessionData) (m : Short) (s : PrintedSession) (run : IsRunOf x m s)
-        → (end number : ℕ) → slice_get run.replies end ≡ Some (End number)
-        → (scenario : List ℕ) → IsMinimalAbove (problem_of m) [] scenario → IsRenamingOfShown (problem_of m) run.replies end scenario }
-{}
+/// The list that ends a floor has what is due there, and nothing else.
+pub fn a_list_has_all()
+    ensures { (p : Bounded) (budget : ℕ) (commands : List CommandData) (replies : List Reply) (floors : List (List ℕ)) → AreRepliesOn p budget commands replies floors
+        → (place : ℕ) (scenarios : List (List ℕ)) (floor : List ℕ) → IsReplyAt replies floors place (AllShown scenarios) floor → (x : List ℕ) → Contains scenarios x ↔ IsDue p floor x }
+{
+    a_run_is_sound();
+    an_all_lists_what_is_due();
+}
+
+/// Offers are exactly the cells that some instance adds to the current scenario, which is the last one shown at the floor.
+pub fn offers_are_possible()
+    ensures { (p : Bounded) (budget : ℕ) (commands : List CommandData) (replies : List Reply) (floors : List (List ℕ)) → AreRepliesOn p budget commands replies floors
+        → (place : ℕ) (cells floor : List ℕ) → IsReplyAt replies floors place (Offers cells) floor → OffersAt p replies floors place floor cells }
+{
+    a_run_is_sound();
+}
+
+/// Once all that is due at a floor is among some scenarios, as at an end or in a list that ends the floor, each scenario that is
+/// minimal above the floor has a renaming among them that keeps the floor's atoms.
+pub fn nothing_is_left()
+    ensures { (m : Short) → IsShort m → (budget : ℕ) (commands : List CommandData) (replies : List Reply) (floors : List (List ℕ)) → AreRepliesOn (problem_of m) budget commands replies floors
+        → (place : ℕ) (reply : Reply) (floor : List ℕ) → IsReplyAt replies floors place reply floor → (shown : List (List ℕ)) → ((x : List ℕ) → IsDue (problem_of m) floor x → Contains shown x)
+        → (x : List ℕ) → IsMinimalAbove (problem_of m) floor x → HasRenamingAmong (problem_of m) floor shown x }
+{
+    a_run_is_sound();
+    problems_are_symmetric();
+    each_minimal_has_a_due_renaming_beside();
+}

@@ -7,8 +7,6 @@ pub mod laws;
 mod models;
 mod run_command;
 mod sessions;
-#[cfg(test)]
-mod tests;
 mod top_call;
 
 pub use crate::top_call::explore;

@@ -1,33 +1,39 @@
 // The models of a script.
-ghost use Rattle.std.specs.Prelude.{◌≡◌, ◌≤◌, ◌++◌, ◌∷◌, [], List, length, All, IfOk};
+ghost use Rattle.std.specs.Prelude.{◌≡◌, ◌≤◌, ◌++◌, ◌∷◌, ◌↔◌, [], List, length, All, IsTrue, MatchOption, IfOk};
 ghost use Rattle.script_format.specs.declared.entries.SessionEntry.{SessionEntry as SessionData};
-ghost use Rattle.explorer_cli.specs.Models.{AreFound, IsUsed, IsFound, no_command, model_line};
+ghost use Rattle.short_models.specs.Problem.{IsShort, short_of};
+ghost use Rattle.explorer_cli.specs.Models.{AreFound, IsUsed, IsUsedShort, HasOthers, HasFewTerms, HasManyTerms, IsTranslationOf, IsAsked, IsFound, no_command, model_line};
 
+use crate::laws::short_problems_are_small;
 use itoa::Buffer;
 use model_texts::{ModelText, read_model};
+use rel_terms::terms;
 use script_format::{ModelEntry, SessionEntry};
-use short_models::ShortModel;
+use short_models::{ShortModel, problem_of};
 use std::alloc::{AllocError, Global};
+use translation::Translation;
 
 /// What the models of a script are.
 #[derive(Drop)]
 pub enum Models {
-    /// Short models, in order, which have all the commands that sessions are on.
-    Short(Vec<ShortModel>),
-    /// One of them is no such model: the line that refuses the first of these.
+    /// Short models, in order, which have all the commands that sessions are on: of each its translation, where sessions are
+    /// on it.
+    Ready(Vec<Option<Translation>>),
+    /// One of them can't be used: the line that refuses the first of these.
     Refused(Vec<u8>),
 }
 
 /// What one model is to the sessions of a script.
 #[derive(Drop)]
 pub enum UsedModel {
-    /// A short model, which has all the commands that sessions are on.
-    Short(ShortModel),
-    /// No such model: what stands behind its name in the line that refuses it.
+    /// A short model, which has all the commands that sessions are on: its translation, where sessions are on it.
+    Ready(Option<Translation>),
+    /// One that can't be used: what stands behind its name in the line that refuses it.
     Refused(Vec<u8>),
 }
 
-/// Reads the models of a script, whose texts have at most 1,048,576 bytes, in order, used or not.
+/// Reads the models of a script, whose texts have at most 1,048,576 bytes, in order, used or not, and translates those that
+/// are used.
 pub fn read_models(
     alloc: Global,
     entries: &[ModelEntry],
@@ -39,14 +45,14 @@ pub fn read_models(
     let mut models = Vec::new(alloc);
     for (place, entry) in entries.iter().enumerate() {
         match read_used(alloc, entry.text.text(), place, sessions)? {
-            UsedModel::Short(model) => models.push(model)?,
+            UsedModel::Ready(model) => models.push(model)?,
             UsedModel::Refused(words) => {
                 let line = model_line(alloc, entry.name.text(), &words)?;
                 return Ok(Models::Refused(line));
             }
         }
     }
-    Ok(Models::Short(models))
+    Ok(Models::Ready(models))
 }
 
 // Reads the text of the model at this place.
@@ -60,13 +66,70 @@ fn read_used(
     ensures { IfOk result (IsUsed sessions.now place text.now) }
 {
     match read_model(alloc, text)? {
-        ModelText::Short(model) => match other_command(place, sessions) {
-            None => Ok(UsedModel::Short(model)),
-            Some(number) => Ok(UsedModel::Refused(no_command(alloc, number)?)),
-        },
+        ModelText::Short(model) => Ok(use_short(alloc, &model, place, sessions)?),
         ModelText::Other => Ok(UsedModel::Refused(Vec::from_slice(alloc, b"not_yet")?)),
         ModelText::Faulty(words) => Ok(UsedModel::Refused(words)),
     }
+}
+
+// What the short model at this place is to the sessions.
+fn use_short(
+    alloc: Global,
+    model: &ShortModel,
+    place: usize,
+    sessions: &[SessionEntry],
+) -> Result<UsedModel, AllocError>
+    requires { IsShort (short_of model.now) }
+    ensures { IfOk result (IsUsedShort sessions.now place (short_of model.now)) }
+{
+    if !is_asked(place, sessions) {
+        return Ok(with_others(alloc, place, sessions, None)?);
+    }
+    match translated(alloc, model)? {
+        Some(translation) => Ok(with_others(alloc, place, sessions, Some(translation))?),
+        None => Ok(UsedModel::Refused(Vec::from_slice(alloc, b"command 1 too_many_terms")?)),
+    }
+}
+
+// The translation of a short model's problem, if that has at most 262,144 terms.
+fn translated(alloc: Global, model: &ShortModel) -> Result<Option<Translation>, AllocError>
+    requires { IsShort (short_of model.now) }
+    ensures { IfOk result (λ answer. MatchOption answer (HasManyTerms (short_of model.now)) (λ t. HasFewTerms (short_of model.now) × IsTranslationOf (short_of model.now) t)) }
+{
+    short_problems_are_small();
+    let problem = problem_of(alloc, model)?;
+    match terms(alloc, &problem)? {
+        Some(_) => Ok(Some(Translation::build(alloc, problem)?)),
+        None => Ok(None),
+    }
+}
+
+// What a short model is whose first command can be served: this translation, where sessions are on no other command.
+fn with_others(
+    alloc: Global,
+    place: usize,
+    sessions: &[SessionEntry],
+    translation: Option<Translation>,
+) -> Result<UsedModel, AllocError>
+    ensures { IfOk result (HasOthers sessions.now place translation) }
+{
+    match other_command(place, sessions) {
+        None => Ok(UsedModel::Ready(translation)),
+        Some(number) => Ok(UsedModel::Refused(no_command(alloc, number)?)),
+    }
+}
+
+// Whether a session is on the first command of the model at this place.
+fn is_asked(place: usize, sessions: &[SessionEntry]) -> bool
+    ensures { IsTrue result ↔ IsAsked sessions.now place 1 }
+{
+    sessions.iter().any(|session| is_on_first(session, place))
+}
+
+fn is_on_first(session: &SessionEntry, place: usize) -> bool
+    ensures { IsTrue result ↔ ((session.now.model ≡ place) × (session.now.number ≡ 1)) }
+{
+    session.model as usize == place && session.number == 1
 }
 
 // Of the commands of the model at this place on which sessions are, the first one but for that which a short model has.

@@ -1,68 +1,71 @@
 // The sessions of a script.
-ghost use Rattle.std.specs.Prelude.{◌≡◌, ◌<◌, map, length, All, IfOk};
-ghost use Rattle.session_rules.specs.Machine.{MachineRun};
-ghost use Rattle.script_text.specs.Printed.{printed_next};
-ghost use Rattle.script_text.specs.Replies.{FitsProblem, PrintedSession, IsSessionText};
-ghost use Rattle.short_models.specs.Problem.{IsShort, short_of};
-ghost use Rattle.explorer_cli.specs.Runs.{to_next, IsRunOf, AreRunsOf};
-ghost use Rattle.explorer_cli.specs.Outcome.{AskNextAlone};
+ghost use Rattle.std.specs.Prelude.{◌≡◌, ◌≤◌, ◌<◌, List, length, slice_get, Some as Is, All, IfOk};
+ghost use Rattle.script_format.specs.Limits.{IsAllowed, asked_by};
+ghost use Rattle.script_text.specs.Replies.{PrintedSession, IsSessionText};
+ghost use Rattle.explorer_cli.specs.Models.{IsTranslated};
+ghost use Rattle.explorer_cli.specs.Runs.{IsRunOn, AreRunsOver};
 
+use explorer_run::serve;
+use refutation_check::Log;
 use script_format::SessionEntry;
-use script_text::text_of_replies;
-use session_rules::Reply;
-use session_state::Session;
-use session_words::Command;
-use short_models::{ShortModel, problem_of};
+use script_text::laws::texts_go_on;
+use script_text::session_text;
 use std::alloc::{AllocError, Global};
+use translation::Translation;
 
-/// The budget of a session that is given none.
-const DEFAULT_BUDGET: u32 = 20_000;
-
-/// The texts of sessions that ask for `next` alone, one after the other, each on the model of its place.
+/// The texts of at most 64 sessions, one after the other, each served from the start with this budget over the translation of
+/// the model of its place. The budgets are at most 100,000, and each session asks for at most 20,000 scenarios.
 pub fn text_of_sessions(
     alloc: Global,
+    budget: u32,
     sessions: &[SessionEntry],
-    models: &[ShortModel],
+    models: &[Option<Translation>],
 ) -> Result<Vec<u8>, AllocError>
-    requires short { All (λ m. IsShort (short_of m)) models.now }
-    requires named { All (λ x. x.model < length models.now) sessions.now }
-    requires next { AskNextAlone sessions.now }
-    ensures { IfOk result (λ text. AreRunsOf sessions.now (map short_of models.now) text.items) }
+    requires few { length sessions.now ≤ 64 }
+    requires budget { budget ≤ 100000 }
+    requires translated { All (IsTranslated models.now) sessions.now }
+    requires allowed { All (λ x. All IsAllowed x.commands) sessions.now }
+    requires asked { All (λ x. asked_by x.commands ≤ 20000) sessions.now }
+    ensures { IfOk result (λ text. AreRunsOver budget sessions.now models.now text.items) }
 {
+    texts_go_on();
     let mut text = Vec::new(alloc);
-    for session in sessions {
-        let lines = run(alloc, session, &models[session.model as usize])?;
+    for (place, session) in sessions.iter().enumerate() {
+        let translation = translation_of(models, session);
+        let lines = run(alloc, place as u32 + 1, budget, session, translation)?;
         text.extend_from_slice(&lines)?;
     }
     Ok(text)
 }
 
-// The text of a session on the problem of a short model.
-fn run(alloc: Global, session: &SessionEntry, model: &ShortModel) -> Result<Vec<u8>, AllocError>
-    requires { IsShort (short_of model.now) }
-    ensures { IfOk result (λ text. (s : PrintedSession) × IsRunOf session.now (short_of model.now) s × IsSessionText s.problem s.name s.replies text.items) }
+// The translation of a session's model.
+fn translation_of<'a>(models: &'a [Option<Translation>], session: &SessionEntry) -> &'a Translation
+    requires { IsTranslated models.now session.now }
+    ensures { slice_get models.now session.now.model ≡ Is (Is result.now) }
 {
-    let problem = problem_of(alloc, model)?;
-    let mut state = Session::new(alloc, problem, DEFAULT_BUDGET)?;
-    let answered = replies(alloc, &mut state, session.commands.commands())?;
-    Ok(text_of_replies(alloc, session.name.text(), state.problem(), &answered)?)
+    match &models[session.model as usize] {
+        Some(translation) => translation,
+        None => unreachable!(),
+    }
 }
 
-// The replies of a session to commands each of which is `next`.
-fn replies(
+// The text of a session that is served, under this number, over the translation of its problem, with nothing imported.
+fn run(
     alloc: Global,
-    session: &mut Session,
-    commands: &[Command],
-) -> Result<Vec<Reply>, AllocError>
-    ensures count { IfOk result (λ replies. length replies.items ≡ length commands.now) }
-    ensures run { IfOk result (λ replies. MachineRun session.old.problem session.old.state (map to_next replies.items) session.new.state) }
-    ensures fit { IfOk result (λ replies. All (λ r. FitsProblem session.old.problem (printed_next r)) replies.items) }
-    ensures problem { session.new.problem ≡ session.old.problem }
+    owner: u32,
+    budget: u32,
+    session: &SessionEntry,
+    translation: &Translation,
+) -> Result<Vec<u8>, AllocError>
+    requires budget { budget ≤ 100000 }
+    requires allowed { All IsAllowed session.now.commands }
+    requires asked { asked_by session.now.commands ≤ 20000 }
+    ensures { IfOk result (λ text. (s : PrintedSession) × IsRunOn translation.now.problem budget session.now s × IsSessionText s.problem s.name s.replies text.items) }
 {
-    let mut given = Vec::new(alloc);
-    for _command in commands {
-        let reply = session.next(alloc);
-        given.push(reply)?;
-    }
-    Ok(given)
+    let _ = translation.problem();
+    let pool = Log::new(alloc);
+    let commands = session.commands.commands();
+    let key = session.model;
+    let transcript = serve(alloc, owner, key, budget, translation, &pool, commands)?;
+    Ok(session_text(alloc, session.name.text(), translation, &transcript)?)
 }

@@ -39,18 +39,18 @@ pub fn explore<S: Source, K: Sink>(
     ensures no_memory { result ≡ 7 → sink.new ≡ sink.old }
 
     // `run` reads all that the source had, and of more than a script may have just one byte beyond that. What is written
-    // is the answer to it, and under 6 a part of that.
-    ensures read { S.tells source.old → SaysRun (texts words.now) → ((result ≡ 5) ⊎ (result ≡ 7)) ⊎ (S.left source.new ≡ drop 1048577 (S.left source.old)) }
-    ensures answer { S.tells source.old → K.tells sink.old → SaysRun (texts words.now)
-        → HasFailed result ⊎ Wrote (S.left source.old) result (K.written sink.old) (K.written sink.new) }
-    ensures part { S.tells source.old → K.tells sink.old → SaysRun (texts words.now) → result ≡ 6 → IsPartOfAnswer (S.left source.old) (K.written sink.old) (K.written sink.new) }
+    // is the answer to it, where sessions begin with the budget of the words, and under 6 a part of that.
+    ensures read { S.tells source.old → (budget : ℕ) → SaysRun (texts words.now) budget → ((result ≡ 5) ⊎ (result ≡ 7)) ⊎ (S.left source.new ≡ drop 1048577 (S.left source.old)) }
+    ensures answer { S.tells source.old → K.tells sink.old → (budget : ℕ) → SaysRun (texts words.now) budget
+        → HasFailed result ⊎ Wrote budget (S.left source.old) result (K.written sink.old) (K.written sink.new) }
+    ensures part { S.tells source.old → K.tells sink.old → (budget : ℕ) → SaysRun (texts words.now) budget → result ≡ 6 → IsPartOfAnswer budget (S.left source.old) (K.written sink.old) (K.written sink.new) }
 
     // Also where the sink doesn't tell its bytes, the status is that of this answer; and where the source doesn't tell its
     // bytes, it is the answer to some bytes.
-    ensures told { S.tells source.old → SaysRun (texts words.now) → HasFailed result ⊎ IsStatusOf (S.left source.old) result }
-    ensures untold { K.tells sink.old → SaysRun (texts words.now)
-        → HasFailed result ⊎ ((bytes : List ℕ) × Wrote bytes result (K.written sink.old) (K.written sink.new)) }
-    ensures untold_part { K.tells sink.old → SaysRun (texts words.now) → result ≡ 6 → (bytes : List ℕ) × IsPartOfAnswer bytes (K.written sink.old) (K.written sink.new) }
+    ensures told { S.tells source.old → (budget : ℕ) → SaysRun (texts words.now) budget → HasFailed result ⊎ IsStatusOf budget (S.left source.old) result }
+    ensures untold { K.tells sink.old → (budget : ℕ) → SaysRun (texts words.now) budget
+        → HasFailed result ⊎ ((bytes : List ℕ) × Wrote budget bytes result (K.written sink.old) (K.written sink.new)) }
+    ensures untold_part { K.tells sink.old → (budget : ℕ) → SaysRun (texts words.now) budget → result ≡ 6 → (bytes : List ℕ) × IsPartOfAnswer budget bytes (K.written sink.old) (K.written sink.new) }
 
     // `check` does the same with a proof text.
     ensures check_read { S.tells source.old → Says (texts words.now) Check → ((result ≡ 5) ⊎ (result ≡ 7)) ⊎ (S.left source.new ≡ drop 268435457 (S.left source.old)) }
@@ -64,7 +64,7 @@ pub fn explore<S: Source, K: Sink>(
 {
     match command_of(words) {
         None => finish(sink, 2, b"fault words\n"),
-        Some(Command::Run { .. }) => run_script(alloc, source, sink),
+        Some(Command::Run { budget, .. }) => run_script(alloc, budget, source, sink),
         Some(Command::Check) => check_proof(alloc, source, sink),
     }
 }

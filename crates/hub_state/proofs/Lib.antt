@@ -1,3 +1,4 @@
+pub mod Crosses
 mod Journals
 mod Growing
 mod Sharing

@@ -251,6 +251,18 @@ fn a_pool_takes_20_000_steps(rt: HostRuntime) -> Result<(), Fail> {
     Ok(())
 }
 
+/// Takes what may go to another thread.
+fn crossing<T: Send>(value: T) -> T {
+    value
+}
+
+#[test]
+fn a_hub_may_go_to_another_thread(rt: HostRuntime) -> Result<(), Fail> {
+    let hub = crossing(hub_of_one(rt.alloc())?);
+    assert!(rt; hub.journal().is_empty());
+    Ok(())
+}
+
 #[test]
 fn a_turn_lock_keeps_the_hub(rt: HostRuntime) -> Result<(), Fail> {
     let alloc = rt.alloc();

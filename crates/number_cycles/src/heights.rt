@@ -51,7 +51,7 @@ fn at_most(row: &[usize], heights: &[usize], most: usize) -> bool
     true
 }
 
-// The height of a number; of one that has no row 0.
+// The height of a number, and 0 for one that has no row.
 fn height(heights: &[usize], number: usize) -> usize
     ensures { result ≡ height_of heights.now number }
 {

@@ -9,8 +9,6 @@ mod marks;
 mod part;
 mod proof_text;
 mod refutation;
-#[cfg(test)]
-mod tests;
 
 pub use laws::{
     bytes_say_one_proof, chains_are_renumbered, free_steps_are_accepted,

@@ -7,8 +7,6 @@ mod formula;
 mod gates;
 mod leaves;
 mod tables;
-#[cfg(test)]
-mod tests;
 mod translate;
 
 pub use crate::translate::{ProblemCircuit, circuit_of};

@@ -17,7 +17,8 @@ use Rattle.assignment_trail.specs.Trail.{IsTrail, ForcesMore, falses_of, level_o
 use Rattle.assignment_trail.proofs.Trails.{each_push, each_cut, falses_of-push, level_before, level_of_take, placed_level, from_falses, false_from, from_front, vars_differ}
 use Rattle.sat_trail.specs.Closed.{IsClosed}
 use Rattle.sat_core.specs.Assuming.{AreTrue, IsAssumedFirst, IsClash}
-use Rattle.sat_core.proofs.Descents.{contains_or_not, forced_within}
+use Rattle.sat_trail.proofs.Waiting.{contains_or_not}
+use Rattle.sat_core.proofs.Descents.{forced_within}
 
 -- what is so of each decision and the literals before it
 abbrev pub EachDecision : (List Assigned → Assigned → Type 0) → List Assigned → Type 0

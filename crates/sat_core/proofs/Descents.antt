@@ -1,43 +1,27 @@
 -- What a descent comes to.
 use Rattle.std.proofs.Common.{◌≡◌, ◌<◌, ◌≤◌, ◌+◌, ◌-◌, ◌++◌, [], ◌∷◌, ◌⊎◌, ℕ, zero, suc, Bool, true, false, not, cond, Option, Some, None, List, length, get_or, take, All, arith, sym, ◌∙◌, ap, inl, inr, refl, subst, length-append}
 use Rattle.std.proofs.lemmas.Bool.{cases_lt, cases_eq, cases_Bool}
-use Rattle.std.proofs.lemmas.List.{get_or_default, take_all, get_or_append_left, map-append}
+use Rattle.std.proofs.lemmas.List.{get_or_default, take_all, get_or_append_left}
 use Rattle.std.proofs.Math.Seq.{get_or-append_seam}
-use Rattle.std.proofs.lemmas.List.Elements.{Contains-append_left, Contains-get_or, Contains-push, Contains-push_cases}
+use Rattle.std.proofs.lemmas.List.Elements.{Contains-get_or, Contains-push_cases}
 use Rattle.std.specs.List.{Contains}
-use Rattle.std.specs.Option.{is_some, unwrap_or}
+use Rattle.std.specs.Option.{unwrap_or}
 use Rattle.cnf_core.specs.declared.literal.Lit.{Lit}
 use Rattle.cnf_core.specs.Literal.{negation_of, IsClause, HasVarsUpTo}
 use Rattle.cnf_core.specs.Valuation.{literal_value, clause_value, value_of}
 use Rattle.refutation_check.specs.Chain.{IsFalsified, IsUnit, Refutes, Forces, Reaches, IsChain}
-use Rattle.refutation_check.specs.Assumed.{IsOpen}
 use Rattle.refutation_check.proofs.Chains.{names_all, names_one}
 use Rattle.refutation_check.proofs.Entailment.{lit_equal_or_not, false_clause}
 use Rattle.refutation_check.proofs.Sights.{lit_equal}
 use Rattle.assignment_trail.specs.declared.assigned.Assigned.{Assigned}
-use Rattle.assignment_trail.specs.Trail.{IsTrail, ForcesMore, falses_of, level_of}
+use Rattle.assignment_trail.specs.Trail.{IsTrail, falses_of, level_of}
 use Rattle.sat_trail.specs.Trailed.{IsValue}
 use Rattle.sat_trail.specs.Closed.{IsClosed}
 use Rattle.sat_trail.specs.Learnt.{IsFlat, IsAbove}
-use Rattle.assignment_trail.proofs.Trails.{falses_of-push, level_before, from_front, vars_differ}
+use Rattle.sat_trail.proofs.Waiting.{contains_or_not}
+use Rattle.assignment_trail.proofs.Trails.{level_before, from_front, vars_differ}
 use Rattle.sat_core.specs.Answers.{IsModel}
-use Rattle.sat_core.specs.Search.{HasAllValues, AreValues}
-
-not_cons : (y : Lit) (ys : List Lit) (x : Lit) → (y ≡ x → ⊥) → (Contains ys x → ⊥) → Contains (y ∷ ys) x → ⊥
-not_cons y ys x first rest (zero, h, e) = first e
-not_cons y ys x first rest (suc k, h, e) = rest (k, omega arith, e)
-
--- a literal stands in a list or not
-pub contains_or_not : (xs : List Lit) (x : Lit) → Contains xs x ⊎ (Contains xs x → ⊥)
-contains_or_not [] x = inr (λ c. absurd (omega (arith, c.1)))
-contains_or_not (y ∷ ys) x =
-    elim (lit_equal_or_not y x) [
-      | inl e ↦ inl (0, omega arith, e)
-      | inr first ↦ elim (contains_or_not ys x) [
-        | inl c ↦ inl (suc c.0, omega (arith, c.1), c.2)
-        | inr rest ↦ inr (λ c. not_cons y ys x first rest c)
-      ]
-    ]
+use Rattle.sat_core.specs.Search.{AreValues}
 
 module _ (clauses : List (List Lit)) (falses : List Lit) (closed : IsClosed clauses falses) where
   -- what fewer false literals force is true already
@@ -139,42 +123,7 @@ module _ (clauses : List (List Lit)) (xs : List Assigned) where
               ap (λ (i : ℕ). (get_or xs i d).level) (sym is) ∙ r.3 d)
         ]
 
--- what the value of a variable says
-pub valued : (falses : List Lit) (var : ℕ) (o : Option Bool) (none : Bool) → IsValue falses var o → is_some o ≡ not none → none ≡ false → (value : Bool) × Contains falses (record { var = var; positive = not value })
-valued falses var None none is some unset = let e : false ≡ true = some ∙ ap not unset in cc
-valued falses var (Some value) none is some unset = (value, is)
-
-pub unvalued : (falses : List Lit) (var : ℕ) (o : Option Bool) (none : Bool) → IsValue falses var o → is_some o ≡ not none → none ≡ true → IsOpen falses (record { var = var; positive = false })
-unvalued falses var None none is some yes' = (is false, is true)
-unvalued falses var (Some value) none is some yes' = let e : true ≡ false = some ∙ ap not yes' in cc
-
--- one more variable has a value
-pub all_values_more : (vars : ℕ) (falses : List Lit) → HasAllValues vars falses → (value : Bool) × Contains falses (record { var = vars + 1; positive = not value }) → HasAllValues (vars + 1) falses
-all_values_more vars falses was here var low high =
-    elim (cases_lt var (vars + 1)) [
-      | inl lt ↦ was var low (omega arith)
-      | inr ge ↦
-          let is : vars + 1 ≡ var = omega arith in
-          subst (λ (n : ℕ). (value : Bool) × Contains falses (record { var = n; positive = not value })) is here
-    ]
-
--- what has a value keeps it where more literals are true
-values_append : (vars : ℕ) (xs ys : List Assigned) → HasAllValues vars (falses_of xs) → HasAllValues vars (falses_of (xs ++ ys))
-values_append vars xs ys was var low high =
-    let r = was var low high in
-    let l : Lit = record { var = var; positive = not r.0 } in
-    (r.0, subst (λ (fs : List Lit). Contains fs l) (sym (map-append (λ (a : Assigned). negation_of a.lit) xs ys)) (Contains-append_left (falses_of xs) (falses_of ys) l r.1))
-
-pub values_forced : (vars : ℕ) (old new : List Assigned) → ForcesMore old new → HasAllValues vars (falses_of old) → HasAllValues vars (falses_of new)
-values_forced vars old new more was = subst (λ (xs : List Assigned). HasAllValues vars (falses_of xs)) (sym more.added) (values_append vars old more.more was)
-
-pub values_decided : (var : ℕ) (xs : List Assigned) (a : Assigned) → 1 ≤ var → a.lit ≡ record { var = var; positive = false } → HasAllValues (var - 1) (falses_of xs) → HasAllValues var (falses_of (xs ++ a ∷ []))
-values_decided var xs a low is was =
-    let back : (var - 1) + 1 ≡ var = omega arith in
-    let last : Contains (falses_of (xs ++ a ∷ [])) (negation_of a.lit) = subst (λ (fs : List Lit). Contains fs (negation_of a.lit)) (sym (falses_of-push xs a)) (Contains-push (falses_of xs) (negation_of a.lit)) in
-    let here : Contains (falses_of (xs ++ a ∷ [])) (record { var = (var - 1) + 1; positive = true }) = subst (λ (n : ℕ). Contains (falses_of (xs ++ a ∷ [])) (record { var = n; positive = true })) (sym back) (subst (λ (l : Lit). Contains (falses_of (xs ++ a ∷ [])) (negation_of l)) is last) in
-    subst (λ (n : ℕ). HasAllValues n (falses_of (xs ++ a ∷ []))) back (all_values_more (var - 1) (falses_of (xs ++ a ∷ [])) (values_append (var - 1) xs (a ∷ []) was) (false, here))
-
+-- a value makes its literal false
 pub value_false : (falses : List Lit) (var : ℕ) (o : Option Bool) → IsValue falses var o → (value : Bool) × Contains falses (record { var = var; positive = not value }) → Contains falses (record { var = var; positive = not (unwrap_or o false) })
 value_false falses var None is (value, there) = absurd (is (not value) there)
 value_false falses var (Some value) is has = is

@@ -3,16 +3,17 @@ use Rattle.std.proofs.Common.{◌≡◌, ◌<◌, ◌≤◌, ◌+◌, ◌-◌, �
 use Rattle.std.proofs.lemmas.Bool.{cases_lt}
 use Rattle.std.proofs.lemmas.Option.{slice_get-get_or, slice_get_cases}
 use Rattle.std.proofs.lemmas.List.{take_more, get_or_append_left, get_or_push}
-use Rattle.std.proofs.lemmas.List.Elements.{All-nil, All-cons, All-push, All-more, All-weaker, Contains-append_left, Contains-push, Contains-push_cases}
+use Rattle.std.proofs.lemmas.List.Elements.{All-push, All-more, All-weaker, Contains-append_left, Contains-push, Contains-push_cases}
 use Rattle.std.specs.Prelude.{max, if◌then◌else◌}
 use Rattle.std.specs.List.{Contains, slice_get}
 use Rattle.std.specs.Option.{option_map_or}
 use Rattle.cnf_core.specs.declared.literal.Lit.{Lit}
-use Rattle.cnf_core.specs.Literal.{negation_of, IsVariable}
+use Rattle.cnf_core.specs.Literal.{IsVariable}
 use Rattle.refutation_check.specs.declared.log.Step.{Step}
-use Rattle.refutation_check.specs.Chain.{Names, Reaches, IsChain, members_of}
+use Rattle.refutation_check.specs.Chain.{Names, IsChain, members_of}
 use Rattle.refutation_check.proofs.Chains.{names_one}
 use Rattle.sat_trail.proofs.Learned.{named_in}
+use Rattle.sat_trail.proofs.Waiting.{chain_named}
 use Rattle.sat_core.specs.Answers.{NamesUnit}
 use Rattle.sat_core.specs.Assuming.{IsSplit, number_of}
 
@@ -31,15 +32,8 @@ names_more members more n c named =
     (named.0, get_before members more (n - 1) (omega (arith, named.0)) ∙ named.1)
 
 -- a hint of a chain names a member
-reaches_within : (members : List (List Lit)) (falses : List Lit) (hints : List ℕ) (after : List Lit) → Reaches members falses hints after → All (λ hint. hint ≤ length members) hints
-reaches_within members falses [] after same = All-nil (λ hint. hint ≤ length members)
-reaches_within members falses (hint ∷ hints) after (l, forced, rest) =
-    All-cons (λ hint. hint ≤ length members) hint hints (named_in members hint forced.clause forced.named) (reaches_within members (falses ++ negation_of l ∷ []) hints after rest)
-
 pub chain_within : (members : List (List Lit)) (clause : List Lit) (hints : List ℕ) → IsChain members clause hints → All (λ hint. hint ≤ length members) hints
-chain_within members clause hints chain =
-    subst (All (λ hint. hint ≤ length members)) (sym chain.in_order)
-    (All-push (λ hint. hint ≤ length members) chain.before chain.last (reaches_within members clause chain.before chain.after chain.reached) (named_in members chain.last chain.refuted.clause chain.refuted.named))
+chain_within members clause hints chain = All-weaker (λ hint. (1 ≤ hint) × (hint ≤ length members)) (λ hint. hint ≤ length members) (λ hint both. both.1) hints (chain_named members clause hints chain)
 
 -- the place of each of the others is one among the local clauses
 pub places_within : (local : List (List Lit)) (assumed : List Lit) (others : List (List Lit)) (places : List ℕ) → IsSplit local assumed others places → All (λ place. place ≤ length local) places

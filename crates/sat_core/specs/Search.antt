@@ -4,19 +4,15 @@ use Rattle.cnf_core.specs.declared.literal.Lit.{Lit}
 use Rattle.cnf_core.specs.Literal.{HasVarsUpTo, IsClause}
 use Rattle.refutation_check.specs.declared.log.Step.{Step}
 use Rattle.refutation_check.specs.Chain.{members_of, IsAccepted, IsChain, IsNovel, Refutes}
-use Rattle.refutation_check.specs.Assumed.{IsOpen}
 use Rattle.refutation_check.specs.SearchLog.{IsVarOf, HasVarsOf, HasNoEmpty, IsAllNovel}
 use Rattle.assignment_trail.specs.Trail.{IsTrail, falses_of}
 use Rattle.sat_trail.specs.Trailed.{Trailed}
 use Rattle.sat_trail.specs.Closed.{IsClosed, IsClosedBelow}
+use Rattle.sat_trail.specs.Deciding.{HasAllValues}
 use Rattle.sat_core.specs.Answers.{NamesNoUnits}
 use Rattle.sat_core.specs.Assuming.{AreTrue, IsAssumedFirst, IsClash}
 use Rattle.sat_core.specs.declared.descent.DeadEnd.{DeadEnd}
 use Rattle.sat_core.specs.declared.descent.DeadEnd.TheVariants.{Conflict, Clash}
-
--- each variable from 1 to this one has a value
-abbrev pub HasAllValues : ℕ → List Lit → Type 0
-HasAllValues vars falses = (var : ℕ) → 1 ≤ var → var ≤ vars → (value : Bool) × Contains falses (record { var = var; positive = not value })
 
 -- the variable is one of the trail
 abbrev pub IsVarIn : ℕ → Lit → Type 0
@@ -62,13 +58,6 @@ pub record IsAssumedTo (assumed : List Lit) (place depth : ℕ) (trail : Trailed
   pub closed_below : IsClosedBelow trail.clauses trail.assigned
   pub first : IsAssumedFirst assumed depth trail.assigned
   pub so_far : AreTrue (falses_of trail.assigned) (take place assumed)
-
--- the lowest variable that has no value, from 1 to the last one
-pub record IsOpenVar (trail : Trailed) (var : ℕ) : Type 0 where
-  pub from_one : 1 ≤ var
-  pub in_range : var ≤ trail.vars
-  pub is_open : IsOpen (falses_of trail.assigned) (record { var = var; positive = false })
-  pub lower : HasAllValues (var - 1) (falses_of trail.assigned)
 
 -- the literal that each value makes false is false
 abbrev pub AreValues : List Lit → List Bool → Type 0

@@ -1,8 +1,8 @@
-ghost use Rattle.std.specs.Prelude.{◌≡◌, ◌≤◌, ◌+◌, ◌<◌, All, MatchBool, MatchOption, IfOk, length};
+ghost use Rattle.std.specs.Prelude.{◌≡◌, ◌+◌, ◌<◌, All, MatchBool, MatchOption, IfOk, length};
 ghost use Rattle.assignment_trail.specs.Trail.{IsTrail, falses_of};
 ghost use Rattle.sat_trail.specs.Closed.{IsClosedBelow};
 ghost use Rattle.sat_core.specs.Assuming.{AreTrue, IsAssumedFirst, IsClash};
-ghost use Rattle.sat_core.specs.Search.{AreValues, HasAllValues, IsDeadEnd, IsAssumedTo, IsFull, IsOpenVar, IsVarIn};
+ghost use Rattle.sat_core.specs.Search.{AreValues, IsDeadEnd, IsAssumedTo, IsFull, IsVarIn};
 
 use cnf_core::{Lit, NoMemory, Valuation};
 use sat_trail::{Propagated, Trail};
@@ -15,21 +15,6 @@ pub(crate) enum DeadEnd {
     Conflict(u32),
     /// The clauses can't hold with what is assumed.
     Clash,
-}
-
-/// The lowest open variable, where those up to this one have values.
-fn lowest_open(trail: &Trail, first: u32) -> Option<u32>
-    requires { HasAllValues first (falses_of trail.now.assigned) }
-    ensures lowest { MatchOption result (HasAllValues trail.now.vars (falses_of trail.now.assigned)) (IsOpenVar trail.now) }
-    ensures few { length trail.now.assigned ≤ trail.now.vars + 1 }
-{
-    let _level = trail.level();
-    for var in first..trail.vars() {
-        if trail.value(var + 1).is_none() {
-            return Some(var + 1);
-        }
-    }
-    None
 }
 
 /// Decides the assumed literal at this place where it is open, and propagates. True where it can't hold with the others.
@@ -99,22 +84,12 @@ pub(crate) fn descend(trail: &mut Trail, assumed: &[Lit], depth: &mut u32) -> Op
         return Some(end);
     }
     *depth = (*depth).min(trail.level());
-    let mut first = 0;
-    'deciding: loop {
-        match lowest_open(trail, first) {
-            None => return None,
-            Some(var) => {
-                trail.decide(Lit {
-                    var,
-                    positive: false,
-                });
-                first = var;
-                if let Propagated::Conflict(number) = trail.propagate() {
-                    return Some(DeadEnd::Conflict(number));
-                }
-            }
+    'deciding: while let Some(_var) = trail.decide_next() {
+        if let Propagated::Conflict(number) = trail.propagate() {
+            return Some(DeadEnd::Conflict(number));
         }
     }
+    None
 }
 
 /// The values of the variables of a full trail.

@@ -4,7 +4,5 @@
 mod descent;
 mod locals;
 mod search;
-#[cfg(test)]
-mod tests;
 
 pub use search::{Answer, solve};

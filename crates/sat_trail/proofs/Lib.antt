@@ -6,4 +6,5 @@ pub mod Limits
 pub mod Readiness
 pub mod Settled
 pub mod Trails
+pub mod Waiting
 pub mod Watches

@@ -1,5 +1,6 @@
 pub mod Trailed
 pub mod Closed
+pub mod Deciding
 pub mod Filling
 pub mod Kept
 pub mod Learnt
@@ -7,3 +8,4 @@ pub mod Levels
 pub mod Learning
 pub mod Rounds
 pub mod Settling
+pub mod Waiting

@@ -1,6 +1,7 @@
 // A trail over clauses: propagation with two watched literals a clause, and learning from a conflict.
 #![tactic(auto)]
 
+mod deciding;
 mod filling;
 mod highest;
 mod learning;

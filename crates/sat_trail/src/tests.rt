@@ -141,3 +141,30 @@ fn two_conflicts_refute_the_square(rt: HostRuntime) -> Result<(), Fail> {
     assert_eq!(rt; last.hints.numbers(), [5, 4, 3].as_slice());
     Ok(())
 }
+
+#[test]
+fn the_first_variable_is_decided_where_nothing_was_met(rt: HostRuntime) -> Result<(), Fail> {
+    let alloc = rt.alloc();
+    let mut trail = Trail::of(alloc, &implications(alloc)?, &Log::new(alloc), &[])?;
+    assert_eq!(rt; trail.decide_next(), Some(1));
+    Ok(())
+}
+
+#[test]
+fn what_a_step_met_is_decided_first(rt: HostRuntime) -> Result<(), Fail> {
+    let alloc = rt.alloc();
+    let mut trail = Trail::of(alloc, &implications(alloc)?, &Log::new(alloc), &[])?;
+    decide(&mut trail, A)?;
+    let found = conflict(&mut trail)?;
+    let step = learn(alloc, &trail, found)?;
+    trail.back_to(0);
+    assert_eq!(rt; trail.add(step)?, 5);
+    let first = [
+        trail.decide_next(),
+        trail.decide_next(),
+        trail.decide_next(),
+    ];
+    assert_eq!(rt; first.as_slice(), [Some(2), Some(3), Some(4)].as_slice());
+    assert_eq!(rt; (trail.decide_next(), trail.decide_next()), (Some(1), None));
+    Ok(())
+}

@@ -1,4 +1,4 @@
-ghost use Rattle.std.specs.Prelude.{◌≡◌, ◌+◌, ◌*◌, ◌<◌, ◌≤◌, ◌^◌, ◌++◌, ◌∷◌, [], List, All, IfOk, OnOk, OnErr, None, false, length, map};
+ghost use Rattle.std.specs.Prelude.{◌≡◌, ◌+◌, ◌*◌, ◌<◌, ◌≤◌, ◌^◌, ◌++◌, ◌∷◌, [], List, All, IfOk, OnOk, OnErr, MatchOption, None, false, length, map};
 ghost use Rattle.cnf_core.specs.Literal.{HasVarsUpTo, IsClause};
 ghost use Rattle.clause_store.specs.Codes.{literals_of};
 ghost use Rattle.refutation_check.specs.Chain.{Names, IsChain, members_of};
@@ -7,12 +7,15 @@ ghost use Rattle.assignment_trail.specs.declared.assigned.Assigned.{Assigned};
 ghost use Rattle.assignment_trail.specs.Trail.{IsTrail, IsVarUpTo, IsBackTo, ForcesMore, falses_of, level_of};
 ghost use Rattle.sat_trail.specs.Trailed.{IsVarLimit, IsValue};
 ghost use Rattle.sat_trail.specs.Closed.{IsClosedBelow, IsPropagated};
+ghost use Rattle.sat_trail.specs.Deciding.{HasAllValues, IsOpenVar, decided};
 ghost use Rattle.sat_trail.specs.Learnt.{IsAsserting, IsBackLevel};
 
+use super::deciding::{put_back_above, raise_met, take_open};
 use super::filling::append;
 use super::highest::{highest_in_steps, highest_of};
 use super::levels::highest_below;
 use super::rounds::propagate_all;
+use activity_order::ActivityOrder;
 use assignment_trail::{Assigned, Assignment};
 use clause_store::Store;
 use cnf_core::{Clause, Cnf, Lit, NoMemory};
@@ -36,6 +39,9 @@ pub enum Propagated {
 ///
 /// Each clause of two or more literals has two watched literals. Where a watched literal is false and its consequences
 /// are drawn, the other one is true, at a level that isn't above that of the false one, or the clause is marked.
+///
+/// The open variables wait to be decided, in an order by their activities. A clause that is added raises the activities of
+/// the variables that its step met.
 #[derive(Debug, Drop)]
 pub struct Trail {
     store: Store,
@@ -43,6 +49,8 @@ pub struct Trail {
     assignment: Assignment,
     pending: Pending,
     drawn: usize,
+    order: ActivityOrder,
+    met_by: Vec<u32>,
 }
 
 impl Model for Trail {
@@ -81,12 +89,16 @@ impl Trail {
     {
         let watches = WatchLists::new(alloc, 2 * vars as usize + 2)?;
         let assignment = Assignment::none(alloc, vars)?;
+        let order = ActivityOrder::new(alloc, vars)?;
+        let met_by = vec![in alloc; 0; vars as usize]?;
         Ok(Trail {
             store: Store::new(alloc),
             watches,
             assignment,
             pending: Pending::new(alloc),
             drawn: 0,
+            order,
+            met_by,
         })
     }
 
@@ -219,6 +231,7 @@ impl Trail {
         ensures clauses { self.new.clauses ≡ self.old.clauses }
         ensures assigned { IsBackTo level self.old.assigned self.new.assigned }
     {
+        put_back_above(&mut self.order, &self.assignment, level);
         back_to(
             &self.store,
             &self.watches,
@@ -229,9 +242,24 @@ impl Trail {
         );
     }
 
+    /// Raises the activities of the variables of the clauses that the hints of the newest clause's step name.
+    fn raise_met(&mut self, hints: &[u32])
+        requires { All (λ hint. (1 ≤ hint) × (hint ≤ length self.old.clauses)) hints.now }
+        ensures { self.new ≡ self.old }
+    {
+        let step = self.store.len();
+        raise_met(
+            &mut self.order,
+            self.met_by.as_mut_slice(),
+            &self.store,
+            hints,
+            step,
+        );
+    }
+
     /// Adds a clause that follows from the others by its hints, and answers its number. Its variables are
     /// those of the trail, and there are at most 1,073,741,823 clauses with it. After an error the trail is
-    /// as before.
+    /// as before. The variables of the clauses that the hints name are decided earlier from now on.
     pub fn add(&mut self, s: Step) -> Result<u32, NoMemory>
         requires chain { IsChain self.old.clauses s.clause s.hints }
         requires vars { HasVarsUpTo self.old.vars s.clause }
@@ -241,6 +269,7 @@ impl Trail {
         ensures err { OnErr result (self.new ≡ self.old) }
     {
         self.put(&s.clause, true)?;
+        self.raise_met(s.hints.numbers());
         Ok(self.store.len())
     }
 
@@ -249,7 +278,7 @@ impl Trail {
         requires from_one { 1 ≤ l.var }
         requires in_range { l.var ≤ self.old.vars }
         requires is_open { IsOpen (falses_of self.old.assigned) l }
-        ensures { self.new ≡ record self.old { assigned = self.old.assigned ++ record { lit = l; level = level_of self.old.assigned + 1; reason = None } ∷ [] } }
+        ensures { self.new ≡ decided self.old l }
     {
         let level = self.level() + 1;
         self.assignment.assign(Assigned {
@@ -257,6 +286,26 @@ impl Trail {
             level,
             reason: None,
         });
+    }
+
+    /// Makes the open variable of the greatest activity false, on a new level: the lowest of those that have it. None
+    /// where each variable has a value. It takes no memory.
+    pub fn decide_next(&mut self) -> Option<u32>
+        ensures next { MatchOption result (HasAllValues self.old.vars (falses_of self.old.assigned)) (IsOpenVar self.old.vars (falses_of self.old.assigned)) }
+        ensures decided { MatchOption result (self.new ≡ self.old) (λ var. self.new ≡ decided self.old (record { var = var; positive = false })) }
+        ensures few { length self.old.assigned ≤ self.old.vars + 1 }
+    {
+        let next_level = self.level() + 1;
+        let var = take_open(&mut self.order, &self.assignment)?;
+        self.assignment.assign(Assigned {
+            lit: Lit {
+                var,
+                positive: false,
+            },
+            level: next_level,
+            reason: None,
+        });
+        Some(var)
     }
 
     /// Makes true what the clauses force, until nothing is left or a clause is falsified. It takes no memory.

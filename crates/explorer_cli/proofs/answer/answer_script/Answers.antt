@@ -1,26 +1,35 @@
-use Rattle.std.proofs.Common.{◌≡◌, ◌<◌, ◌∙◌, List, All, length, map, sym, ap, subst, arith}
-use Rattle.std.proofs.lemmas.List.{length-map}
+use Rattle.std.proofs.Common.{◌≤◌, ◌<◌, inr, List, Option, All, length, refl, sym, subst}
+use Rattle.translation_rules.specs.Translation.{Translated}
+use Rattle.script_format.specs.Limits.{asked_by}
 use Rattle.script_format.specs.declared.entries.SessionEntry.{SessionEntry}
-use Rattle.short_models.specs.declared.model.ShortModel.{ShortModel}
-use Rattle.short_models.specs.Problem.{IsShort, short_of}
+use Rattle.script_format.specs.declared.entries.ModelEntry.{ModelEntry}
 use Rattle.explorer_cli.specs.declared.models.Models.{Models}
-use Rattle.explorer_cli.specs.Models.{AreUsable, AreFound}
-use Rattle.explorer_cli.proofs.Usables.{usable_length, usable_short}
+use Rattle.explorer_cli.specs.Models.{AreUsed, AreFound, IsTranslated}
+use Rattle.explorer_cli.proofs.Served.{run_answer_of}
+use Rattle.explorer_cli.proofs.Usables.{all_translated, asked_each}
 use Rattle.explorer_cli.proofs.answer.answer_script.Goals as goal
 
-pub text_of_sessions-requires-clause-short : goal.text_of_sessions-requires-clause-short
-text_of_sessions-requires-clause-short c =
+pub text_of_sessions-requires-clause-translated : goal.text_of_sessions-requires-clause-translated
+text_of_sessions-requires-clause-translated c =
     let sessions = c.entries-sessions.result.now in
     let entries = c.entries.result.now in
-    let are : AreUsable sessions 0 entries (map short_of c.in-Short.models.items) = subst (λ (m : Models). AreFound sessions entries m) c.in-Short.is c.in_ok-models.ensures in
-    subst (λ (ms : List ShortModel). All (λ m. IsShort (short_of m)) ms) (sym c.deref.ensures.value) (usable_short sessions entries c.in-Short.models.items are)
+    let used : AreUsed sessions entries c.in-Ready.models.items = subst (λ (m : Models). AreFound sessions entries m) c.in-Ready.is c.in_ok-models.ensures in
+    let named : All (λ (x : SessionEntry). x.model < length entries) sessions =
+    subst (λ (es : List ModelEntry). All (λ (x : SessionEntry). x.model < length es) sessions) (sym c.entries.ensures)
+    (subst (λ (xs : List SessionEntry). All (λ (x : SessionEntry). x.model < length c.args.script.now.models) xs) (sym c.entries-sessions.ensures) c.requires.named) in
+    subst (λ (ts : List (Option Translated)). All (IsTranslated ts) sessions) (sym c.deref.ensures.value) (all_translated sessions entries c.in-Ready.models.items used named)
 
-pub text_of_sessions-requires-clause-named : goal.text_of_sessions-requires-clause-named
-text_of_sessions-requires-clause-named c =
+pub text_of_sessions-requires-clause-asked : goal.text_of_sessions-requires-clause-asked
+text_of_sessions-requires-clause-asked c =
+    subst (λ (xs : List SessionEntry). All (λ (x : SessionEntry). asked_by x.commands ≤ 20000) xs) (sym c.entries-sessions.ensures) (asked_each c.args.script.now.sessions 20000 c.requires.asked)
+
+pub returns-in_ok-text_of_sessions-in-Ready : goal.returns-in_ok-text_of_sessions-in-Ready
+returns-in_ok-text_of_sessions-in-Ready c =
     let sessions = c.entries-sessions.result.now in
     let entries = c.entries.result.now in
-    let are : AreUsable sessions 0 entries (map short_of c.in-Short.models.items) = subst (λ (m : Models). AreFound sessions entries m) c.in-Short.is c.in_ok-models.ensures in
-    let long : length c.deref.result.now ≡ length c.args.script.now.models =
-    ap length c.deref.ensures.value ∙ sym (length-map c.in-Short.models.items short_of) ∙ usable_length sessions 0 entries (map short_of c.in-Short.models.items) are ∙ ap length c.entries.ensures in
-    let named = subst (λ (xs : List SessionEntry). All (λ x. x.model < length c.args.script.now.models) xs) (sym c.entries-sessions.ensures) c.requires.named in
-    λ k d l. let a = named k d l in omega arith
+    let used : AreUsed sessions entries c.in-Ready.models.items = subst (λ (m : Models). AreFound sessions entries m) c.in-Ready.is c.in_ok-models.ensures in
+    inr (
+      refl,
+      run_answer_of c.args.budget c.args.script.now sessions entries c.in-Ready.models.items c.deref.result.now c.in_ok-text_of_sessions-in-Ready.field-0.items
+          c.entries-sessions.ensures c.entries.ensures c.deref.ensures.value used c.in_ok-text_of_sessions-in-Ready.ensures,
+    )

@@ -1,5 +1,5 @@
-use Rattle.explorer_cli.proofs.Shows.{shown_due, shown_place}
+use Rattle.explorer_cli.proofs.Replied.{shows_due}
 use Rattle.explorer_cli.proofs.laws.shown_are_due.Goals as goal
 
 pub returns : goal.returns
-returns c = record { due = shown_due; number = shown_place }
+returns c p budget commands replies floors run = shows_due p budget commands replies floors run c.a_run_is_sound.ensures

@@ -1,8 +1,7 @@
-use Rattle.std.proofs.Common.{◌∙◌, ℕ, List, map, ap, subst}
-use Rattle.short_models.specs.Problem.{short_of}
+use Rattle.std.proofs.Common.{◌∙◌, ℕ, List, ap, subst}
 use Rattle.explorer_cli.specs.Models.{model_line, IsUsed}
 use Rattle.explorer_cli.specs.declared.models.UsedModel.{UsedModel}
-use Rattle.explorer_cli.proofs.Usables.{usable_more, first_refused}
+use Rattle.explorer_cli.proofs.Usables.{used_more, first_refused}
 use Rattle.explorer_cli.proofs.models.read_models.Goals as goal
 
 pub returns-in-Refused : goal.returns-in-Refused
@@ -10,10 +9,11 @@ returns-in-Refused c =
     let x = c.index-entries-place.result in
     let told = c.text.result.now in
     let words = c.in-Refused.words.items in
+    let before = c.loop-place.invariant in
     let refused = subst (λ (used : UsedModel). IsUsed c.args.sessions.now c.loop-place.place told used) c.in-Refused.is c.in_ok-model.ensures in (
       x.name,
       words,
-      first_refused c.args.sessions.now c.args.entries.now c.loop-place.place x told words (map short_of c.loop-place.models.items) c.loop-place-test.true c.index-entries-place.is c.text.ensures.value c.loop-place.invariant refused,
+      first_refused c.args.sessions.now c.args.entries.now c.loop-place.place x told words before.0 c.loop-place-test.true c.index-entries-place.is c.text.ensures.value before.1 refused,
       c.in_ok-line-in-Refused.ensures ∙ ap (λ (name : List ℕ). model_line name c.deref.result.now) c.text-in-Refused.ensures.value ∙ ap (model_line x.name) c.deref.ensures.value,
     )
 
@@ -21,6 +21,6 @@ pub loop-place-preserved : goal.loop-place-preserved
 loop-place-preserved c =
     let x = c.index-entries-place.result in
     let told = c.text.result.now in
-    let usable = subst (λ (used : UsedModel). IsUsed c.args.sessions.now c.loop-place.place told used) c.in-Short.is c.in_ok-model.ensures in
-    usable_more c.args.sessions.now c.args.entries.now c.loop-place.place x told c.loop-place.models.items c.push.new.self.items c.in-Short.model
-    c.loop-place-test.true c.index-entries-place.is c.text.ensures.value c.in_ok-push-in-Short.ensures.items c.loop-place.invariant usable
+    let is = subst (λ (used : UsedModel). IsUsed c.args.sessions.now c.loop-place.place told used) c.in-Ready.is c.in_ok-model.ensures in
+    used_more c.args.sessions.now c.args.entries.now c.loop-place.place x told c.loop-place.models.items c.push.new.self.items c.in-Ready.model
+    c.loop-place-test.true c.index-entries-place.is c.text.ensures.value c.in_ok-push-in-Ready.ensures.items c.loop-place.invariant is.0 is.1 is.2

@@ -1,4 +1,4 @@
-use Rattle.std.proofs.Common.{◌≡◌, ◌≢◌, List, Some, min, subst, arith}
+use Rattle.std.proofs.Common.{◌≡◌, ◌≢◌, min, subst, arith}
 use Rattle.std.specs.Prelude.{Option, ℕ}
 use Rattle.explorer_cli.specs.Models.{IsFound}
 use Rattle.explorer_cli.proofs.Usables.{found_as_before, found_first, found_lesser}

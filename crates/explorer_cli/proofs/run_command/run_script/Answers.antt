@@ -11,7 +11,7 @@ returns-in-Ok-clause-answer g c =
     let front : c.deref.result.now ≡ take 1048577 left = c.deref.ensures.value ∙ c.in-Ok.ensures.bytes tells_left in
     elim (c.write_answer.ensures.answer tells_written) [
       | inl failed ↦ elim failed [ inl six ↦ inl (inr (inl six)) | inr seven ↦ inl (inr (inr seven)) ]
-      | inr done ↦ inr (done.0, answers_whole left status done.0 (subst (λ (xs : List ℕ). IsAnswerTo xs status done.0) front done.1), done.2)
+      | inr done ↦ inr (done.0, answers_whole c.args.budget left status done.0 (subst (λ (xs : List ℕ). IsAnswerTo c.args.budget xs status done.0) front done.1), done.2)
     ]
 
 pub returns-in-Ok-clause-told : goal.returns-in-Ok-clause-told
@@ -22,7 +22,7 @@ returns-in-Ok-clause-told g c =
     let front : c.deref.result.now ≡ take 1048577 left = c.deref.ensures.value ∙ c.in-Ok.ensures.bytes tells in
     elim c.write_answer.ensures.told [
       | inl failed ↦ elim failed [ inl six ↦ inl (inr (inl six)) | inr seven ↦ inl (inr (inr seven)) ]
-      | inr done ↦ inr (done.0, answers_whole left status done.0 (subst (λ (xs : List ℕ). IsAnswerTo xs status done.0) front done.1))
+      | inr done ↦ inr (done.0, answers_whole c.args.budget left status done.0 (subst (λ (xs : List ℕ). IsAnswerTo c.args.budget xs status done.0) front done.1))
     ]
 
 pub returns-in-Ok-clause-part : goal.returns-in-Ok-clause-part
@@ -32,4 +32,4 @@ returns-in-Ok-clause-part g c =
     let new = g.K.Sink.written c.write_answer.new.sink in
     λ tells_left tells_written six.
     let front : c.deref.result.now ≡ take 1048577 left = c.deref.ensures.value ∙ c.in-Ok.ensures.bytes tells_left in
-    part_of_whole left old new (subst (λ (xs : List ℕ). IsPartOfAnswer xs old new) front (c.write_answer.ensures.part tells_written six))
+    part_of_whole c.args.budget left old new (subst (λ (xs : List ℕ). IsPartOfAnswer c.args.budget xs old new) front (c.write_answer.ensures.part tells_written six))

@@ -1,7 +1,6 @@
-use Rattle.std.proofs.Common.{map, take}
-use Rattle.short_models.specs.Problem.{short_of}
-use Rattle.explorer_cli.specs.Runs.{AreRunsOf}
+use Rattle.std.proofs.Common.{take}
+use Rattle.explorer_cli.specs.Runs.{AreRunsOver}
 use Rattle.explorer_cli.proofs.sessions.text_of_sessions.Given as goal
 
-abbrev pub invariant-loop-session : goal.invariant-loop-session
-invariant-loop-session l = AreRunsOf (take l.session-index l.sessions) (map short_of l.models) l.text.items
+abbrev pub invariant-loop-place : goal.invariant-loop-place
+invariant-loop-place l = AreRunsOver l.budget (take l.place l.sessions) l.models l.text.items

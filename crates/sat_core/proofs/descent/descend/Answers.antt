@@ -1,12 +1,11 @@
 use Rattle.std.proofs.Common.{◌+◌, ◌++◌, ◌∷◌, [], ◌∙◌, None, false, length, arith, refl, ap, subst}
+use Rattle.std.specs.Prelude.{min}
 use Rattle.cnf_core.specs.declared.literal.Lit.{Lit}
 use Rattle.assignment_trail.specs.declared.assigned.Assigned.{Assigned}
 use Rattle.assignment_trail.specs.Trail.{ForcesMore, level_of}
 use Rattle.assignment_trail.proofs.Trails.{level_of-push}
 use Rattle.sat_trail.specs.Trailed.{Trailed}
-use Rattle.sat_core.proofs.Descents.{values_forced, values_decided}
 use Rattle.sat_core.proofs.Stops.{assumed_all, free_first, free_stuck, free_next, lowered}
-use Rattle.std.specs.Prelude.{min}
 use Rattle.sat_core.proofs.descent.descend.Goals as goal
 
 pub deciding-init : goal.deciding-init
@@ -15,48 +14,54 @@ deciding-init c =
     record {
       vars = now.vars;
       clauses = now.clauses;
-      values = λ var low high. absurd (omega arith);
       so_far = lowered c.assume.new.trail c.args.assumed.now c.assume.new.depth c.min.result now.end (c.min.ensures ∙ ap (min c.assume.new.depth) c.level.ensures.level);
       low = omega (arith, c.min.ensures, c.level.ensures.level);
     }
 
-pub returns-in-None-clause-end : goal.returns-in-None-clause-end
-returns-in-None-clause-end c =
+pub returns-clause-end : goal.returns-clause-end
+returns-clause-end c =
     let was = c.deciding.invariant in
-    (record { closed = was.so_far.closed; valued = c.in-None.ensures.lowest }, assumed_all c.deciding.trail c.args.assumed.now (length c.args.assumed.now) _ was.so_far (omega arith))
+    rw c.in_default-decide_next.ensures.decided (record { closed = was.so_far.closed; valued = c.in_default-decide_next.ensures.next }, assumed_all c.deciding.trail c.args.assumed.now (length c.args.assumed.now) _ was.so_far (omega arith))
 
 pub returns-in-Conflict-clause-end : goal.returns-in-Conflict-clause-end
 returns-in-Conflict-clause-end c =
     let was = c.deciding.invariant in
     let now = c.in-Conflict.ensures in
-    let literal : Lit = record { var = c.in-Some-lowest_open.var; positive = false } in
+    let literal : Lit = record { var = c.in-Some-decide_next._var; positive = false } in
     let a : Assigned = record { lit = literal; level = level_of c.deciding.trail.assigned + 1; reason = None } in
-    let forces = subst (λ (t : Trailed). ForcesMore t.assigned c.propagate.new.self.assigned) c.decide.ensures now.assigned in
-    free_stuck c.deciding.trail c.propagate.new.self c.args.assumed.now _ a was.so_far refl was.low (now.clauses ∙ ap (λ (t : Trailed). t.clauses) c.decide.ensures) forces now.trail c.in-Conflict.number now.propagated (now.level ∙ ap (λ (t : Trailed). level_of t.assigned) c.decide.ensures)
+    let made = c.in-Some-decide_next.ensures.decided in
+    let forces = subst (λ (t : Trailed). ForcesMore t.assigned c.propagate.new.self.assigned) made now.assigned in
+    free_stuck c.deciding.trail c.propagate.new.self c.args.assumed.now _ a was.so_far refl was.low (now.clauses ∙ ap (λ (t : Trailed). t.clauses) made) forces now.trail c.in-Conflict.number now.propagated (now.level ∙ ap (λ (t : Trailed). level_of t.assigned) made)
 
 pub returns-in-Conflict-clause-first : goal.returns-in-Conflict-clause-first
 returns-in-Conflict-clause-first c =
     let was = c.deciding.invariant in
     let now = c.in-Conflict.ensures in
-    let literal : Lit = record { var = c.in-Some-lowest_open.var; positive = false } in
+    let literal : Lit = record { var = c.in-Some-decide_next._var; positive = false } in
     let a : Assigned = record { lit = literal; level = level_of c.deciding.trail.assigned + 1; reason = None } in
-    let forces = subst (λ (t : Trailed). ForcesMore t.assigned c.propagate.new.self.assigned) c.decide.ensures now.assigned in
-    free_first c.deciding.trail c.propagate.new.self c.args.assumed.now _ a was.so_far refl was.low (now.clauses ∙ ap (λ (t : Trailed). t.clauses) c.decide.ensures) forces now.trail
+    let made = c.in-Some-decide_next.ensures.decided in
+    let forces = subst (λ (t : Trailed). ForcesMore t.assigned c.propagate.new.self.assigned) made now.assigned in
+    free_first c.deciding.trail c.propagate.new.self c.args.assumed.now _ a was.so_far refl was.low (now.clauses ∙ ap (λ (t : Trailed). t.clauses) made) forces now.trail
 
 pub deciding-preserved : goal.deciding-preserved
 deciding-preserved c =
     let was = c.deciding.invariant in
     let now = c.in_default-propagate.ensures in
-    let some = c.in-Some-lowest_open.ensures.lowest in
-    let literal : Lit = record { var = c.in-Some-lowest_open.var; positive = false } in
+    let literal : Lit = record { var = c.in-Some-decide_next._var; positive = false } in
     let a : Assigned = record { lit = literal; level = level_of c.deciding.trail.assigned + 1; reason = None } in
-    let forces = subst (λ (t : Trailed). ForcesMore t.assigned c.propagate.new.self.assigned) c.decide.ensures now.assigned in
-    let same = now.clauses ∙ ap (λ (t : Trailed). t.clauses) c.decide.ensures in
-    let top = now.level ∙ ap (λ (t : Trailed). level_of t.assigned) c.decide.ensures in
+    let made = c.in-Some-decide_next.ensures.decided in
+    let forces = subst (λ (t : Trailed). ForcesMore t.assigned c.propagate.new.self.assigned) made now.assigned in
+    let same = now.clauses ∙ ap (λ (t : Trailed). t.clauses) made in
+    let top = now.level ∙ ap (λ (t : Trailed). level_of t.assigned) made in
     record {
-      vars = now.vars ∙ (ap (λ (t : Trailed). t.vars) c.decide.ensures ∙ was.vars);
+      vars = now.vars ∙ (ap (λ (t : Trailed). t.vars) made ∙ was.vars);
       clauses = same ∙ was.clauses;
-      values = values_forced c.in-Some-lowest_open.var (c.deciding.trail.assigned ++ a ∷ []) c.propagate.new.self.assigned forces (values_decided c.in-Some-lowest_open.var c.deciding.trail.assigned a some.from_one refl some.lower);
       so_far = free_next c.deciding.trail c.propagate.new.self c.args.assumed.now _ a was.so_far refl was.low same forces now.trail now.propagated;
       low = omega (arith, was.low, top, level_of-push c.deciding.trail.assigned a);
     }
+
+pub returns-clause-first : goal.returns-clause-first
+returns-clause-first c = rw c.in_default-decide_next.ensures.decided c.deciding.invariant.so_far.first
+
+pub returns-clause-trail : goal.returns-clause-trail
+returns-clause-trail c = rw c.in_default-decide_next.ensures.decided c.deciding.invariant.so_far.ordered

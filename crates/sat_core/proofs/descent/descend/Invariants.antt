@@ -1,13 +1,12 @@
 use Rattle.std.proofs.Common.{◌≡◌, ◌≤◌, ◌+◌, ◌-◌, length}
-use Rattle.assignment_trail.specs.Trail.{falses_of, level_of}
-use Rattle.sat_core.specs.Search.{HasAllValues, IsAssumedTo}
+use Rattle.assignment_trail.specs.Trail.{level_of}
+use Rattle.sat_core.specs.Search.{IsAssumedTo}
 use Rattle.sat_core.proofs.descent.descend.Given as goal
 
 abbrev pub invariant-deciding : goal.invariant-deciding
 invariant-deciding l = record {
   vars : l.trail.vars ≡ l.fn.trail.vars;
   clauses : l.trail.clauses ≡ l.fn.trail.clauses;
-  values : HasAllValues l.first (falses_of l.trail.assigned);
   so_far : IsAssumedTo l.assumed (length l.assumed) l.depth l.trail;
   low : l.depth ≤ level_of l.trail.assigned;
 }

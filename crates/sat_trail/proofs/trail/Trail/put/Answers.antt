@@ -10,7 +10,7 @@ append-requires-clause-unmarked c = λ is.
     omega (arith, c.self.invariant.ready.drawn_in, ap length none)
 
 pub invariant_of-self : goal.invariant_of-self
-invariant_of-self c = record { ready = c.in_err-append.ensures.same }
+invariant_of-self c = record { ready = c.in_err-append.ensures.same; ordered = c.self.invariant.ordered; met = c.self.invariant.met }
 
 pub invariant_of-self-2 : goal.invariant_of-self-2
-invariant_of-self-2 c = record { ready = c.in_ok-append.ensures.ready }
+invariant_of-self-2 c = record { ready = c.in_ok-append.ensures.ready; ordered = c.self.invariant.ordered; met = c.self.invariant.met }

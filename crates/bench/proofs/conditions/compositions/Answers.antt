@@ -1,0 +1,7 @@
+use Rattle.std.proofs.Common.{◌∷◌, [], sym, subst}
+use Rattle.rel_formula.specs.Shape.{IsProper}
+use Rattle.rel_formula.proofs.Parts.{are_proper}
+use Rattle.bench.proofs.conditions.compositions.Goals as goal
+
+pub returns : goal.returns
+returns c = subst (IsProper (1 ∷ 2 ∷ []) 0) (sym c.all_of.ensures) ((are_proper (1 ∷ 2 ∷ []) 0 c.in_ok-three_compositions.field-0.items).1 c.in_ok-three_compositions.ensures)

@@ -1,0 +1,10 @@
+use Rattle.std.proofs.Common.{◌∷◌, [], sym, subst}
+use Rattle.rel_formula.specs.Shape.{IsProper}
+use Rattle.rel_formula.proofs.Parts.{are_proper}
+use Rattle.circuit_tests.proofs.of_rel_translate.lists_of_formulas.Goals as goal
+
+pub agrees-requires : goal.agrees-requires
+agrees-requires g c = subst (IsProper (1 ∷ 2 ∷ []) 0) (sym c.all_of-all.ensures) ((are_proper (1 ∷ 2 ∷ []) 0 c.in_ok-none_and_some.field-0.items).1 c.in_ok-none_and_some.ensures)
+
+pub agrees-requires-2 : goal.agrees-requires-2
+agrees-requires-2 g c = subst (IsProper (1 ∷ 2 ∷ []) 0) (sym c.any_of-any.ensures) ((are_proper (1 ∷ 2 ∷ []) 0 c.in_ok-none_and_some-2.field-0.items).1 c.in_ok-none_and_some-2.ensures)

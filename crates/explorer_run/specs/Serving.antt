@@ -1,0 +1,43 @@
+-- Sessions that are served over a translation, and what they answer to a command.
+use Rattle.std.specs.Prelude.{◌≡◌, ◌≤◌, ℕ, List, [], ◌∷◌, length, All as Each}
+use Rattle.refutation_check.specs.declared.log.Step.{Step as LogStep}
+use Rattle.rel_formula.specs.Instance.{AreCells}
+use Rattle.translation_rules.specs.Translation.{Translated}
+use Rattle.session_words.specs.declared.commands.Command.{Command}
+use Rattle.session_rules.specs.States.{State, EndedAt, after}
+use Rattle.session_rules.specs.Steps.{Exchange, state_after}
+use Rattle.session_rules.specs.Transcripts.{Serves}
+use Rattle.session_rules.specs.Proofs.{Proves}
+use Rattle.session_rules.specs.Evidence.{NeedsEvidence, HasEvidence}
+use Rattle.session_rules.specs.declared.answers.Reply.{Reply}
+use Rattle.session_rules.specs.declared.end_proof.ProofKind.TheVariants.{End}
+use Rattle.session_store.specs.Stored.{Stored}
+use Rattle.session_search.specs.Fits.{FitsProblem}
+use Rattle.script_text.specs.Replies.{NamesCellsOf, PrintsRightProof}
+
+-- the proof shows over the translation that the floor has ended, and blocks scenarios of the problem's cells
+pub record IsEndProof (t : Translated) (x : EndedAt) : Type 0 where
+  pub proves : Proves t x.floor End x.proof
+  pub blocked : Each (AreCells t.problem) x.proof.blocked
+
+-- the session is one on the translation's problem; it has shown at most so many scenarios; and its proofs are over the
+-- translation
+pub record IsOn (t : Translated) (shown : ℕ) (kept : Stored) : Type 0 where
+  pub fits : FitsProblem t.problem kept
+  pub few_shown : length kept.state.shown ≤ shown
+  pub proofs : Each (IsEndProof t) kept.state.ended
+
+-- each reply that makes a proof, or says that the budget is spent, has its evidence in the state before it, over the
+-- translation and the imported steps
+abbrev pub AreBacked : Translated → List LogStep → State → List Exchange → Type 0
+AreBacked t pool s [] = Unit {0}
+AreBacked t pool s (x ∷ xs) = (NeedsEvidence s x.reply → HasEvidence t pool s x.step x.reply) × AreBacked t pool (after s x.reply) xs
+
+-- the command may have this reply in the old state: the steps that it stands for have their evidence, and leave the new state
+abbrev pub CommandStep : Translated → List LogStep → State → Command → Reply → State → Type 0
+CommandStep t pool old command reply new = (xs : List Exchange) × Serves t.problem old command reply xs × AreBacked t pool old xs × (new ≡ state_after old xs)
+
+-- the reply can be printed at this floor: its cells are the problem's, and its proof is one of the floor's end
+pub record IsPrintable (t : Translated) (floor : List ℕ) (reply : Reply) : Type 0 where
+  pub cells : NamesCellsOf t.problem reply
+  pub proof : PrintsRightProof t floor reply

@@ -1,0 +1,12 @@
+//! Sessions of scripts, served to their ends: each command is answered as the session machine may, over the translation of the
+//! session's problem.
+#![tactic(auto)]
+
+mod serving;
+mod showing;
+mod steps;
+#[cfg(test)]
+mod tests;
+
+pub use crate::serving::{answer, serve};
+pub use std::alloc::AllocError as NoMemory;

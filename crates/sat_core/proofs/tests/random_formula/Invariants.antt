@@ -1,8 +1,0 @@
-use Rattle.std.proofs.Common.{◌≡◌, ◌≤◌, ◌-◌, length}
-use Rattle.sat_core.proofs.tests.random_formula.Given as goal
-
-abbrev pub invariant-clauses : goal.invariant-clauses
-invariant-clauses l = record { vars : l.formula.vars ≡ 40; few : length l.formula.clauses ≤ 172 }
-
-abbrev pub decreases-clauses : goal.decreases-clauses
-decreases-clauses l = 172 - length l.formula.clauses

@@ -1,0 +1,81 @@
+ghost use Rattle.std.specs.Prelude.{◌≡◌, ◌++◌, ◌∷◌, [], ◌≤◌, true, List, All, MatchOption, length};
+ghost use Rattle.cnf_core.specs.Literal.{HasVarsUpTo};
+ghost use Rattle.clause_store.specs.Codes.{literals_of};
+ghost use Rattle.assignment_trail.specs.declared.assigned.Assigned.{Assigned};
+ghost use Rattle.assignment_trail.specs.Trail.{IsBackTo, falses_of};
+ghost use Rattle.sat_trail.specs.Deciding.{HasAllValues, IsOpenVar};
+ghost use Rattle.sat_trail.specs.Waiting.{IsOrderOf};
+
+use activity_order::ActivityOrder;
+use assignment_trail::Assignment;
+use clause_store::Store;
+
+/// Takes waiting variables until one is open: that one, from 1, or none where each variable has a value.
+pub(crate) fn take_open(order: &mut ActivityOrder, now: &Assignment) -> Option<u32>
+    requires { IsOrderOf now.now.vars (falses_of now.now.assigned) order.old }
+    ensures next { MatchOption result (HasAllValues now.now.vars (falses_of now.now.assigned)) (IsOpenVar now.now.vars (falses_of now.now.assigned)) }
+    ensures order { MatchOption result (IsOrderOf now.now.vars (falses_of now.now.assigned) order.new) (λ var. IsOrderOf now.now.vars (falses_of now.now.assigned ++ record { var = var; positive = true } ∷ []) order.new) }
+{
+    let _vars = now.vars();
+    'taking: while let Some(place) = order.take_first() {
+        let var = place + 1;
+        if now.value(2 * var).is_none() {
+            return Some(var);
+        }
+    }
+    None
+}
+
+/// Lets the variables of the literals above this level wait again.
+pub(crate) fn put_back_above(order: &mut ActivityOrder, now: &Assignment, level: u32)
+    requires { IsOrderOf now.now.vars (falses_of now.now.assigned) order.old }
+    ensures { (assigned : List Assigned) → IsBackTo level now.now.assigned assigned → IsOrderOf now.now.vars (falses_of assigned) order.new }
+{
+    let mut n = now.len();
+    'undoing: while n > 0 {
+        n -= 1;
+        let a = now.at(n);
+        if a.level <= level {
+            return;
+        }
+        order.put_back(a.lit.var - 1);
+    }
+}
+
+/// Raises the variables of a clause, by the numbers of its literals, but for those that this step met already.
+fn raise_in(order: &mut ActivityOrder, met_by: &mut [u32], codes: &[u32], step: u32)
+    requires vars { All (λ l. (1 ≤ l.var) × (l.var ≤ length order.old.activities)) (literals_of codes.now) }
+    requires long { length met_by.old ≡ length order.old.activities }
+    ensures waiting { order.new.waiting ≡ order.old.waiting }
+    ensures long { length order.new.activities ≡ length order.old.activities }
+{
+    for code in codes {
+        let place = *code / 2 - 1;
+        if met_by[place as usize] != step {
+            met_by[place as usize] = step;
+            order.raise(place);
+        }
+    }
+}
+
+/// Raises the variables of the clauses that the step's hints name, each once, and lets what is raised later count for more.
+/// The step has this number, and `met_by` has for each variable the newest step that met it.
+pub(crate) fn raise_met(
+    order: &mut ActivityOrder,
+    met_by: &mut [u32],
+    store: &Store,
+    hints: &[u32],
+    step: u32,
+)
+    requires hints { All (λ hint. (1 ≤ hint) × (hint ≤ length store.now)) hints.now }
+    requires vars { All (HasVarsUpTo (length order.old.activities)) store.now }
+    requires long { length met_by.old ≡ length order.old.activities }
+    ensures waiting { order.new.waiting ≡ order.old.waiting }
+    ensures long { length order.new.activities ≡ length order.old.activities }
+{
+    let _clauses = store.len();
+    for hint in hints {
+        raise_in(order, met_by, store.codes(*hint), step);
+    }
+    order.decay();
+}
