@@ -1,4 +1,4 @@
-// The order in which a solver decides variables: those that wait, by their activity.
+//! The order in which a solver decides variables: those that wait, by their activity.
 #![tactic(auto)]
 
 mod heap;

@@ -7,7 +7,7 @@ mod lexing;
 mod spelling;
 #[cfg(test)]
 mod tests;
-pub mod token;
+mod token;
 
 pub use crate::lexing::lex;
 pub use crate::token::{LexFault, Place, Text, Token, TokenKind};

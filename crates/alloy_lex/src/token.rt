@@ -4,6 +4,7 @@ ghost use Rattle.std.specs.Str.{IsUtf8};
 
 use std::alloc::{AllocError, AllocFailed, Global};
 use std::marker::Model;
+use thiserror::Error;
 
 /// A place in a text: its line, and its column in characters. Both count from 1.
 #[derive(Clone, Copy, Debug, PartialEq, Eq)]
@@ -23,7 +24,7 @@ pub enum TokenKind {
 }
 
 /// A token's text, seen as the list of its bytes.
-#[derive(Drop)]
+#[derive(Debug, Drop)]
 pub struct Text {
     text: String,
 }
@@ -39,11 +40,15 @@ pub struct Token {
 }
 
 /// Why a text has no tokens: its first fault, or no memory for them.
-#[derive(Clone, Copy, Debug, PartialEq, Eq)]
+#[derive(Clone, Copy, Debug, PartialEq, Eq, Error)]
 pub enum LexFault {
+    #[error("{}:{}: no token begins here", .place.line, .place.column)]
     BadCharacter { place: Place },
+    #[error("{}:{}: the comment isn't closed", .place.line, .place.column)]
     OpenComment { place: Place },
+    #[error("{}:{}: the number is above 1000", .place.line, .place.column)]
     NumberTooLarge { place: Place },
+    #[error("no memory")]
     Memory,
 }
 

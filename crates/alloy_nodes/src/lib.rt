@@ -1,7 +1,7 @@
 //! Expressions, formulas and numbers, read from tokens.
 #![tactic(auto)]
 
-pub mod nest;
+mod nest;
 pub mod nodes;
 mod signs;
 mod variables;

@@ -2,7 +2,8 @@
 ghost use Rattle.std.specs.Prelude.{◌≡◌, ◌<◌, ◌≤◌, Bool, List, length, map, IfOk};
 ghost use Rattle.alloy_syntax.specs.View.{view, views, step_view, link_view, binding_view, declaration_view, block_view};
 ghost use Rattle.alloy_syntax.specs.Readers.{many, others};
-ghost use Rattle.alloy_syntax.specs.Nodes.{within, inside_over, is_inner, block_over, block_tree, paren_over, primary_over, behind_prefix, tight_over, path_over, begins_step, step_over, brackets_over, arguments_over, begins_link, link_over, begins_arrow, arrow_over, arrows_over, size_over, sum_over, braced_over, counted_over, comparison_over, negation_over, implication_over, implied_over, quantified_over, body_over, declarations_over, more_declarations, another_declaration, declaration_over, let_over, bindings_over, binding_over};
+ghost use Rattle.alloy_syntax.specs.Nodes.{within, inside_over, is_inner, block_over, block_tree, paren_over, primary_over, behind_prefix, tight_over, path_over, begins_step, step_over, brackets_over, arguments_over, begins_link, link_over, begins_arrow, arrow_over};
+ghost use Rattle.alloy_syntax.specs.Nodes.{arrows_over, size_over, sum_over, braced_over, counted_over, comparison_over, negation_over, implication_over, implied_over, quantified_over, body_over, declarations_over, more_declarations, another_declaration, declaration_over, let_over, bindings_over, binding_over};
 ghost use Rattle.alloy_nodes.specs.Levels.{operand_over, chain_over};
 ghost use Rattle.alloy_syntax.specs.Gives.{Gives};
 

@@ -5,7 +5,8 @@ use Rattle.alloy_lex.specs.declared.token.TokenKind.{TokenKind}
 use Rattle.alloy_lex.specs.declared.token.TokenKind.TheVariants as kinds
 use Rattle.alloy_syntax.specs.declared.class.Class.{Class}
 use Rattle.alloy_syntax.specs.declared.class.TheConstants.{WORDS, SYMBOLS}
-use Rattle.alloy_syntax.specs.declared.class.Class.TheVariants.{Name, Path, Number, LeftBrace, RightBrace, LeftBracket, RightBracket, LeftParen, RightParen, Comma, Colon, Bar, Dot, Plus, Minus, Ampersand, Arrow, Tilde, Caret, Star, PlusPlus, DomainArrow, RangeArrow, Hash, Equal, NotEqual, Less, Greater, AtMost, AtLeast, Not, And, Or, Iff, Implies, Abstract, All, As, Assert, But, Check, Disj, Else, Exactly, Expect, Extends, Fact, For, Fun, Iden, In, Let, Lone, Module, No, None, One, Open, Pred, Run, Set, Sig, Some, Univ, Refused}
+use Rattle.alloy_syntax.specs.declared.class.Class.TheVariants.{Name, Path, Number, LeftBrace, RightBrace, LeftBracket, RightBracket, LeftParen, RightParen, Comma, Colon, Bar, Dot, Plus, Minus, Ampersand, Arrow, Tilde, Caret, Star, PlusPlus, DomainArrow, RangeArrow, Hash, Equal, NotEqual, Less, Greater, AtMost, AtLeast, Not, And}
+use Rattle.alloy_syntax.specs.declared.class.Class.TheVariants.{Or, Iff, Implies, Abstract, All, As, Assert, But, Check, Disj, Else, Exactly, Expect, Extends, Fact, For, Fun, Iden, In, Let, Lone, Module, No, None, One, Open, Pred, Run, Set, Sig, Some, Univ, Refused}
 
 -- the terminal that the table has for a text; what it doesn't have is refused
 unfoldable pub class_in : List (List ℕ × Class) → List ℕ → Class

@@ -20,7 +20,8 @@ use Rattle.alloy_syntax.specs.declared.tree.Function.{Function}
 use Rattle.alloy_syntax.specs.declared.tree.Paragraph.{Paragraph}
 use Rattle.alloy_syntax.specs.declared.tree.Paragraph.TheVariants as paragraph
 use Rattle.alloy_syntax.specs.declared.tree.Model.{Model}
-use Rattle.alloy_syntax.specs.Tree.{Tree, named, numbered, constant, bracketed, block, prefixed, chain, path, compared, implies, implies_else, quantified, bound_by_let, LinkTree, StepTree, joined, in_brackets, DeclarationTree, BindingTree, trees_of, links_of, steps_of, declarations_of, bindings_of, BoundTree, bound_named, bound_bracketed, bound_union, bound_arrows, BoundArrowTree, unions_of, arrows_of, FieldTree, BlockTree, TargetTree, at_name, at_block, ScopeTree, ParagraphTree, signatures, fact, predicate, function, assertion, command, ModelTree}
+use Rattle.alloy_syntax.specs.Tree.{Tree, named, numbered, constant, bracketed, block, prefixed, chain, path, compared, implies, implies_else, quantified, bound_by_let, LinkTree, StepTree, joined, in_brackets, DeclarationTree, BindingTree, trees_of, links_of, steps_of}
+use Rattle.alloy_syntax.specs.Tree.{declarations_of, bindings_of, BoundTree, bound_named, bound_bracketed, bound_union, bound_arrows, BoundArrowTree, unions_of, arrows_of, FieldTree, BlockTree, TargetTree, at_name, at_block, ScopeTree, ParagraphTree, signatures, fact, predicate, function, assertion, command, ModelTree}
 
 -- one level of a node, with each part inside already seen as its tree
 abbrev pub node_level : Node-F Tree StepTree BindingTree DeclarationTree LinkTree → Tree

@@ -1,13 +1,13 @@
 //! The tree of a model, the terminals of the grammar, what reading a list of tokens means, and how single tokens are read.
 #![tactic(auto)]
 
-pub mod class;
+mod class;
 pub mod cursor;
 pub mod halt;
 pub mod laws;
 pub mod reading;
-pub mod seen;
+mod seen;
 pub mod tree;
 
-pub use class::{Class, class_of, is_class};
-pub use seen::Seen;
+pub use crate::class::{Class, class_of, is_class};
+pub use crate::seen::Seen;

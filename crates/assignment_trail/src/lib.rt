@@ -1,4 +1,4 @@
-// The literals that are true, in the order in which they became so, with their levels and reasons.
+//! The literals that are true, in the order in which they became so, with their levels and reasons.
 #![tactic(auto)]
 
 mod assigned;

@@ -1,6 +1,5 @@
 -- What an answer of the solver says of a search for an instance with some cells.
 use Rattle.std.proofs.Common.{◌≡◌, ◌≢◌, ◌<◌, ◌≤◌, ◌-◌, ℕ, Bool, List, [], ◌∷◌, ◌++◌, length, get_or, zero, suc, inl, inr, All, AllPairs, refl, ap, subst, arith}
-use Rattle.std.proofs.lemmas.Bool.{cases_lt}
 use Rattle.std.proofs.lemmas.List.{length-map}
 use Rattle.std.proofs.lemmas.List.Elements.{All-map, All-take}
 use Rattle.cnf_core.specs.declared.literal.Lit.{Lit}
@@ -97,20 +96,6 @@ module _ (t : Translated) (pool : List LogStep) (cells : List ℕ) (budget : ℕ
 -- the cells of a problem have variables
 pub variables : (p : Bounded) (cells : List ℕ) → AreCells p cells → length (cells_of p) ≤ 4096 → All (λ cell. IsVariable (var_of cell)) cells
 variables p cells cells_in few k d l = let h = cells_in k d l in (omega arith, omega arith)
-
--- rising numbers below another are at most as many
-rising_at : (s : List ℕ) → AllPairs (λ m n. m < n) s → (k : ℕ) (d : ℕ) → k < length s → k ≤ get_or s k d
-rising_at s up zero d h = omega arith
-rising_at s up (suc k) d h =
-    let before = rising_at s up k d (omega arith) in
-    let step = up k (suc k) d (omega arith) h in
-    omega arith
-
-pub few_cells : (count : ℕ) (s : List ℕ) → AllPairs (λ m n. m < n) s → All (λ n. n < count) s → length s ≤ count
-few_cells count s up below = elim (cases_lt count (length s)) [
-  | inl more ↦ let high = rising_at s up count 0 more in let low = below count 0 more in absurd (omega arith)
-  | inr few ↦ few
-]
 
 pub as_many : (cells : List ℕ) → length (units_of cells) ≡ length cells
 as_many cells = length-map cells (λ cell. literal_of cell ∷ [])

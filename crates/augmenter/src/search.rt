@@ -10,7 +10,7 @@ use cnf_core::Valuation;
 use local_clauses::units_of;
 use refutation_check::{Log, Part, accepted_is_entailed};
 use rel_formula::Scenario;
-use sat_core::{Answer, solve};
+use sat_core::{Answer, solve_towards};
 use std::alloc::Global;
 use translation::Translation;
 use translation_rules::laws::units_say_what_is_possible;
@@ -50,7 +50,14 @@ pub fn seek(
     units_say_what_is_possible();
     let _ = translation.problem().relations();
     let local = units_of(alloc, cells.numbers())?;
-    match solve(alloc, translation.cnf(), pool, local.as_slice(), budget)? {
+    match solve_towards(
+        alloc,
+        translation.cnf(),
+        pool,
+        local.as_slice(),
+        budget,
+        true,
+    )? {
         Answer::Found { valuation, log } => {
             let part = Part::of(local, log);
             Ok(Sought::Possible { valuation, part })

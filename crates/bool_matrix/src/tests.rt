@@ -11,7 +11,6 @@ use crate::{Matrix, NoMemory};
 use bool_circuit::{Circuit, MOST_NODES, Node};
 use std::alloc::Global;
 use std::process::Abort;
-use std::test::Fail;
 use tuple_core::{Atom, Tuple, TupleSet};
 
 // An operator on two matrices or sets.
@@ -82,6 +81,15 @@ fn may_close(circuit: &Circuit, pairs: &Matrix) -> bool
     is_small(circuit, pairs)
 }
 
+// Adds the tuple of the first of these places, with the node of this input.
+fn put(rt: &impl Abort, circuit: &mut Circuit, out: &mut Matrix, places: [u16; 3], input: u32) {
+    assert!(rt; input < circuit.inputs() && !circuit.is_full());
+    let node = circuit.input(input).expect(rt, "memory");
+    let tuple = tuple(out.arity(), places);
+    assert!(rt; tuple.atoms().len() == out.arity() as usize && !out.has(&tuple));
+    out.put(tuple, node).expect(rt, "memory");
+}
+
 // A matrix of these tuples, whose nodes are inputs from `first` on.
 fn matrix(
     rt: &impl Abort,
@@ -90,21 +98,28 @@ fn matrix(
     arity: u8,
     rows: &[[u16; 3]],
     first: u32,
-) -> Result<Matrix, NoMemory> {
-    assert!(rt; 1 <= arity && arity <= 3);
+) -> Matrix {
+    assert!(rt; 1 <= arity && arity <= 3 && first < 1000);
     let mut out = Matrix::new(alloc, arity);
     let mut input = first;
     for row in rows {
-        assert!(rt; input < circuit.inputs());
-        assert!(rt; !circuit.is_full());
-        let node = circuit.input(input)?;
-        let tuple = tuple(arity, *row);
-        assert!(rt; tuple.atoms().len() == out.arity() as usize);
-        assert!(rt; !out.has(&tuple));
-        out.put(tuple, node)?;
-        input += 1;
+        put(rt, circuit, &mut out, *row, input);
+        input = input.saturating_add(1);
     }
-    Ok(out)
+    out
+}
+
+// The value of a node at these inputs.
+fn value(rt: &impl Abort, alloc: Global, circuit: &Circuit, node: Node, inputs: &[bool]) -> bool {
+    assert!(rt; node.place() < circuit.len());
+    assert!(rt; inputs.len() == circuit.inputs() as usize);
+    circuit.eval(alloc, node, inputs).expect(rt, "memory")
+}
+
+// Adds a tuple.
+fn insert(rt: &impl Abort, out: &mut TupleSet, tuple: &Tuple) {
+    assert!(rt; tuple.atoms().len() == out.arity() as usize);
+    out.insert(tuple.copy()).expect(rt, "memory");
 }
 
 // The tuples whose nodes are true at these inputs.
@@ -114,17 +129,14 @@ fn true_tuples(
     circuit: &Circuit,
     matrix: &Matrix,
     inputs: &[bool],
-) -> Result<TupleSet, NoMemory> {
+) -> TupleSet {
     let mut out = TupleSet::new(alloc, matrix.arity());
     for entry in matrix.entries() {
-        assert!(rt; entry.node.place() < circuit.len());
-        assert!(rt; inputs.len() == circuit.inputs() as usize);
-        assert!(rt; entry.tuple.atoms().len() == out.arity() as usize);
-        if circuit.eval(alloc, entry.node, inputs)? {
-            out.insert(entry.tuple.copy())?;
+        if value(rt, alloc, circuit, entry.node, inputs) {
+            insert(rt, &mut out, &entry.tuple);
         }
     }
-    Ok(out)
+    out
 }
 
 // What the operator makes of two matrices.
@@ -220,14 +232,14 @@ fn of_sets(
 }
 
 // The inputs that the bits of a number say.
-fn inputs_of(alloc: Global, bits: u32, count: usize) -> Result<Vec<bool>, NoMemory> {
+fn inputs_of(rt: &impl Abort, alloc: Global, bits: u32, count: usize) -> Vec<bool> {
     let mut inputs = Vec::new(alloc);
     let mut rest = bits;
     for _ in 0..count {
-        inputs.push(rest % 2 == 1)?;
+        inputs.push(rest % 2 == 1).expect(rt, "memory");
         rest /= 2;
     }
-    Ok(inputs)
+    inputs
 }
 
 // That the operator makes of the two matrices what it makes of sets, at every value of the inputs.
@@ -237,18 +249,17 @@ fn agrees(
     operator: Operator,
     (m, lefts): (u8, &[[u16; 3]]),
     (n, rights): (u8, &[[u16; 3]]),
-) -> Result<(), NoMemory> {
+) {
     assert!(rt; lefts.len() <= 4 && rights.len() <= 4);
     let count = lefts.len() + rights.len();
     let mut circuit = Circuit::new(alloc, count as u32);
-    let a = matrix(rt, alloc, &mut circuit, m, lefts, 0)?;
-    let b = matrix(rt, alloc, &mut circuit, n, rights, lefts.len() as u32)?;
-    let made = of_matrices(rt, alloc, &mut circuit, operator, &a, &b)?;
+    let a = matrix(rt, alloc, &mut circuit, m, lefts, 0);
+    let b = matrix(rt, alloc, &mut circuit, n, rights, lefts.len() as u32);
+    let made = of_matrices(rt, alloc, &mut circuit, operator, &a, &b).expect(rt, "memory");
     for bits in 0..1u32 << count {
-        let inputs = inputs_of(alloc, bits, count)?;
-        agrees_at(rt, alloc, &circuit, operator, (&a, &b, &made), &inputs)?;
+        let inputs = inputs_of(rt, alloc, bits, count);
+        agrees_at(rt, alloc, &circuit, operator, (&a, &b, &made), &inputs);
     }
-    Ok(())
 }
 
 // That the result's true tuples are what the operator makes of the operands', at these inputs.
@@ -259,29 +270,26 @@ fn agrees_at(
     operator: Operator,
     (a, b, made): (&Matrix, &Matrix, &Matrix),
     inputs: &[bool],
-) -> Result<(), NoMemory> {
-    let left = true_tuples(rt, alloc, circuit, a, inputs)?;
-    let right = true_tuples(rt, alloc, circuit, b, inputs)?;
-    let expected = of_sets(rt, alloc, operator, &left, &right)?;
-    let found = true_tuples(rt, alloc, circuit, made, inputs)?;
+) {
+    let left = true_tuples(rt, alloc, circuit, a, inputs);
+    let right = true_tuples(rt, alloc, circuit, b, inputs);
+    let expected = of_sets(rt, alloc, operator, &left, &right).expect(rt, "memory");
+    let found = true_tuples(rt, alloc, circuit, made, inputs);
     assert!(rt; found == expected);
-    Ok(())
 }
 
 // That the closure and the transposition of pairs are those of sets, at every value of the inputs.
-fn closure_agrees(rt: &impl Abort, alloc: Global, rows: &[[u16; 3]]) -> Result<(), NoMemory> {
+fn closure_agrees(rt: &impl Abort, alloc: Global, rows: &[[u16; 3]]) {
     assert!(rt; rows.len() <= 8);
-    let count = rows.len();
-    let mut circuit = Circuit::new(alloc, count as u32);
-    let a = matrix(rt, alloc, &mut circuit, 2, rows, 0)?;
+    let mut circuit = Circuit::new(alloc, rows.len() as u32);
+    let a = matrix(rt, alloc, &mut circuit, 2, rows, 0);
     assert!(rt; a.arity() == 2 && may_close(&circuit, &a));
-    let closed = a.closure(alloc, &mut circuit)?;
-    let turned = a.transpose(alloc)?;
-    for bits in 0..1u32 << count {
-        let inputs = inputs_of(alloc, bits, count)?;
-        closure_agrees_at(rt, alloc, &circuit, (&a, &closed, &turned), &inputs)?;
+    let closed = a.closure(alloc, &mut circuit).expect(rt, "memory");
+    let turned = a.transpose(alloc).expect(rt, "memory");
+    for bits in 0..1u32 << rows.len() {
+        let inputs = inputs_of(rt, alloc, bits, rows.len());
+        closure_agrees_at(rt, alloc, &circuit, (&a, &closed, &turned), &inputs);
     }
-    Ok(())
 }
 
 // That they are those of sets at these inputs.
@@ -291,97 +299,75 @@ fn closure_agrees_at(
     circuit: &Circuit,
     (a, closed, turned): (&Matrix, &Matrix, &Matrix),
     inputs: &[bool],
-) -> Result<(), NoMemory> {
-    let set = true_tuples(rt, alloc, circuit, a, inputs)?;
+) {
+    let set = true_tuples(rt, alloc, circuit, a, inputs);
     assert!(rt; set.arity() == 2);
-    let closure = true_tuples(rt, alloc, circuit, closed, inputs)?;
-    assert!(rt; closure == set.closure(alloc)?);
-    let transposed = true_tuples(rt, alloc, circuit, turned, inputs)?;
-    assert!(rt; transposed == set.transpose(alloc)?);
-    Ok(())
+    let closure = set.closure(alloc).expect(rt, "memory");
+    assert!(rt; true_tuples(rt, alloc, circuit, closed, inputs) == closure);
+    let transposed = set.transpose(alloc).expect(rt, "memory");
+    assert!(rt; true_tuples(rt, alloc, circuit, turned, inputs) == transposed);
 }
 
-// The value of a node at these inputs.
-fn value(
-    rt: &impl Abort,
-    alloc: Global,
-    circuit: &Circuit,
-    node: Node,
-    inputs: &[bool],
-) -> Result<bool, NoMemory> {
-    assert!(rt; node.place() < circuit.len());
-    assert!(rt; inputs.len() == circuit.inputs() as usize);
-    circuit.eval(alloc, node, inputs)
+// Whether the first matrix of pairs is a part of the second, or equal to it.
+fn compared(rt: &impl Abort, circuit: &mut Circuit, a: &Matrix, b: &Matrix, equal: bool) -> Node {
+    assert!(rt; a.arity() == b.arity() && are_small(circuit, a, b));
+    if equal {
+        a.equal(circuit, b).expect(rt, "memory")
+    } else {
+        a.subset(circuit, b).expect(rt, "memory")
+    }
 }
 
 // That the nodes for subset and equality have the truth of these facts of sets, at every value of the inputs.
-fn comparison_agrees(
-    rt: &impl Abort,
-    alloc: Global,
-    lefts: &[[u16; 3]],
-    rights: &[[u16; 3]],
-) -> Result<(), NoMemory> {
+fn comparison_agrees(rt: &impl Abort, alloc: Global, lefts: &[[u16; 3]], rights: &[[u16; 3]]) {
     assert!(rt; lefts.len() <= 4 && rights.len() <= 4);
     let count = lefts.len() + rights.len();
     let mut circuit = Circuit::new(alloc, count as u32);
-    let a = matrix(rt, alloc, &mut circuit, 2, lefts, 0)?;
-    let b = matrix(rt, alloc, &mut circuit, 2, rights, lefts.len() as u32)?;
-    assert!(rt; a.arity() == b.arity() && are_small(&circuit, &a, &b));
-    let within = a.subset(&mut circuit, &b)?;
-    assert!(rt; are_small(&circuit, &a, &b));
-    let equal = a.equal(&mut circuit, &b)?;
+    let a = matrix(rt, alloc, &mut circuit, 2, lefts, 0);
+    let b = matrix(rt, alloc, &mut circuit, 2, rights, lefts.len() as u32);
+    let within = compared(rt, &mut circuit, &a, &b, false);
+    let equal = compared(rt, &mut circuit, &a, &b, true);
     for bits in 0..1u32 << count {
-        let inputs = inputs_of(alloc, bits, count)?;
-        let left = true_tuples(rt, alloc, &circuit, &a, &inputs)?;
-        let right = true_tuples(rt, alloc, &circuit, &b, &inputs)?;
-        says(rt, alloc, &circuit, within, &inputs, left.is_subset(&right))?;
-        says(rt, alloc, &circuit, equal, &inputs, left == right)?;
+        let inputs = inputs_of(rt, alloc, bits, count);
+        comparison_agrees_at(rt, alloc, &circuit, (&a, &b), (within, equal), &inputs);
     }
-    Ok(())
 }
 
-// That the node has this value at these inputs.
-fn says(
+// That they have it at these inputs.
+fn comparison_agrees_at(
     rt: &impl Abort,
     alloc: Global,
     circuit: &Circuit,
-    node: Node,
+    (a, b): (&Matrix, &Matrix),
+    (within, equal): (Node, Node),
     inputs: &[bool],
-    expected: bool,
-) -> Result<(), NoMemory> {
-    let found = value(rt, alloc, circuit, node, inputs)?;
-    assert!(rt; found == expected);
-    Ok(())
+) {
+    let left = true_tuples(rt, alloc, circuit, a, inputs);
+    let right = true_tuples(rt, alloc, circuit, b, inputs);
+    assert!(rt; value(rt, alloc, circuit, within, inputs) == left.is_subset(&right));
+    assert!(rt; value(rt, alloc, circuit, equal, inputs) == (left == right));
 }
 
 // That the counter has the truth of the count, for numbers up to one above the length.
-fn count_agrees(rt: &impl Abort, alloc: Global, rows: &[[u16; 3]]) -> Result<(), NoMemory> {
+fn count_agrees(rt: &impl Abort, alloc: Global, rows: &[[u16; 3]]) {
     assert!(rt; rows.len() <= 4);
     for n in 0..rows.len() as u32 + 2 {
-        count_agrees_at(rt, alloc, rows, n)?;
+        count_agrees_for(rt, alloc, rows, n);
     }
-    Ok(())
 }
 
 // That it has for this number, at every value of the inputs.
-fn count_agrees_at(
-    rt: &impl Abort,
-    alloc: Global,
-    rows: &[[u16; 3]],
-    n: u32,
-) -> Result<(), NoMemory> {
+fn count_agrees_for(rt: &impl Abort, alloc: Global, rows: &[[u16; 3]], n: u32) {
     assert!(rt; rows.len() <= 4);
-    let count = rows.len();
-    let mut circuit = Circuit::new(alloc, count as u32);
-    let a = matrix(rt, alloc, &mut circuit, 3, rows, 0)?;
+    let mut circuit = Circuit::new(alloc, rows.len() as u32);
+    let a = matrix(rt, alloc, &mut circuit, 3, rows, 0);
     assert!(rt; may_count(&circuit, &a, n));
-    let node = a.at_least(alloc, &mut circuit, n)?;
-    for bits in 0..1u32 << count {
-        let inputs = inputs_of(alloc, bits, count)?;
-        let set = true_tuples(rt, alloc, &circuit, &a, &inputs)?;
-        says(rt, alloc, &circuit, node, &inputs, set.len() >= n as usize)?;
+    let node = a.at_least(alloc, &mut circuit, n).expect(rt, "memory");
+    for bits in 0..1u32 << rows.len() {
+        let inputs = inputs_of(rt, alloc, bits, rows.len());
+        let set = true_tuples(rt, alloc, &circuit, &a, &inputs);
+        assert!(rt; value(rt, alloc, &circuit, node, &inputs) == (set.len() >= n as usize));
     }
-    Ok(())
 }
 
 // Places for tuples of any arity.
@@ -407,107 +393,123 @@ const ONE: [[u16; 3]; 1] = [[1, 1, 1]];
 const NONE: [[u16; 3]; 0] = [];
 
 #[test]
-fn union_minus_and_meet_are_those_of_sets(rt: HostRuntime) -> Result<(), Fail> {
+fn union_minus_and_meet_are_those_of_sets(rt: HostRuntime) {
     for operator in [Operator::Union, Operator::Minus, Operator::Meet] {
         for arity in 1..4u8 {
-            agrees(&rt, rt.alloc(), operator, (arity, &A), (arity, &B))?;
-            agrees(&rt, rt.alloc(), operator, (arity, &NONE), (arity, &A))?;
-            agrees(&rt, rt.alloc(), operator, (arity, &A), (arity, &NONE))?;
+            agrees(&rt, rt.alloc(), operator, (arity, &A), (arity, &B));
+            agrees(&rt, rt.alloc(), operator, (arity, &NONE), (arity, &A));
+            agrees(&rt, rt.alloc(), operator, (arity, &A), (arity, &NONE));
         }
     }
-    Ok(())
 }
 
 #[test]
-fn products_and_joins_are_those_of_sets(rt: HostRuntime) -> Result<(), Fail> {
+fn products_are_those_of_sets(rt: HostRuntime) {
     for (m, n) in [(1, 1), (1, 2), (2, 1)] {
-        agrees(&rt, rt.alloc(), Operator::Product, (m, &A), (n, &B))?;
-        agrees(&rt, rt.alloc(), Operator::Product, (m, &NONE), (n, &B))?;
+        agrees(&rt, rt.alloc(), Operator::Product, (m, &A), (n, &B));
+        agrees(&rt, rt.alloc(), Operator::Product, (m, &NONE), (n, &B));
     }
+}
+
+#[test]
+fn joins_are_those_of_sets(rt: HostRuntime) {
     for (m, n) in [(1, 2), (2, 1), (1, 3), (3, 1), (2, 2), (2, 3), (3, 2)] {
-        agrees(&rt, rt.alloc(), Operator::Join, (m, &A), (n, &B))?;
-        agrees(&rt, rt.alloc(), Operator::Join, (m, &B), (n, &A))?;
-        agrees(&rt, rt.alloc(), Operator::Join, (m, &A), (n, &NONE))?;
+        agrees(&rt, rt.alloc(), Operator::Join, (m, &A), (n, &B));
+        agrees(&rt, rt.alloc(), Operator::Join, (m, &B), (n, &A));
+        agrees(&rt, rt.alloc(), Operator::Join, (m, &A), (n, &NONE));
     }
-    agrees(&rt, rt.alloc(), Operator::Join, (2, &C), (2, &C))?;
-    Ok(())
+    agrees(&rt, rt.alloc(), Operator::Join, (2, &C), (2, &C));
 }
 
 #[test]
-fn override_and_restriction_are_those_of_sets(rt: HostRuntime) -> Result<(), Fail> {
-    agrees(&rt, rt.alloc(), Operator::Over, (2, &A), (2, &B))?;
-    agrees(&rt, rt.alloc(), Operator::Over, (2, &C), (2, &A))?;
-    agrees(&rt, rt.alloc(), Operator::Over, (2, &C), (2, &NONE))?;
-    agrees(&rt, rt.alloc(), Operator::Over, (2, &NONE), (2, &C))?;
+fn overrides_are_those_of_sets(rt: HostRuntime) {
+    agrees(&rt, rt.alloc(), Operator::Over, (2, &A), (2, &B));
+    agrees(&rt, rt.alloc(), Operator::Over, (2, &C), (2, &A));
+    agrees(&rt, rt.alloc(), Operator::Over, (2, &C), (2, &NONE));
+    agrees(&rt, rt.alloc(), Operator::Over, (2, &NONE), (2, &C));
+}
+
+#[test]
+fn restrictions_are_those_of_sets(rt: HostRuntime) {
     for arity in 1..4u8 {
-        agrees(&rt, rt.alloc(), Operator::Dom, (arity, &A), (1, &B))?;
-        agrees(&rt, rt.alloc(), Operator::Ran, (arity, &B), (1, &A))?;
-        agrees(&rt, rt.alloc(), Operator::Ran, (arity, &A), (1, &ONE))?;
+        agrees(&rt, rt.alloc(), Operator::Dom, (arity, &A), (1, &B));
+        agrees(&rt, rt.alloc(), Operator::Ran, (arity, &B), (1, &A));
+        agrees(&rt, rt.alloc(), Operator::Ran, (arity, &A), (1, &ONE));
     }
-    Ok(())
 }
 
 #[test]
-fn closure_and_transposition_are_those_of_sets(rt: HostRuntime) -> Result<(), Fail> {
-    closure_agrees(&rt, rt.alloc(), &CYCLE)?;
-    closure_agrees(&rt, rt.alloc(), &PATH)?;
-    closure_agrees(&rt, rt.alloc(), &ONE)?;
-    closure_agrees(&rt, rt.alloc(), &NONE)?;
-    Ok(())
+fn closure_and_transposition_are_those_of_sets(rt: HostRuntime) {
+    closure_agrees(&rt, rt.alloc(), &CYCLE);
+    closure_agrees(&rt, rt.alloc(), &PATH);
+    closure_agrees(&rt, rt.alloc(), &ONE);
+    closure_agrees(&rt, rt.alloc(), &NONE);
 }
 
 #[test]
-fn subset_and_equality_are_those_of_sets(rt: HostRuntime) -> Result<(), Fail> {
-    comparison_agrees(&rt, rt.alloc(), &A, &B)?;
-    comparison_agrees(&rt, rt.alloc(), &B, &A)?;
-    comparison_agrees(&rt, rt.alloc(), &NONE, &B)?;
-    comparison_agrees(&rt, rt.alloc(), &A, &NONE)?;
-    comparison_agrees(&rt, rt.alloc(), &ONE, &ONE)?;
-    Ok(())
+fn subset_and_equality_are_those_of_sets(rt: HostRuntime) {
+    comparison_agrees(&rt, rt.alloc(), &A, &B);
+    comparison_agrees(&rt, rt.alloc(), &B, &A);
+    comparison_agrees(&rt, rt.alloc(), &NONE, &B);
+    comparison_agrees(&rt, rt.alloc(), &A, &NONE);
+    comparison_agrees(&rt, rt.alloc(), &ONE, &ONE);
 }
 
 #[test]
-fn counts_are_those_of_sets(rt: HostRuntime) -> Result<(), Fail> {
-    count_agrees(&rt, rt.alloc(), &C)?;
-    count_agrees(&rt, rt.alloc(), &ONE)?;
-    count_agrees(&rt, rt.alloc(), &NONE)?;
-    Ok(())
+fn counts_are_those_of_sets(rt: HostRuntime) {
+    count_agrees(&rt, rt.alloc(), &C);
+    count_agrees(&rt, rt.alloc(), &ONE);
+    count_agrees(&rt, rt.alloc(), &NONE);
+}
+
+// The node for a tuple of the first three pairs, or of none.
+fn cell(rt: &impl Abort, circuit: &mut Circuit, a: &Matrix, places: [u16; 3]) -> Node {
+    assert!(rt; a.is_of(circuit) && !circuit.is_full());
+    a.cell(circuit, &tuple(2, places)).expect(rt, "memory")
 }
 
 #[test]
-fn a_tuple_that_is_not_there_is_false(rt: HostRuntime) -> Result<(), Fail> {
-    let alloc = rt.alloc();
-    let mut circuit = Circuit::new(alloc, 3);
-    let a = matrix(&rt, alloc, &mut circuit, 2, &A, 0)?;
-    assert!(rt; a.is_of(&circuit) && !circuit.is_full());
-    let there = a.cell(&mut circuit, &tuple(2, A[0]))?;
-    assert!(rt; a.is_of(&circuit) && !circuit.is_full());
-    let absent = a.cell(&mut circuit, &tuple(2, [2, 2, 0]))?;
-    assert!(rt; value(&rt, alloc, &circuit, there, &[true, false, false])?);
-    assert!(rt; !value(&rt, alloc, &circuit, absent, &[true, true, true])?);
-    assert!(rt; a.node(&tuple(2, A[1])).is_some() && a.node(&tuple(2, [2, 2, 0])).is_none());
-    assert_eq!(rt; a.copy(alloc)?.entries().len(), 3);
-    Ok(())
+fn a_tuple_that_is_not_there_is_false(rt: HostRuntime) {
+    let mut circuit = Circuit::new(rt.alloc(), 3);
+    let a = matrix(&rt, rt.alloc(), &mut circuit, 2, &A, 0);
+    let there = cell(&rt, &mut circuit, &a, A[0]);
+    let absent = cell(&rt, &mut circuit, &a, [2, 2, 0]);
+    assert!(rt; value(&rt, rt.alloc(), &circuit, there, &[true, false, false]));
+    assert!(rt; !value(&rt, rt.alloc(), &circuit, absent, &[true, true, true]));
 }
 
 #[test]
-fn a_union_in_the_other_order_is_quick(rt: HostRuntime) -> Result<(), Fail> {
-    let mut circuit = Circuit::new(rt.alloc(), 1);
-    let mut low = Matrix::new(rt.alloc(), 1);
-    let mut high = Matrix::new(rt.alloc(), 1);
-    assert!(rt; !circuit.is_full());
-    let node = circuit.input(0)?;
+fn tuples_that_are_there_have_nodes(rt: HostRuntime) {
+    let mut circuit = Circuit::new(rt.alloc(), 3);
+    let a = matrix(&rt, rt.alloc(), &mut circuit, 2, &A, 0);
+    assert!(rt; a.node(&tuple(2, A[1])).is_some());
+    assert!(rt; a.node(&tuple(2, [2, 2, 0])).is_none());
+    let copy = a.copy(rt.alloc()).expect(&rt, "memory");
+    assert_eq!(rt; copy.entries().len(), 3);
+}
+
+// A matrix of 900 atoms from this place on, all with the first input's node.
+fn atoms_from(rt: &impl Abort, alloc: Global, circuit: &mut Circuit, first: u16) -> Matrix {
+    let mut out = Matrix::new(alloc, 1);
     for place in 0..900u16 {
-        let (a, b) = (Tuple::single(at(place)), Tuple::single(at(place + 1000)));
-        assert!(rt; !low.has(&a) && !high.has(&b));
-        assert!(rt; low.arity() == 1 && high.arity() == 1);
-        low.put(a, node)?;
-        high.put(b, node)?;
+        put(
+            rt,
+            circuit,
+            &mut out,
+            [place.saturating_add(first), 0, 0],
+            0,
+        );
     }
-    assert!(rt; high.arity() == low.arity());
-    assert!(rt; are_small(&circuit, &high, &low));
-    let all = high.union(rt.alloc(), &mut circuit, &low)?;
+    out
+}
+
+#[test]
+fn a_union_in_the_other_order_is_quick(rt: HostRuntime) {
+    let mut circuit = Circuit::new(rt.alloc(), 1);
+    let low = atoms_from(&rt, rt.alloc(), &mut circuit, 0);
+    let high = atoms_from(&rt, rt.alloc(), &mut circuit, 1000);
+    let all = of_matrices(&rt, rt.alloc(), &mut circuit, Operator::Union, &high, &low);
+    let all = all.expect(&rt, "memory");
     assert_eq!(rt; all.entries().len(), 1800);
     assert_eq!(rt; circuit.len(), 1);
-    Ok(())
 }

@@ -1,4 +1,4 @@
-//! Tests of the crates of the band Circuits, in a crate of their own: so none of those is proved a second time for its tests.
+//! Tests of `rel_translate`, in a crate of their own: so it isn't proved a second time for its tests.
 #![tactic(auto)]
 
 #[cfg(test)]

@@ -1,4 +1,4 @@
-// Clauses one after another in a flat store.
+//! Clauses one after another in a flat store.
 #![tactic(auto)]
 
 mod code;

@@ -1,4 +1,4 @@
-// Literals, clauses, formulas in clause form, and valuations.
+//! Literals, clauses, formulas in clause form, and valuations.
 #![tactic(auto)]
 
 mod clause;

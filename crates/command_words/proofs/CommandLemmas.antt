@@ -1,10 +1,16 @@
 -- The options of a command, from the first one on.
-use Rattle.std.proofs.Common.{◌≡◌, ◌⊎◌, ℕ, List, Option, None, Some, IfNone, [], ◌∷◌, codes, length, refl, sym, subst, ap, ◌∙◌, arith, inl, inr}
-use Rattle.command_words.specs.Words.{AreOptions, Says, SaysNone}
-use Rattle.command_words.specs.Read.{BeginsWithOption, HasNoOption, IsLastBudget, IsLastWorkers}
+use Rattle.std.proofs.Common.{◌≡◌, ◌⊎◌, ℕ, List, [], ◌∷◌, codes, length, refl, sym, subst, ap, ◌∙◌, arith, inl, inr}
+use Rattle.command_words.specs.Words.{AreOptions, IsBudget, IsWorkers, Says}
 use Rattle.command_words.specs.declared.reading.Command.{Command}
 use Rattle.command_words.specs.declared.reading.Command.TheVariants.{Run, Check}
-use Rattle.command_words.proofs.OptionLemmas.{begins_once, not_both, some_words, alone, is_alone}
+use Rattle.command_words.proofs.OptionLemmas.{BeginsWithOption, begins_once, not_both, some_words, alone}
+
+-- the option alone, or no words and its default
+abbrev pub IsLastBudget : List (List ℕ) → ℕ → Type 0
+IsLastBudget words n = ((words ≡ []) × (n ≡ 20000)) ⊎ IsBudget words n
+
+abbrev pub IsLastWorkers : List (List ℕ) → ℕ → Type 0
+IsLastWorkers words n = ((words ≡ []) × (n ≡ 4)) ⊎ IsWorkers words n
 
 pub record FromWorkers (words : List (List ℕ)) (workers budget : ℕ) : Type 0 where
   pub rest : List (List ℕ)
@@ -35,23 +41,6 @@ from_first words workers budget (inr (inr (inr (inl both)))) =
 from_first words workers budget (inr (inr (inr (inr both)))) =
     inr (inr (record { rest = both.back; begins = record { front = both.front; in_order = both.in_order; option = both.first }; last = inr both.second }))
 
-pub none_are : AreOptions [] 4 20000
-none_are = inl (refl, refl, refl)
-
-pub workers_first : (words : List (List ℕ)) (workers budget : ℕ) → FromWorkers words workers budget → AreOptions words workers budget
-workers_first words workers budget from =
-    elim from.last [
-      | inl last ↦ inr (inl (is_alone (codes "--workers") 1 16 words workers from.rest from.begins last.0, last.1))
-      | inr last ↦ inr (inr (inr (inl (record { front = from.begins.front; back = from.rest; in_order = from.begins.in_order; first = from.begins.option; second = last }))))
-    ]
-
-pub budget_first : (words : List (List ℕ)) (workers budget : ℕ) → FromBudget words workers budget → AreOptions words workers budget
-budget_first words workers budget from =
-    elim from.last [
-      | inl last ↦ inr (inr (inl (is_alone (codes "--budget") 0 100000 words budget from.rest from.begins last.0, last.1)))
-      | inr last ↦ inr (inr (inr (inr (record { front = from.begins.front; back = from.rest; in_order = from.begins.in_order; first = from.begins.option; second = last }))))
-    ]
-
 -- ---- last options
 
 pub last_budget_once : (words : List (List ℕ)) (n m : ℕ) → IsLastBudget words n → IsLastBudget words m → n ≡ m
@@ -65,58 +54,6 @@ last_workers_once words n m (inl a) (inl b) = a.1 ∙ sym b.1
 last_workers_once words n m (inl a) (inr b) = absurd (some_words (codes "--workers") 1 16 words m [] (alone (codes "--workers") 1 16 words m b) a.0)
 last_workers_once words n m (inr a) (inl b) = absurd (some_words (codes "--workers") 1 16 words n [] (alone (codes "--workers") 1 16 words n a) b.0)
 last_workers_once words n m (inr a) (inr b) = (begins_once (codes "--workers") 1 16 words n m [] [] (alone (codes "--workers") 1 16 words n a) (alone (codes "--workers") 1 16 words m b)).number_is
-
--- with words behind it an option isn't the last one
-pub not_last_budget : (words : List (List ℕ)) (n : ℕ) (rest : List (List ℕ)) → BeginsWithOption (codes "--budget") 0 100000 words n rest → (rest ≡ [] → ⊥) → (m : ℕ) → IsLastBudget words m → ⊥
-not_last_budget words n rest begins some m (inl none) = some_words (codes "--budget") 0 100000 words n rest begins none.0
-not_last_budget words n rest begins some m (inr last) = some (begins_once (codes "--budget") 0 100000 words n m rest [] begins (alone (codes "--budget") 0 100000 words m last)).rest_is
-
-pub not_last_workers : (words : List (List ℕ)) (n : ℕ) (rest : List (List ℕ)) → BeginsWithOption (codes "--workers") 1 16 words n rest → (rest ≡ [] → ⊥) → (m : ℕ) → IsLastWorkers words m → ⊥
-not_last_workers words n rest begins some m (inl none) = some_words (codes "--workers") 1 16 words n rest begins none.0
-not_last_workers words n rest begins some m (inr last) = some (begins_once (codes "--workers") 1 16 words n m rest [] begins (alone (codes "--workers") 1 16 words m last)).rest_is
-
--- words that aren't none and begin with no option are no last one
-pub no_last_budget : (words : List (List ℕ)) → (words ≡ [] → ⊥) → HasNoOption (codes "--budget") 0 100000 words → (m : ℕ) → IsLastBudget words m → ⊥
-no_last_budget words some no_option m (inl none) = some none.0
-no_last_budget words some no_option m (inr last) = no_option m [] (alone (codes "--budget") 0 100000 words m last)
-
-pub no_last_workers : (words : List (List ℕ)) → (words ≡ [] → ⊥) → HasNoOption (codes "--workers") 1 16 words → (m : ℕ) → IsLastWorkers words m → ⊥
-no_last_workers words some no_option m (inl none) = some none.0
-no_last_workers words some no_option m (inr last) = no_option m [] (alone (codes "--workers") 1 16 words m last)
-
--- ---- refused options
-
--- where the workers come first, and no budget behind them
-pub bad_behind_workers : (words : List (List ℕ)) (n : ℕ) (rest : List (List ℕ)) → BeginsWithOption (codes "--workers") 1 16 words n rest → ((m : ℕ) → IsLastBudget rest m → ⊥) → (workers budget : ℕ) → AreOptions words workers budget → ⊥
-unfolding FromFirst
-bad_behind_workers words n rest begins none workers budget are =
-    elim (from_first words workers budget are) [
-      | inl nothing ↦ some_words (codes "--workers") 1 16 words n rest begins nothing.none
-      | inr (inl from) ↦
-          let once = begins_once (codes "--workers") 1 16 words n workers rest from.rest begins from.begins in
-          none budget (subst (λ (r : List (List ℕ)). IsLastBudget r budget) (sym once.rest_is) from.last)
-      | inr (inr from) ↦ not_both words n budget rest from.rest begins from.begins
-    ]
-
-pub bad_behind_budget : (words : List (List ℕ)) (n : ℕ) (rest : List (List ℕ)) → BeginsWithOption (codes "--budget") 0 100000 words n rest → ((m : ℕ) → IsLastWorkers rest m → ⊥) → (workers budget : ℕ) → AreOptions words workers budget → ⊥
-unfolding FromFirst
-bad_behind_budget words n rest begins none workers budget are =
-    elim (from_first words workers budget are) [
-      | inl nothing ↦ some_words (codes "--budget") 0 100000 words n rest begins nothing.none
-      | inr (inl from) ↦ not_both words workers n from.rest rest from.begins begins
-      | inr (inr from) ↦
-          let once = begins_once (codes "--budget") 0 100000 words n budget rest from.rest begins from.begins in
-          none workers (subst (λ (r : List (List ℕ)). IsLastWorkers r workers) (sym once.rest_is) from.last)
-    ]
-
-pub bad_first : (words : List (List ℕ)) → (words ≡ [] → ⊥) → HasNoOption (codes "--workers") 1 16 words → HasNoOption (codes "--budget") 0 100000 words → (workers budget : ℕ) → AreOptions words workers budget → ⊥
-unfolding FromFirst
-bad_first words some no_workers no_budget workers budget are =
-    elim (from_first words workers budget are) [
-      | inl nothing ↦ some nothing.none
-      | inr (inl from) ↦ no_workers workers from.rest from.begins
-      | inr (inr from) ↦ no_budget budget from.rest from.begins
-    ]
 
 -- ---- one command
 
@@ -164,16 +101,3 @@ one_command words (Run workers budget) (Run others other) a b =
 one_command words (Run workers budget) Check a b = absurd (run_differs a.0 words a.1 b)
 one_command words Check (Run workers budget) a b = absurd (run_differs b.0 words b.1 a)
 one_command words Check Check a b = refl
-
--- ---- answers of calls
-
-pub if_none : {X : Type 0} (r : Option X) {P Q : Type 0} → (P → Q) → IfNone r P → IfNone r Q
-if_none None f p = f p
-if_none (Some x) f p = tt
-
--- words that begin with `run` and go on with no options
-pub no_options : (words : List (List ℕ)) (word : List ℕ) (rest : List (List ℕ)) → words ≡ word ∷ rest → word ≡ codes "run" → ((workers budget : ℕ) → AreOptions rest workers budget → ⊥) → SaysNone words
-no_options words word rest e is none (Run workers budget) says =
-    let options : says.0 ≡ rest = cc (e, says.1) in
-    none workers budget (subst (λ (ws : List (List ℕ)). AreOptions ws workers budget) options says.2)
-no_options words word rest e is none Check says = run_differs rest words (e ∙ ap (λ w. w ∷ rest) is) says

@@ -1,3 +1,8 @@
-pub mod Digits
 pub mod OptionLemmas
 pub mod CommandLemmas
+pub mod LongWords
+pub mod Options
+pub mod Program
+pub mod Numbers
+pub mod Said
+pub mod ReadNumber

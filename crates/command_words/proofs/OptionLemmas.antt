@@ -1,9 +1,17 @@
 -- An option at the front of words.
-use Rattle.std.proofs.Common.{◌≡◌, ◌≤◌, ◌<◌, ◌⊎◌, ℕ, Option, None, Some, IfNone, List, [], ◌∷◌, ◌++◌, codes, length, get_or, refl, sym, subst, ap, ◌∙◌, arith, inl, inr, append_assoc, length-append}
+use Rattle.std.proofs.Common.{◌≡◌, ◌⊎◌, ℕ, List, [], ◌∷◌, ◌++◌, codes, length, get_or, sym, subst, ap, ◌∙◌, arith, inl, inr, append_assoc, length-append}
 use Rattle.std.proofs.lemmas.List.{append-nil}
-use Rattle.std.specs.declared.string.String.{String}
-use Rattle.command_words.specs.Words.{IsNumber, number_after, IsOption}
-use Rattle.command_words.specs.Read.{texts, IsValue, HasNoValue, BeginsWithOption, HasNoOption}
+use Rattle.command_words.specs.Words.{number_after, IsOption}
+
+-- the words begin with the option's name and this value
+abbrev pub IsValue : List ℕ → List (List ℕ) → List ℕ → List (List ℕ) → Type 0
+IsValue name words value rest = (words ≡ name ∷ value ∷ rest) ⊎ (words ≡ (name ++ codes "=" ++ value) ∷ rest)
+
+-- the words begin with the option and this number
+pub record BeginsWithOption (name : List ℕ) (low high : ℕ) (words : List (List ℕ)) (n : ℕ) (rest : List (List ℕ)) : Type 0 where
+  pub front : List (List ℕ)
+  pub in_order : words ≡ front ++ rest
+  pub option : IsOption name low high front n
 
 same_behind : (xs a b : List ℕ) → xs ++ a ≡ xs ++ b → a ≡ b
 same_behind [] a b e = e
@@ -32,40 +40,6 @@ given_value name word front words rest e (inr is) = inr (e ∙ ap (λ ws. ws ++ 
 
 pub begin_value : (name : List ℕ) (low high : ℕ) (words : List (List ℕ)) (n : ℕ) (rest : List (List ℕ)) (begins : BeginsWithOption name low high words n rest) → IsValue name words begins.option.word rest
 begin_value name low high words n rest begins = given_value name begins.option.word begins.front words rest begins.in_order begins.option.given
-
--- without a value there is no option
-pub no_value : (name : List ℕ) (low high : ℕ) (words : List (List ℕ)) → HasNoValue name words → HasNoOption name low high words
-no_value name low high words none n rest begins = none begins.option.word rest (begin_value name low high words n rest begins)
-
--- nor where the value is no number
-pub no_number : (name : List ℕ) (low high : ℕ) (words : List (List ℕ)) (value : List ℕ) (rest : List (List ℕ)) → IsValue name words value rest → (IsNumber value → ⊥) → HasNoOption name low high words
-no_number name low high words value rest is none n others begins =
-    let once = value_once name words begins.option.word value others rest (begin_value name low high words n others begins) is in
-    none (subst IsNumber once.value_is begins.option.number)
-
--- nor where the number is out of its range
-pub not_in_range : (name : List ℕ) (low high : ℕ) (words : List (List ℕ)) (value : List ℕ) (rest : List (List ℕ)) → IsValue name words value rest
-    → ((low ≤ number_after 0 value) → (number_after 0 value ≤ high) → ⊥) → HasNoOption name low high words
-not_in_range name low high words value rest is none n others begins =
-    let once = value_once name words begins.option.word value others rest (begin_value name low high words n others begins) is in
-    let same : n ≡ number_after 0 value = begins.option.is ∙ ap (number_after 0) once.value_is in
-    let least = begins.option.least in
-    let most = begins.option.most in
-    none (omega arith) (omega arith)
-
--- else there is one
-pub option_is : (name : List ℕ) (low high : ℕ) (words : List (List ℕ)) (value : List ℕ) (n : ℕ) (rest : List (List ℕ)) → IsValue name words value rest → IsNumber value → n ≡ number_after 0 value → low ≤ n → n ≤ high
-    → BeginsWithOption name low high words n rest
-option_is name low high words value n rest (inl is) number e least most = record {
-  front = name ∷ value ∷ [];
-  in_order = is;
-  option = record { word = value; number = number; is = e; least = least; most = most; given = inl refl };
-}
-option_is name low high words value n rest (inr is) number e least most = record {
-  front = (name ++ codes "=" ++ value) ∷ [];
-  in_order = is;
-  option = record { word = value; number = number; is = e; least = least; most = most; given = inr refl };
-}
 
 pub record SameOption (n m : ℕ) (rest others : List (List ℕ)) : Type 0 where
   pub number_is : n ≡ m
@@ -103,24 +77,3 @@ alone name low high words n is = record { front = words; in_order = sym (append-
 pub is_alone : (name : List ℕ) (low high : ℕ) (words : List (List ℕ)) (n : ℕ) (rest : List (List ℕ)) → BeginsWithOption name low high words n rest → rest ≡ [] → IsOption name low high words n
 is_alone name low high words n rest begins none =
     subst (λ (ws : List (List ℕ)). IsOption name low high ws n) (sym (begins.in_order ∙ ap (λ r. begins.front ++ r) none ∙ append-nil begins.front)) begins.option
-
--- ---- answers of calls
-
-pub same_head : (x y : List ℕ) (xs ys : List (List ℕ)) → x ∷ xs ≡ y ∷ ys → x ≡ y
-same_head x y xs ys e = cc
-
-pub any_none : {X : Type 0} (r : Option X) {P : Type 0} → P → IfNone r P
-any_none None p = p
-any_none (Some x) p = tt
-
-pub from_none : {X : Type 0} (r : Option X) {P : Type 0} → IfNone r P → r ≡ None → P
-from_none None p e = p
-from_none (Some x) p e = absurd (cc)
-
-pub some_texts : {Z : Type 0} (words : List (String Z)) → 0 < length words → texts words ≡ [] → ⊥
-some_texts [] some e = absurd (omega arith)
-some_texts (w ∷ words) some e = absurd (omega (arith, ap length e))
-
-pub none_texts : {Z : Type 0} (words : List (String Z)) → length words ≡ 0 → texts words ≡ []
-none_texts [] none = refl
-none_texts (w ∷ words) none = absurd (omega arith)

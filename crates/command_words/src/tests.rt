@@ -8,7 +8,7 @@ fn said(alloc: Global, words: &[&str]) -> Result<Option<Command>, AllocError> {
     for word in words {
         owned.push(String::from_str(alloc, word)?)?;
     }
-    Ok(command_of(&owned))
+    command_of(alloc, &owned)
 }
 
 fn run(workers: u32, budget: u32) -> Option<Command> {
@@ -17,7 +17,7 @@ fn run(workers: u32, budget: u32) -> Option<Command> {
 
 #[test]
 fn right_words_say_a_command(rt: HostRuntime) -> Result<(), Fail> {
-    let rows: [(&[&str], Option<Command>); 12] = [
+    let rows: [(&[&str], Option<Command>); 14] = [
         (&["check"], Some(Command::Check)),
         (&["run"], run(4, 20000)),
         (&["run", "--workers", "1"], run(1, 20000)),
@@ -32,6 +32,8 @@ fn right_words_say_a_command(rt: HostRuntime) -> Result<(), Fail> {
         (&["run", "--workers", "2", "--budget", "3"], run(2, 3)),
         (&["run", "--budget", "3", "--workers", "2"], run(2, 3)),
         (&["run", "--budget=3", "--workers=2"], run(2, 3)),
+        (&["run", "--budget=3", "--workers", "2"], run(2, 3)),
+        (&["run", "--workers=2", "--budget=3"], run(2, 3)),
         (&["run", "--workers", "2", "--budget=3"], run(2, 3)),
     ];
     for (words, command) in rows {
@@ -41,29 +43,70 @@ fn right_words_say_a_command(rt: HostRuntime) -> Result<(), Fail> {
 }
 
 #[test]
-fn other_words_say_none(rt: HostRuntime) -> Result<(), Fail> {
-    let rows: [&[&str]; 40] = [
+fn other_commands_are_none(rt: HostRuntime) -> Result<(), Fail> {
+    let rows: [&[&str]; 20] = [
         &[],
         &[""],
-        &["help"],
-        &["--help"],
-        &["-h"],
+        &["-"],
         &["--"],
+        &["-h"],
+        &["--help"],
+        &["-V"],
+        &["--version"],
+        &["help"],
+        &["help", "run"],
         &["runs"],
         &["Run"],
+        &["ru"],
         &["load", "1"],
+        &["--", "run"],
         &["check", "check"],
         &["check", "--workers", "4"],
+        &["check", "--"],
         &["check", ""],
         &["--workers", "4", "run"],
+    ];
+    for words in rows {
+        assert_eq!(rt; said(rt.alloc(), words)?, None);
+    }
+    Ok(())
+}
+
+#[test]
+fn other_options_are_none(rt: HostRuntime) -> Result<(), Fail> {
+    let rows: [&[&str]; 22] = [
         &["run", "run"],
+        &["run", "check"],
         &["run", ""],
+        &["run", "4"],
+        &["run", "-"],
         &["run", "--"],
         &["run", "-h"],
         &["run", "--help"],
         &["run", "help"],
         &["run", "--", "--workers", "4"],
         &["run", "--workers", "4", "--"],
+        &["run", "--workers", "--", "4"],
+        &["run", "--worker", "4"],
+        &["run", "--work", "4"],
+        &["run", "-workers", "4"],
+        &["run", "--=4"],
+        &["run", "--workers", "4", "--workers", "4"],
+        &["run", "--workers=4", "--workers=4"],
+        &["run", "--budget=1", "--workers=2", "--budget=1"],
+        &["run", "--workers", "4", "5"],
+        &["run", "--workers=4", "5"],
+        &["run", "--workers=4", "--budget=1", "x"],
+    ];
+    for words in rows {
+        assert_eq!(rt; said(rt.alloc(), words)?, None);
+    }
+    Ok(())
+}
+
+#[test]
+fn other_numbers_are_none(rt: HostRuntime) -> Result<(), Fail> {
+    let rows: [&[&str]; 24] = [
         &["run", "--workers"],
         &["run", "--workers="],
         &["run", "--workers", ""],
@@ -71,18 +114,23 @@ fn other_words_say_none(rt: HostRuntime) -> Result<(), Fail> {
         &["run", "--workers", "0"],
         &["run", "--workers", "17"],
         &["run", "--workers", "0000000004"],
+        &["run", "--workers=0000000004"],
         &["run", "--workers", "+4"],
+        &["run", "--workers=+4"],
         &["run", "--workers", "-4"],
+        &["run", "--workers=-4"],
         &["run", "--workers", " 4"],
         &["run", "--workers", "4a"],
         &["run", "--workers==4"],
-        &["run", "--worker", "4"],
-        &["run", "-workers", "4"],
+        &["run", "--workers", "four"],
         &["run", "--budget", "100001"],
-        &["run", "--workers", "4", "--workers", "4"],
-        &["run", "--budget=1", "--workers=2", "--budget=1"],
-        &["run", "--workers", "4", "5"],
-        &["run", "--workers=4", "--budget=1", "x"],
+        &["run", "--budget=999999999"],
+        &["run", "--budget", "-0"],
+        &["run", "--budget=-0"],
+        &["run", "--budget", "18446744073709551617"],
+        &["run", "--workers", "17", "--budget", "1"],
+        &["run", "--workers=0", "--budget=1"],
+        &["run", "--budget=x", "--workers=4"],
     ];
     for words in rows {
         assert_eq!(rt; said(rt.alloc(), words)?, None);

@@ -1,5 +1,6 @@
 -- Words that say another command, or none.
-use Rattle.std.proofs.Common.{◌≡◌, ◌≤◌, ◌∙◌, inl, inr, ℕ, List, sym, subst, arith}
+use Rattle.std.proofs.Common.{◌≡◌, ◌≤◌, ◌∙◌, inl, inr, ℕ, List, Option, Some, None, sym, subst, arith}
+use Rattle.std.specs.Prelude.{IfSome, IfNone}
 use Rattle.command_words.specs.declared.reading.Command.{Command}
 use Rattle.command_words.specs.declared.reading.Command.TheVariants.{Run, Check}
 use Rattle.command_words.specs.Words.{Says, SaysNone, AreOptions}
@@ -44,3 +45,10 @@ few_of_options words workers budget (inr (inr (inr (inr both)))) = both.first.mo
 
 pub few_budget : (words : List (List ℕ)) (workers budget : ℕ) → Says words (Run workers budget) → budget ≤ 100000
 few_budget words workers budget says = few_of_options says.0 workers budget says.2
+
+-- what is answered of the words, where the answer is known
+pub some_said : (words : List (List ℕ)) (said : Option Command) (command : Command) → said ≡ Some command → IfSome said (Says words) → Says words command
+some_said words said command e h = subst (λ (s : Option Command). IfSome s (Says words)) e h
+
+pub none_said : (words : List (List ℕ)) (said : Option Command) → said ≡ None → IfNone said (SaysNone words) → SaysNone words
+none_said words said e h = subst (λ (s : Option Command). IfNone s (SaysNone words)) e h

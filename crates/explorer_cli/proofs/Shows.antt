@@ -19,6 +19,7 @@ use Rattle.session_rules.specs.Steps.{ShowsNext, EndsNow, OffersCells, MayAnswer
 use Rattle.session_rules.specs.Sound.{IsSound}
 use Rattle.session_rules.specs.Transcripts.{showings, ComesToEnd, Serves}
 use Rattle.session_rules.specs.declared.answers.Reply.{Reply}
+use Rattle.session_rules.proofs.Runs.{states_join, runs_joined}
 use Rattle.session_rules.specs.declared.answers.Reply.TheVariants as reply
 use Rattle.explorer_cli.specs.Runs.{Shows, ShowsNew}
 
@@ -70,19 +71,11 @@ answered p s x r xs h = let run = subst (MachineRun p s) h.read h.run in run.0
 
 -- ---- runs, one after the other
 
-pub states_join : (s : State) (xs ys : List Exchange) → state_after s (xs ++ ys) ≡ state_after (state_after s xs) ys
-states_join s [] ys = refl
-states_join s (x ∷ xs) ys = states_join (after s x.reply) xs ys
-
-runs_join : (p : Bounded) (s : State) (xs ys : List Exchange) → MachineRun p s xs → MachineRun p (state_after s xs) ys → MachineRun p s (xs ++ ys)
-runs_join p s [] ys run later = later
-runs_join p s (x ∷ xs) ys run later = (run.0, runs_join p (after s x.reply) xs ys run.1 later)
-
 pub reached_on : (p : Bounded) (s : State) (xs : List Exchange) → IsReached p s → MachineRun p s xs → IsReached p (state_after s xs)
 reached_on p s xs r run = record {
   budget = r.budget;
   exchanges = r.exchanges ++ xs;
-  run = runs_join p (Start r.budget) r.exchanges xs r.run (subst (λ (t : State). MachineRun p t xs) r.state run);
+  run = runs_joined p (Start r.budget) r.exchanges xs r.run (subst (λ (t : State). MachineRun p t xs) r.state run);
   state = ap (λ (t : State). state_after t xs) r.state ∙ sym (states_join (Start r.budget) r.exchanges xs);
 }
 

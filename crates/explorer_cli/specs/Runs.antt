@@ -66,14 +66,14 @@ pub record IsShownBefore (p : Bounded) (replies : List Reply) (floors : List (Li
   pub once : AllPairs (λ x y. x ≢ y) shown
   pub told : (earlier : ℕ) (reply : Reply) (x : List ℕ) → earlier < place → IsReplyAt replies floors earlier reply floor → Shows reply x → Contains shown x
 
--- the floor has ended at this place: all that is due was shown, and that were so many
+-- the floor has ended at this place: all that is due counts as shown, and that is so many
 pub record EndsAt (p : Bounded) (replies : List Reply) (floors : List (List ℕ)) (place : ℕ) (floor : List ℕ) (number : ℕ) : Type 0 where
   pub shown : List (List ℕ)
   pub before : IsShownBefore p replies floors place floor shown
   pub all : (x : List ℕ) → IsDue p floor x → Contains shown x
   pub number_is : number ≡ length shown
 
--- the cells are all that some instance adds to the last scenario that was shown at the floor before this place, in order
+-- the cells are all that some instance adds to a scenario that is due at the floor, in order
 pub record OffersAt (p : Bounded) (replies : List Reply) (floors : List (List ℕ)) (place : ℕ) (floor cells : List ℕ) : Type 0 where
   pub earlier : List (List ℕ)
   pub current : List ℕ

@@ -35,7 +35,6 @@ pub fn answer_to(alloc: Global, budget: u32, bytes: &[u8]) -> Result<Answer, All
 // The answer to a script.
 fn answer_script(alloc: Global, budget: u32, script: &Script) -> Result<Answer, AllocError>
     requires budget { budget ≤ 100000 }
-    requires few { length script.now.sessions ≤ 64 }
     requires named { All (λ x. x.model < length script.now.models) script.now.sessions }
     requires small { All (λ m. length m.text ≤ 1048576) script.now.models }
     requires allowed { All (λ x. All IsAllowed x.commands) script.now.sessions }

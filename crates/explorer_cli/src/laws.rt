@@ -61,7 +61,8 @@ pub fn none_is_shown_twice()
     a_run_is_sound();
 }
 
-/// At an end all that is due at the floor was shown there, and the end's number is how many that were.
+/// At an end all that is due at the floor counts as shown there, what replies showed before is among it, and the end's number is
+/// how many scenarios these are.
 pub fn an_end_shows_all()
     ensures { (p : Bounded) (budget : ℕ) (commands : List CommandData) (replies : List Reply) (floors : List (List ℕ)) → AreRepliesOn p budget commands replies floors
         → (place number : ℕ) (proof : ProofOfEnd) (floor : List ℕ) → IsReplyAt replies floors place (End number proof) floor → EndsAt p replies floors place floor number }
@@ -78,7 +79,8 @@ pub fn a_list_has_all()
     an_all_lists_what_is_due();
 }
 
-/// Offers are exactly the cells that some instance adds to the current scenario, which is the last one shown at the floor.
+/// Offers are exactly the cells that some instance adds to a scenario that is due at the floor: the machine says that it is the
+/// current one.
 pub fn offers_are_possible()
     ensures { (p : Bounded) (budget : ℕ) (commands : List CommandData) (replies : List Reply) (floors : List (List ℕ)) → AreRepliesOn p budget commands replies floors
         → (place : ℕ) (cells floor : List ℕ) → IsReplyAt replies floors place (Offers cells) floor → OffersAt p replies floors place floor cells }

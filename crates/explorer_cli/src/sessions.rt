@@ -13,7 +13,7 @@ use script_text::session_text;
 use std::alloc::{AllocError, Global};
 use translation::Translation;
 
-/// The texts of at most 64 sessions, one after the other, each served from the start with this budget over the translation of
+/// The texts of sessions, one after the other, each served from the start with this budget over the translation of
 /// the model of its place. The budgets are at most 100,000, and each session asks for at most 20,000 scenarios.
 pub fn text_of_sessions(
     alloc: Global,
@@ -21,7 +21,6 @@ pub fn text_of_sessions(
     sessions: &[SessionEntry],
     models: &[Option<Translation>],
 ) -> Result<Vec<u8>, AllocError>
-    requires few { length sessions.now ≤ 64 }
     requires budget { budget ≤ 100000 }
     requires translated { All (IsTranslated models.now) sessions.now }
     requires allowed { All (λ x. All IsAllowed x.commands) sessions.now }
@@ -30,9 +29,9 @@ pub fn text_of_sessions(
 {
     texts_go_on();
     let mut text = Vec::new(alloc);
-    for (place, session) in sessions.iter().enumerate() {
+    for session in sessions {
         let translation = translation_of(models, session);
-        let lines = run(alloc, place as u32 + 1, budget, session, translation)?;
+        let lines = run(alloc, budget, session, translation)?;
         text.extend_from_slice(&lines)?;
     }
     Ok(text)
@@ -49,10 +48,9 @@ fn translation_of<'a>(models: &'a [Option<Translation>], session: &SessionEntry)
     }
 }
 
-// The text of a session that is served, under this number, over the translation of its problem, with nothing imported.
+// The text of a session that is served over the translation of its problem, with nothing imported.
 fn run(
     alloc: Global,
-    owner: u32,
     budget: u32,
     session: &SessionEntry,
     translation: &Translation,
@@ -65,7 +63,6 @@ fn run(
     let _ = translation.problem();
     let pool = Log::new(alloc);
     let commands = session.commands.commands();
-    let key = session.model;
-    let transcript = serve(alloc, owner, key, budget, translation, &pool, commands)?;
+    let transcript = serve(alloc, budget, translation, &pool, commands)?;
     Ok(session_text(alloc, session.name.text(), translation, &transcript)?)
 }

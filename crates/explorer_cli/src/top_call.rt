@@ -27,8 +27,8 @@ pub fn explore<S: Source, K: Sink>(
 ) -> u8
     ensures status { IsStatus result }
 
-    // The words are refused exactly where they say no command; then nothing is read.
-    ensures refused { SaysNone (texts words.now) → ((result ≡ 2) ⊎ (result ≡ 6)) × (source.new ≡ source.old) }
+    // The words are refused exactly where they say no command; then nothing is read. Reading the words may want memory.
+    ensures refused { SaysNone (texts words.now) → ((result ≡ 2) ⊎ (result ≡ 6) ⊎ (result ≡ 7)) × (source.new ≡ source.old) }
     ensures taken { (c : Said) → Says (texts words.now) c → result ≢ 2 }
     ensures words_line { K.tells sink.old → result ≡ 2 → K.written sink.new ≡ K.written sink.old ++ words_line }
     ensures words_part { K.tells sink.old → SaysNone (texts words.now) → result ≡ 6 → AppendsPart (K.written sink.old) (K.written sink.new) words_line }
@@ -62,9 +62,10 @@ pub fn explore<S: Source, K: Sink>(
         → HasFailed result ⊎ ((bytes : List ℕ) × check.Wrote bytes result (K.written sink.old) (K.written sink.new)) }
     ensures check_untold_part { K.tells sink.old → Says (texts words.now) Check → result ≡ 6 → (bytes : List ℕ) × check.IsPartOfAnswer bytes (K.written sink.old) (K.written sink.new) }
 {
-    match command_of(words) {
-        None => finish(sink, 2, b"fault words\n"),
-        Some(Command::Run { budget, .. }) => run_script(alloc, budget, source, sink),
-        Some(Command::Check) => check_proof(alloc, source, sink),
+    match command_of(alloc, words) {
+        Err(_) => 7,
+        Ok(None) => finish(sink, 2, b"fault words\n"),
+        Ok(Some(Command::Run { budget, .. })) => run_script(alloc, budget, source, sink),
+        Ok(Some(Command::Check)) => check_proof(alloc, source, sink),
     }
 }

@@ -17,7 +17,8 @@ use Rattle.session_rules.specs.Evidence.{NeedsEvidence, HasEvidence}
 use Rattle.session_rules.specs.declared.answers.Refusal.{Refusal}
 use Rattle.session_rules.specs.declared.answers.Reply.{Reply}
 use Rattle.session_rules.specs.declared.answers.Reply.TheVariants as reply
-use Rattle.explorer_run.proofs.Transcribed.{states_join, runs_joined, backed_joined}
+use Rattle.session_rules.proofs.Runs.{states_join, runs_joined}
+use Rattle.explorer_run.proofs.Transcribed.{backed_joined}
 use Rattle.explorer_run.specs.Serving.{AreBacked, CommandStep}
 use Rattle.explorer_run.specs.Showing.{next_number, HasShown, IsFirst}
 

@@ -19,20 +19,13 @@ use Rattle.session_rules.specs.Transcripts.{Serves, IsTranscript}
 use Rattle.session_rules.specs.Evidence.{NeedsEvidence, HasEvidence}
 use Rattle.session_rules.specs.Sound.{IsSound}
 use Rattle.session_rules.specs.declared.answers.Reply.{Reply}
+use Rattle.session_rules.proofs.Runs.{states_join, runs_joined}
 use Rattle.session_store.specs.Stored.{Stored}
 use Rattle.session_search.specs.Fits.{FitsProblem}
 use Rattle.session_search.proofs.Here.{floor_here}
 use Rattle.explorer_run.specs.Serving.{IsEndProof, IsOn, IsPrintable, AreBacked, CommandStep}
 
 -- one run after the other
-pub states_join : (s : State) (xs ys : List Exchange) → state_after s (xs ++ ys) ≡ state_after (state_after s xs) ys
-states_join s [] ys = refl
-states_join s (x ∷ xs) ys = states_join (after s x.reply) xs ys
-
-pub runs_joined : (p : Bounded) (s : State) (xs ys : List Exchange) → MachineRun p s xs → MachineRun p (state_after s xs) ys → MachineRun p s (xs ++ ys)
-runs_joined p s [] ys run later = later
-runs_joined p s (x ∷ xs) ys (step, run) later = (step, runs_joined p (after s x.reply) xs ys run later)
-
 pub backed_joined : (t : Translated) (pool : List LogStep) (s : State) (xs ys : List Exchange) → AreBacked t pool s xs → AreBacked t pool (state_after s xs) ys → AreBacked t pool s (xs ++ ys)
 backed_joined t pool s [] ys backed later = later
 backed_joined t pool s (x ∷ xs) ys (first, backed) later = (first, backed_joined t pool (after s x.reply) xs ys backed later)

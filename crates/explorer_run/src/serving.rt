@@ -51,16 +51,15 @@ pub fn answer(
     }
 }
 
-/// Serves a session from the start, with this number, key and budget, to the last of its commands: one reply for each, and the
-/// top floor before it.
+/// Serves a session from the start, with this budget, to the last of its commands: one reply for each, and the top floor before
+/// it.
 ///
 /// The replies are those of a run of the session machine over the translation's problem; each proof that one makes, and each
-/// spent budget, is right over the translation and the pool; and they can be printed over the translation. The budgets are at most 100,000, and the commands ask for at most 20,000 scenarios. The pool is an accepted log
-/// over the translation's clauses, of at most 20,000 steps. The error comes only for want of memory.
+/// spent budget, is right over the translation and the pool; and they can be printed over the translation. The budgets are at
+/// most 100,000, and the commands ask for at most 20,000 scenarios. The pool is an accepted log over the translation's clauses,
+/// of at most 20,000 steps. The error comes only for want of memory.
 pub fn serve(
     alloc: Global,
-    owner: u32,
-    key: u32,
     budget: u32,
     translation: &Translation,
     pool: &Log,
@@ -76,7 +75,7 @@ pub fn serve(
     ensures printable { IfOk result (λ t. AllZip (IsPrintable translation.now) t.floors t.replies) }
 {
     a_run_is_sound();
-    let mut session = Session::new(alloc, owner, key, budget)?;
+    let mut session = Session::new(alloc, 0, 0, budget)?;
     let mut replies = Vec::new(alloc);
     let mut floors = Vec::new(alloc);
     for command in commands {

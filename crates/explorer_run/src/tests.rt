@@ -110,7 +110,7 @@ fn served(rt: &impl Abort, alloc: Global) -> Result<Transcript, AllocError> {
     let translation = translated(rt, alloc)?;
     let pool = Log::new(alloc);
     let commands = commands(alloc)?;
-    serve(alloc, 1, 2, 1000, &translation, &pool, commands.as_slice())
+    serve(alloc, 1000, &translation, &pool, commands.as_slice())
 }
 
 // What a reply says: numbers, and sets of the three cells, each an octal digit.

@@ -1,4 +1,4 @@
-//! Tests of the crates that read texts, in a crate of their own: so none of those is proved a second time for its tests.
+//! Tests of `alloy_parse`, in a crate of their own: so it isn't proved a second time for its tests.
 #![tactic(auto)]
 
 #[cfg(test)]

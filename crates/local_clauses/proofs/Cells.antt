@@ -2,7 +2,7 @@
 use Rattle.std.proofs.Common.{◌≡◌, ◌↔◌, inl, inr, ◌<◌, ◌≤◌, ◌+◌, ◌^◌, ℕ, zero, suc, Bool, true, false, not, cond, List, [], ◌∷◌, ◌++◌, map, take, filter, length, get_or, All, AllPairs, Contains, refl, sym, ◌∙◌, ap, subst, arith}
 use Rattle.std.specs.Prelude.{nat_eq}
 use Rattle.std.specs.List.{list_any, range_with_len}
-use Rattle.std.proofs.lemmas.Bool.{cases_Bool}
+use Rattle.std.proofs.lemmas.Bool.{cases_Bool, cases_lt}
 use Rattle.std.proofs.lemmas.List.{map-append, append_assoc, append-nil}
 use Rattle.std.proofs.lemmas.List.Elements.{filter-append, All-map, All-filter}
 use Rattle.std.proofs.lemmas.List.Kept.{AllPairs-filter}
@@ -20,6 +20,20 @@ use Rattle.translation_rules.proofs.Tests.{any_number}
 -- the first elements, one more of them
 one_more : {X : Type 0} (xs : List X) (i : ℕ) (d : X) → i < length xs → take (i + 1) xs ≡ take i xs ++ get_or xs i d ∷ []
 one_more xs i d l = ap (λ n. take n xs) (let e : i + 1 ≡ suc i = omega arith in e) ∙ take-suc xs i d l
+
+-- rising numbers below another are at most as many
+rising_at : (s : List ℕ) → AllPairs (λ m n. m < n) s → (k : ℕ) (d : ℕ) → k < length s → k ≤ get_or s k d
+rising_at s up zero d h = omega arith
+rising_at s up (suc k) d h =
+    let before = rising_at s up k d (omega arith) in
+    let step = up k (suc k) d (omega arith) h in
+    omega arith
+
+pub few_cells : (count : ℕ) (s : List ℕ) → AllPairs (λ m n. m < n) s → All (λ n. n < count) s → length s ≤ count
+few_cells count s up below = elim (cases_lt count (length s)) [
+  | inl more ↦ let high = rising_at s up count 0 more in let low = below count 0 more in absurd (omega arith)
+  | inr few ↦ few
+]
 
 -- whether a scenario has a cell
 tested : (s : List ℕ) (n : ℕ) (b : Bool) → (b ≡ true) ↔ Contains s n → list_any (nat_eq n) s ≡ b

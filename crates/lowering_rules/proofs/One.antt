@@ -2,8 +2,6 @@
 use Rattle.std.proofs.Common.{◌≡◌, ◌≢◌, ℕ, zero, suc, inl, inr, ◌<◌, ◌≤◌, ◌^◌, List, [], ◌∷◌, length, Contains, All, AllPairs, Result, Ok, Err, refl, sym, ◌∙◌, ap, subst, arith}
 use Rattle.std.specs.List.{AllZip}
 use Rattle.std.proofs.lemmas.Slice.Zip.{AllZip-long}
-use Rattle.std.specs.Prelude.{remove}
-use Rattle.std.proofs.lemmas.List.Sorted.{IsPermutation-remove, Contains-permutation, length_permutation}
 use Rattle.std.proofs.lemmas.List.Elements.{All-head, All-tail, All-contains}
 use Rattle.tuple_core.specs.Operators.{Pred}
 use Rattle.tuple_core.specs.Rows.{Rows, IsRows, IsSetOf}
@@ -12,7 +10,8 @@ use Rattle.rel_formula.specs.declared.problem.Relation.{Relation}
 use Rattle.rel_formula.specs.declared.problem.Cell.{Cell}
 use Rattle.rel_formula.specs.Bounds.{Bounded, IsRelation, IsProblem, cells_of}
 use Rattle.rel_formula.proofs.Lists.{some-Contains, some_below}
-use Rattle.rel_formula.proofs.Open.{open_cell, cons_cases, cons_later}
+use Rattle.rel_formula.proofs.Counts.{no_longer}
+use Rattle.rel_formula.proofs.Open.{open_cell}
 use Rattle.rel_terms.specs.Terms.{HasTerms}
 use Rattle.named_model.specs.declared.fault.NameFault.{NameFault}
 use Rattle.named_model.specs.Model.{NamedTree}
@@ -69,21 +68,6 @@ problem_once m n facts p q ip iq op oq =
 
 -- ---- not refused
 
--- a list of different items is no longer than one that has them all
-pub fewer : {X : Type 0} (xs ys : List X) → AllPairs (λ x y. x ≢ y) xs → ((x : X) → Contains xs x → Contains ys x) → length xs ≤ length ys
-fewer [] ys differ has = omega arith
-fewer (x ∷ xs) ys differ has =
-    let at = has x (zero, omega arith, refl) in
-    let rest = remove ys at.0 in
-    let moved = IsPermutation-remove ys at.0 x at.1 (sym at.2) in
-    let less = fewer xs rest (λ i j e p q. differ (suc i) (suc j) e (omega arith) (omega arith)) (λ y c.
-    elim (cons_cases x rest y (Contains-permutation ys (x ∷ rest) y moved (has y (cons_later x xs y c)))) [
-      | inl same ↦ absurd (differ zero (suc c.0) y (omega arith) (let l = c.1 in omega arith) (same ∙ sym c.2))
-      | inr later ↦ later
-    ]) in
-    let long = length_permutation ys (x ∷ rest) moved in
-    omega arith
-
 module _ (m : NamedTree) (n : ℕ) (facts : List ℕ) (p : Bounded) (is : IsProblem p) (of : ProblemOf m n facts p) where
   count : length p.relations ≡ length (outlines m of.sizes)
   count = AllZip-long (IsOutlined of.sizes) (outlines m of.sizes) p.relations of.relations
@@ -100,7 +84,7 @@ module _ (m : NamedTree) (n : ℕ) (facts : List ℕ) (p : Bounded) (is : IsProb
 
   pub few_cells : HasMoreCells of.sizes (outlines m of.sizes) 4096 → ⊥
   few_cells h =
-      let less = fewer h.cells (cells_of p) h.differ (λ c e. cell_has c (All-contains (IsCellOf of.sizes (outlines m of.sizes)) h.cells c h.each e)) in
+      let less = no_longer h.cells (cells_of p) h.differ (λ c e. cell_has c (All-contains (IsCellOf of.sizes (outlines m of.sizes)) h.cells c h.each e)) in
       let more = h.more in
       let few = is.few_cells in
       absurd (omega arith)

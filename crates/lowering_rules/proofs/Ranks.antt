@@ -16,7 +16,7 @@ use Rattle.named_model.specs.Model.{CalleeTree, NamedTree}
 use Rattle.named_model.specs.Faults.{callees_of, calls_within, recursive_from, recursive_faults, faults_in}
 use Rattle.named_model.specs.Declarations.{named_of}
 use Rattle.lowering_rules.specs.Calls.{IsRank}
-use Rattle.lowering_rules.proofs.One.{fewer}
+use Rattle.rel_formula.proofs.Counts.{no_longer}
 
 -- ---- tests over lists
 
@@ -195,7 +195,7 @@ module _ (callees : List (List ℕ)) where
 
     short : (qs : List ℕ) (c : ℕ) → c < count → IsWay c qs → length qs ≤ count + 1 → length qs < count
     short qs c l w few =
-        let less = fewer (c ∷ qs) (range_with_len 0 count) (distinct qs c l w few) (λ x h. numbered x (nodes_there qs c l w x h)) in
+        let less = no_longer (c ∷ qs) (range_with_len 0 count) (distinct qs c l w few) (λ x h. numbered x (nodes_there qs c l w x h)) in
         let long = length-range_with_len 0 count in
         omega arith
 

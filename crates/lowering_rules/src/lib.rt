@@ -2,7 +2,7 @@
 //! relations, the formula, and why there may be no problem.
 #![tactic(auto)]
 
-pub mod fault;
+mod fault;
 pub mod laws;
 
-pub use fault::LowerFault;
+pub use crate::fault::LowerFault;

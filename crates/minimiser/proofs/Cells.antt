@@ -3,14 +3,14 @@ use Rattle.std.proofs.Common.{◌≡◌, ◌≢◌, ◌↔◌, ◌⊎◌, inl, i
 use Rattle.std.specs.Prelude.{nat_eq}
 use Rattle.std.specs.List.{list_any, range_with_len}
 use Rattle.std.proofs.lemmas.Bool.{cases_lt}
-use Rattle.std.proofs.lemmas.Bool.Decides.{Decides-eqb}
 use Rattle.std.proofs.lemmas.List.Kept.{AllPairs-cons}
 use Rattle.std.proofs.lemmas.List.{length-map}
-use Rattle.std.proofs.lemmas.List.Elements.{All-contains, Contains-get_or}
+use Rattle.std.proofs.lemmas.List.Elements.{Contains-get_or}
 use Rattle.std.proofs.lemmas.List.FromFn.{length-range_with_len}
 use Rattle.cnf_core.specs.Literal.{negation_of}
 use Rattle.rel_formula.specs.Bounds.{Bounded, cells_of}
 use Rattle.rel_formula.specs.Instance.{Includes, with_cell}
+use Rattle.rel_formula.proofs.Counts.{no_longer}
 use Rattle.rel_formula.proofs.Open.{cons_cases}
 use Rattle.rel_formula.proofs.Single.{filter_shorter}
 use Rattle.rel_formula.proofs.WithCell.{with_cell_has}
@@ -18,8 +18,7 @@ use Rattle.swap_symmetry.proofs.Tried.{tried}
 use Rattle.translation_rules.specs.Translation.{var_of}
 use Rattle.translation_rules.specs.Descents.{IsProperPart, outside, descent_locals}
 use Rattle.translation_rules.specs.Locals.{literal_of, units_of, absence_in}
-use Rattle.translation_rules.proofs.Tests.{in_or_not, range_in}
-use Rattle.translation.proofs.Few.{no_more}
+use Rattle.translation_rules.proofs.Tests.{in_or_not}
 
 -- the cells below a number whose variables are true
 pub record Chosen (v : ℕ → Bool) (count : ℕ) (s : List ℕ) : Type 0 where
@@ -75,18 +74,11 @@ distinct s up i j d less l e = let h = up i j d less l in omega arith
 pub fewer : (s part : List ℕ) → AllPairs (λ m n. m < n) part → IsProperPart s part → length part < length s
 fewer s part up proper = elim (tried (λ n. Contains part n → ⊥) (Contains part) s (λ n c. elim (in_or_not n part) [ inl there ↦ inr there | inr no' ↦ inl no' ])) [
   | inl (x, c, out) ↦
-      let all = no_more (λ m n. m == n) Decides-eqb (x ∷ part) s (AllPairs-cons (λ m n. m ≢ n) x part (λ k d l e. out (subst (Contains part) (sym e) (Contains-get_or part k d l))) (distinct part up))
+      let all = no_longer (x ∷ part) s (AllPairs-cons (λ m n. m ≢ n) x part (λ k d l e. out (subst (Contains part) (sym e) (Contains-get_or part k d l))) (distinct part up))
       (λ n there. elim (cons_cases x part n there) [ inl same ↦ subst (Contains s) same c | inr later ↦ proper.0 n later ]) in
       omega arith
   | inr each ↦ absurd (proper.1 (λ n c. each n c))
 ]
-
--- rising numbers below another are at most as many
-pub few_cells : (count : ℕ) (s : List ℕ) → AllPairs (λ m n. m < n) s → All (λ n. n < count) s → length s ≤ count
-few_cells count s up below =
-    let long : length (range_with_len 0 count) ≡ count = length-range_with_len 0 count in
-    let all = no_more (λ m n. m == n) Decides-eqb s (range_with_len 0 count) (distinct s up) (λ n c. range_in count n (All-contains (λ k. k < count) s n below c)) in
-    omega arith
 
 -- a search of a descent has few local clauses
 pub few_locals : (p : Bounded) (floor scenario : List ℕ) → length floor ≤ length (cells_of p) → length (descent_locals p floor scenario) ≤ 2 * length (cells_of p) + 1

@@ -2,10 +2,10 @@
 #![tactic(auto)]
 
 pub mod laws;
-pub mod size;
+mod size;
 pub mod sizes;
 mod tables;
 #[cfg(test)]
 mod tests;
 
-pub use size::{Size, Sizes};
+pub use crate::size::{Size, Sizes};

@@ -1,7 +1,7 @@
 //! The sorts, arities and bounding types of a resolved tree, and which field a shared name is.
 #![tactic(auto)]
 
-pub mod fault;
+mod fault;
 pub mod laws;
 
-pub use fault::TypeFault;
+pub use crate::fault::TypeFault;

@@ -4,9 +4,11 @@ ghost use Rattle.outside_io.specs.Count.{Rose};
 ghost use Rattle.outside_io.specs.Front.{TakesFront};
 
 use std::alloc::{AllocError, Global};
+use thiserror::Error;
 
 /// A read or a write failed. The count of faults of the source or the sink rose in that call.
-#[derive(Clone, Copy, Debug, PartialEq, Eq)]
+#[derive(Clone, Copy, Debug, PartialEq, Eq, Error)]
+#[error("the source or the sink failed")]
 pub struct Failed;
 
 /// Where bytes come from.
@@ -37,11 +39,13 @@ pub trait Source {
 }
 
 /// Why not all was read.
-#[derive(Clone, Copy, Debug, PartialEq, Eq)]
+#[derive(Clone, Copy, Debug, PartialEq, Eq, Error)]
 pub enum ReadFault {
     /// The source failed.
+    #[error("the source failed")]
     Failed,
     /// There was no memory for the bytes.
+    #[error("no memory")]
     Memory,
 }
 

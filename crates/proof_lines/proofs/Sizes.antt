@@ -3,7 +3,7 @@ use Rattle.std.proofs.Common.{◌≡◌, ◌≤◌, ◌+◌, ℕ, List, length, 
 use Rattle.std.proofs.lemmas.List.{length-map}
 use Rattle.rel_formula.specs.Bounds.{cells_of}
 use Rattle.rel_formula.specs.Instance.{AreCells}
-use Rattle.minimiser.proofs.Cells.{few_cells}
+use Rattle.local_clauses.proofs.Cells.{few_cells}
 use Rattle.translation_rules.specs.Translation.{Translated}
 use Rattle.translation_rules.specs.Locals.{literal_of}
 use Rattle.translation.specs.Kept.{IsTranslation}

@@ -1,4 +1,4 @@
-// Logs of derived clauses, and the check that a log refutes a formula.
+//! Logs of derived clauses, and the check that a log refutes a formula.
 #![tactic(auto)]
 
 mod assumptions;

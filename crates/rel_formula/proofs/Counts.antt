@@ -28,13 +28,13 @@ distinct rows up i j d l h same =
     absurd (cc)
 
 -- a list with no element twice is no longer than one with the same elements
-fewer : {X : Type 0} (xs ys : List X) → AllPairs (λ x y. x ≢ y) xs → ((x : X) → Contains xs x → Contains ys x) → length xs ≤ length ys
-fewer [] ys d has = omega arith
-fewer (x ∷ xs) ys d has =
+pub no_longer : {X : Type 0} (xs ys : List X) → AllPairs (λ x y. x ≢ y) xs → ((x : X) → Contains xs x → Contains ys x) → length xs ≤ length ys
+no_longer [] ys d has = omega arith
+no_longer (x ∷ xs) ys d has =
     let at = has x (zero, omega arith, refl) in
     let rest = remove ys at.0 in
     let moved = IsPermutation-remove ys at.0 x at.1 (sym at.2) in
-    let less = fewer xs rest (λ i j e p q. d (suc i) (suc j) e (omega arith) (omega arith)) (λ y c.
+    let less = no_longer xs rest (λ i j e p q. d (suc i) (suc j) e (omega arith) (omega arith)) (λ y c.
     elim (Contains-append_cases (x ∷ []) rest y (Contains-permutation ys (x ∷ rest) y moved (has y (Contains-append_right (x ∷ []) xs y c)))) [
       | inl first ↦ absurd (elim (Contains-push_cases [] x y first) [ inl none ↦ (let l = none.1 in omega arith) | inr same ↦ d zero (suc c.0) y (omega arith) (let l = c.1 in omega arith) (same ∙ sym c.2) ])
       | inr later ↦ later
@@ -52,7 +52,7 @@ at_least {v} {m} {P} n distinct is = (
     λ k d q. let o : k < n = (let e = length-take-le n v.rows l in omega arith) in
         subst P (sym (get_or-take n v.rows k d o)) ((is.just (get_or v.rows k d)).0 (Contains-get_or v.rows k d (omega arith))),
   ),
-  λ h. let le = fewer h.0 v.rows h.2 (λ t c. (is.just t).1 (All-contains P h.0 t h.3 c)) in let e = h.1 in omega arith,
+  λ h. let le = no_longer h.0 v.rows h.2 (λ t c. (is.just t).1 (All-contains P h.0 t h.3 c)) in let e = h.1 in omega arith,
 )
 
 -- sets with the same tuples have one size

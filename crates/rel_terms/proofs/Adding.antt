@@ -11,7 +11,8 @@ use Rattle.rel_formula.specs.Sizes.{HasSize}
 use Rattle.rel_terms.specs.Numbers.{Number, Is, ◌⊕◌, ◌⊗◌, Only}
 use Rattle.rel_terms.specs.Counting.{Adds, AddsForEach}
 use Rattle.rel_terms.proofs.Numbers.{Once, only, only_is, only_sum, only_product}
-use Rattle.rel_terms.proofs.Sized.{size_once, size_same, rows_size, fewer}
+use Rattle.rel_formula.proofs.Counts.{no_longer}
+use Rattle.rel_terms.proofs.Sized.{size_once, size_same, rows_size}
 use Rattle.std.proofs.lemmas.List.Elements.{All-contains}
 
 pub adds_same : (C D : Number) (b a : ℕ) → ((n : ℕ) → C n → D n) → ((n : ℕ) → D n → C n) → Adds C b a → Adds D b a
@@ -85,7 +86,7 @@ size_of_rows v well = rows_size well (rows_are v)
 -- at least so many, and in all so many
 pub part_fits : (P : Pred) (m n : ℕ) → HasAtLeast m P → HasSize P n → m ≤ n
 part_fits P m n h s =
-    let l = fewer h.0 s.0 h.2 (λ t c. (s.1.just t).1 (All-contains P h.0 t h.3 c)) in
+    let l = no_longer h.0 s.0 h.2 (λ t c. (s.1.just t).1 (All-contains P h.0 t h.3 c)) in
     let e = h.1 in let f = s.2 in omega arith
 
 -- so many for each tuple of P, which has all of Q where the sum isn't above the limit

@@ -1,8 +1,6 @@
 -- Sizes of sets of tuples.
 use Rattle.std.proofs.Common.{◌≡◌, ◌≢◌, ℕ, zero, suc, ◌≤◌, ◌⊎◌, inl, inr, List, [], ◌∷◌, ◌++◌, AllPairs, All, Contains, length, refl, sym, ◌∙◌, ap, arith}
-use Rattle.std.specs.Prelude.{remove}
 use Rattle.std.proofs.lemmas.List.Elements.{Contains-append_cases, Contains-append_left, Contains-append_right, Contains-push_cases}
-use Rattle.std.proofs.lemmas.List.Sorted.{IsPermutation-remove, Contains-permutation, length_permutation}
 use Rattle.std.specs.declared.cmp.Ordering.TheVariants.{Less}
 use Rattle.tuple_core.specs.declared.atom.Atom.{Atom}
 use Rattle.tuple_core.specs.Operators.{Pred}
@@ -12,24 +10,9 @@ use Rattle.tuple_core.specs.Rows.{Rows, IsRows, IsSetOf}
 use Rattle.tuple_core.proofs.Ascending.{same_lists}
 use Rattle.rel_formula.specs.Sizes.{IsListOf, HasSize}
 use Rattle.rel_formula.proofs.Lists.{pairs_append}
-use Rattle.rel_formula.proofs.Counts.{distinct}
+use Rattle.rel_formula.proofs.Counts.{distinct, no_longer}
 use Rattle.rel_terms.specs.Numbers.{Only}
 use Rattle.rel_terms.proofs.Numbers.{Once, only}
-
--- a list with no element twice is no longer than one that has its elements
-pub fewer : {X : Type 0} (xs ys : List X) → AllPairs (λ x y. x ≢ y) xs → ((x : X) → Contains xs x → Contains ys x) → length xs ≤ length ys
-fewer [] ys d has = omega arith
-fewer (x ∷ xs) ys d has =
-    let at = has x (zero, omega arith, refl) in
-    let rest = remove ys at.0 in
-    let moved = IsPermutation-remove ys at.0 x at.1 (sym at.2) in
-    let less = fewer xs rest (λ i j e p q. d (suc i) (suc j) e (omega arith) (omega arith)) (λ y c.
-    elim (Contains-append_cases (x ∷ []) rest y (Contains-permutation ys (x ∷ rest) y moved (has y (Contains-append_right (x ∷ []) xs y c)))) [
-      | inl first ↦ absurd (elim (Contains-push_cases [] x y first) [ inl none ↦ (let l = none.1 in omega arith) | inr same ↦ d zero (suc c.0) y (omega arith) (let l = c.1 in omega arith) (same ∙ sym c.2) ])
-      | inr later ↦ later
-    ]) in
-    let long = length_permutation ys (x ∷ rest) moved in
-    omega arith
 
 pub list_once : (P : Pred) (ts us : List (List Atom)) → IsListOf P ts → IsListOf P us → ts ≡ us
 list_once P ts us a b = same_lists ts us a.ascending b.ascending (λ t c. (b.just t).1 ((a.just t).0 c)) (λ t c. (a.just t).1 ((b.just t).0 c))
@@ -46,7 +29,7 @@ size_same P Q n s h = (h.0, list_same P Q h.0 s h.1, h.2)
 -- a larger set has no fewer tuples
 pub size_within : (P Q : Pred) (n m : ℕ) → ((t : List Atom) → P t → Q t) → HasSize P n → HasSize Q m → n ≤ m
 size_within P Q n m to h g =
-    let l = fewer h.0 g.0 (distinct h.0 h.1.ascending) (λ t c. (g.1.just t).1 (to t ((h.1.just t).0 c))) in
+    let l = no_longer h.0 g.0 (distinct h.0 h.1.ascending) (λ t c. (g.1.just t).1 (to t ((h.1.just t).0 c))) in
     let e = h.2 in let f = g.2 in omega arith
 
 pub rows_list : {v : Rows} {n : ℕ} {P : Pred} → IsRows v → IsSetOf v n P → IsListOf P v.rows

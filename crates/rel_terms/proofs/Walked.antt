@@ -9,7 +9,7 @@ use Rattle.tuple_core.specs.Gains.{Same}
 use Rattle.tuple_core.specs.Rows.{Rows, IsRows, IsSetOf}
 use Rattle.tuple_core.proofs.Walks.{closed_more, has_walks}
 use Rattle.rel_formula.proofs.Counts.{distinct}
-use Rattle.rel_terms.proofs.Sized.{fewer}
+use Rattle.rel_formula.proofs.Counts.{no_longer}
 
 -- a list that is no longer than a part of it, each element of which stands in that part once, has no other element
 covers : {X : Type 0} (xs ys : List X) → AllPairs (λ x y. x ≢ y) xs → ((x : X) → Contains xs x → Contains ys x) → length ys ≤ length xs → (y : X) → Contains ys y → Contains xs y
@@ -41,7 +41,7 @@ module _ (base walks longer more : Rows) (n m : ℕ) (pairs : All (λ t. length 
   ]
 
   pub walks_grow : IsRows walks → length walks.rows ≤ length more.rows
-  walks_grow well = fewer walks.rows more.rows (distinct walks.rows well.ascending) (λ t c. (both.just t).1 (inl c))
+  walks_grow well = no_longer walks.rows more.rows (distinct walks.rows well.ascending) (λ t c. (both.just t).1 (inl c))
 
   -- where no walk is new, all are there
   pub walks_closed : IsRows walks → length more.rows ≡ length walks.rows → ((t : List Atom) → Contains base.rows t → Contains walks.rows t) → Same (Contains walks.rows) (Closed (Contains base.rows))

@@ -70,7 +70,12 @@ fn assume(trail: &mut Trail, assumed: &[Lit], depth: &mut u32) -> Option<DeadEnd
 
 /// Decides what is assumed, then the open variables, and propagates, until each variable has a value, where it gives none, or a
 /// clause or an assumed literal is false. The decisions up to the level `depth` are assumed.
-pub(crate) fn descend(trail: &mut Trail, assumed: &[Lit], depth: &mut u32) -> Option<DeadEnd>
+pub(crate) fn descend(
+    trail: &mut Trail,
+    assumed: &[Lit],
+    depth: &mut u32,
+    value: bool,
+) -> Option<DeadEnd>
     requires in_range { All (IsVarIn trail.old.vars) assumed.now }
     requires closed_below { IsClosedBelow trail.old.clauses trail.old.assigned }
     requires first { IsAssumedFirst assumed.now depth.old trail.old.assigned }
@@ -84,7 +89,7 @@ pub(crate) fn descend(trail: &mut Trail, assumed: &[Lit], depth: &mut u32) -> Op
         return Some(end);
     }
     *depth = (*depth).min(trail.level());
-    'deciding: while let Some(_var) = trail.decide_next() {
+    'deciding: while let Some(_var) = trail.decide_next(value) {
         if let Propagated::Conflict(number) = trail.propagate() {
             return Some(DeadEnd::Conflict(number));
         }

@@ -33,13 +33,35 @@ pub enum Answer {
 /// pool's steps and the steps of this log, in this order.
 ///
 /// The literals of the local clauses of one literal are decided before all others: what is learnt carries the negations of
-/// those that it needs, and only a last empty step names these clauses.
+/// those that it needs, and only a last empty step names these clauses. Other variables are decided false.
 pub fn solve(
     alloc: Global,
     f: &Cnf,
     pool: &Log,
     local: &[Clause],
     budget: u64,
+) -> Result<Answer, NoMemory>
+    requires pool { IsAccepted f.now.clauses pool.now }
+    requires few { length f.now.clauses + length local.now + length pool.now + budget < 2 ^ 30 }
+    ensures log { IfOk result (λ a. IsSearchLog (members_of (f.now.clauses ++ local.now) pool.now) (log_of a)) }
+    ensures in_range { (n : ℕ) → All (HasVarsUpTo n) f.now.clauses → All (HasVarsUpTo n) local.now → All (λ s. HasVarsUpTo n s.clause) pool.now → IfOk result (λ a. All (λ s. HasVarsUpTo n s.clause) (log_of a)) }
+    ensures budget { IfOk result (λ a. length (log_of a) ≤ budget) }
+    ensures answer { IfOk result (IsRight f.now.vars (f.now.clauses ++ local.now) pool.now budget) }
+    ensures units { IfOk result (λ a. NamesNoUnits (length f.now.clauses) local.now (log_of a)) }
+    ensures last { IfOk result (λ a. HasEmptyOnlyLast (log_of a)) }
+{
+    solve_towards(alloc, f, pool, local, budget, false)
+}
+
+/// Searches as `solve` does, and decides the variables that are open to this value: where it is true, the valuation that is
+/// found makes many of them true.
+pub fn solve_towards(
+    alloc: Global,
+    f: &Cnf,
+    pool: &Log,
+    local: &[Clause],
+    budget: u64,
+    value: bool,
 ) -> Result<Answer, NoMemory>
     requires pool { IsAccepted f.now.clauses pool.now }
     requires few { length f.now.clauses + length local.now + length pool.now + budget < 2 ^ 30 }
@@ -57,7 +79,7 @@ pub fn solve(
     let mut depth = 0;
     let mut log = Log::new(alloc);
     'learning: loop {
-        let Some(end) = descend(&mut trail, assumed, &mut depth) else {
+        let Some(end) = descend(&mut trail, assumed, &mut depth, value) else {
             let valuation = found(alloc, &trail, assumed)?;
             return Ok(Answer::Found { valuation, log });
         };

@@ -89,6 +89,15 @@ order_raised vars falses old new waiting long was =
       waits = λ i o. ap (λ (bs : List Bool). get_or bs i false) waiting ∙ was.waits i o;
     }
 
+-- neither literal of an open variable is false
+open_with : (falses : List Lit) (var : ℕ) (value : Bool) → (Contains falses (record { var = var; positive = false }) → ⊥) → (Contains falses (record { var = var; positive = true }) → ⊥) → Contains falses (record { var = var; positive = value }) → ⊥
+open_with falses var false low high = low
+open_with falses var true low high = high
+
+-- nor is that of a decision
+pub open_decided : (falses : List Lit) (var : ℕ) (value : Bool) → IsOpen falses (record { var = var; positive = false }) → IsOpen falses (record { var = var; positive = value })
+open_decided falses var value o = (open_with falses var value o.0 o.1, open_with falses var (not value) o.0 o.1)
+
 -- a variable that has a value waits no more
 pub order_skipped : (vars : ℕ) (falses : List Lit) (order : OrderState) (place : ℕ) → (IsOpen falses (record { var = place + 1; positive = false }) → ⊥) → IsOrderOf vars falses order → IsOrderOf vars falses (with_waiting order place false)
 order_skipped vars falses order place valued was =
@@ -101,15 +110,15 @@ order_skipped vars falses order place valued was =
       ];
     }
 
--- nor does one that is made false
-pub order_taken : (vars : ℕ) (falses : List Lit) (order : OrderState) (place : ℕ) → IsOrderOf vars falses order → IsOrderOf vars (falses ++ record { var = place + 1; positive = true } ∷ []) (with_waiting order place false)
-order_taken vars falses order place was =
-    let l : Lit = record { var = place + 1; positive = true } in
+-- nor does one that gets a value
+pub order_taken : (vars : ℕ) (falses : List Lit) (order : OrderState) (place : ℕ) (value : Bool) → IsOrderOf vars falses order → IsOrderOf vars (falses ++ record { var = place + 1; positive = value } ∷ []) (with_waiting order place false)
+order_taken vars falses order place value was =
+    let l : Lit = record { var = place + 1; positive = value } in
     record {
       long = was.long;
       as_many = length-set order.waiting place false ∙ was.as_many;
       waits = λ i o. elim (cases_eq i place) [
-        | inl e ↦ absurd (o.is_open.1 (subst (λ (n : ℕ). Contains (falses ++ l ∷ []) (record { var = n + 1; positive = true })) (sym e) (Contains-push falses l)))
+        | inl e ↦ absurd (open_with (falses ++ l ∷ []) (i + 1) value o.is_open.0 o.is_open.1 (subst (λ (n : ℕ). Contains (falses ++ l ∷ []) (record { var = n + 1; positive = value })) (sym e) (Contains-push falses l)))
         | inr other ↦ get_or-set_other order.waiting place i false false other ∙ was.waits i (open_before vars falses (falses ++ l ∷ []) (i + 1) (λ k c. Contains-append_left falses (l ∷ []) k c) o)
       ];
     }

@@ -1,4 +1,4 @@
-ghost use Rattle.std.specs.Prelude.{◌≡◌, ◌++◌, ◌∷◌, [], ◌≤◌, true, List, All, MatchOption, length};
+ghost use Rattle.std.specs.Prelude.{◌≡◌, ◌++◌, ◌∷◌, [], ◌≤◌, Bool, List, All, MatchOption, length};
 ghost use Rattle.cnf_core.specs.Literal.{HasVarsUpTo};
 ghost use Rattle.clause_store.specs.Codes.{literals_of};
 ghost use Rattle.assignment_trail.specs.declared.assigned.Assigned.{Assigned};
@@ -14,7 +14,7 @@ use clause_store::Store;
 pub(crate) fn take_open(order: &mut ActivityOrder, now: &Assignment) -> Option<u32>
     requires { IsOrderOf now.now.vars (falses_of now.now.assigned) order.old }
     ensures next { MatchOption result (HasAllValues now.now.vars (falses_of now.now.assigned)) (IsOpenVar now.now.vars (falses_of now.now.assigned)) }
-    ensures order { MatchOption result (IsOrderOf now.now.vars (falses_of now.now.assigned) order.new) (λ var. IsOrderOf now.now.vars (falses_of now.now.assigned ++ record { var = var; positive = true } ∷ []) order.new) }
+    ensures order { MatchOption result (IsOrderOf now.now.vars (falses_of now.now.assigned) order.new) (λ var. (value : Bool) → IsOrderOf now.now.vars (falses_of now.now.assigned ++ record { var = var; positive = value } ∷ []) order.new) }
 {
     let _vars = now.vars();
     'taking: while let Some(place) = order.take_first() {

@@ -1,4 +1,4 @@
-// A trail over clauses: propagation with two watched literals a clause, and learning from a conflict.
+//! A trail over clauses: propagation with two watched literals a clause, and learning from a conflict.
 #![tactic(auto)]
 
 mod deciding;

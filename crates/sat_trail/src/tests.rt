@@ -1,170 +1,184 @@
-ghost use Rattle.std.specs.Prelude.{◌≡◌, ◌≤◌, IfOk, length};
+ghost use Rattle.std.specs.Prelude.{◌≡◌, ◌+◌, ◌≤◌, length};
 ghost use Rattle.cnf_core.specs.Literal.{HasVarsUpTo};
-ghost use Rattle.refutation_check.specs.Chain.{Refutes};
+ghost use Rattle.refutation_check.specs.Chain.{IsChain, Refutes};
 ghost use Rattle.assignment_trail.specs.Trail.{falses_of};
 
 use super::*;
 use cnf_core::{Clause, Cnf, Lit};
-use refutation_check::Log;
+use refutation_check::{Log, Step};
 use std::alloc::Global;
-use std::test::Fail;
+use std::process::Abort;
 
-const A: Lit = Lit {
-    var: 1,
-    positive: true,
-};
+/// All four clauses of two variables, which no valuation satisfies.
+const SQUARE: [[i8; 2]; 4] = [[1, 2], [1, -2], [-1, 2], [-1, -2]];
 
-const B: Lit = Lit {
-    var: 2,
-    positive: true,
-};
+/// Clauses by which a variable forces a second one, and that forces two others that cannot both be true.
+const IMPLICATIONS: [[i8; 2]; 4] = [[-1, 2], [-2, 3], [-2, 4], [-3, -4]];
 
-const C: Lit = Lit {
-    var: 3,
-    positive: true,
-};
-
-const D: Lit = Lit {
-    var: 4,
-    positive: true,
-};
-
-fn clause(alloc: Global, a: Lit, b: Lit) -> Result<Clause, Fail>
-    requires a { (1 ≤ a.var) × (a.var ≤ 4) }
-    requires b { (1 ≤ b.var) × (b.var ≤ 4) }
-    ensures { IfOk result (HasVarsUpTo 4) }
+/// The literal of one of four variables by its number in the DIMACS format.
+fn literal(number: i8) -> Lit
+    ensures from_one { 1 ≤ result.var }
+    ensures in_range { result.var ≤ 4 }
 {
-    match Clause::of(alloc, &[a, b])? {
-        Some(clause) => Ok(clause),
-        None => Err("a tautology")?,
+    Lit {
+        var: u32::from(number.unsigned_abs()).clamp(1, 4),
+        positive: number > 0,
     }
 }
 
-/// All four clauses of two variables, which no valuation satisfies, over four variables.
-fn square(alloc: Global) -> Result<Cnf, Fail>
-    ensures vars { IfOk result (λ f. f.vars ≡ 4) }
-    ensures few { IfOk result (λ f. length f.clauses ≡ 4) }
+fn clause(rt: &impl Abort, alloc: Global, numbers: [i8; 2]) -> Clause
+    ensures { HasVarsUpTo 4 result }
 {
-    let mut formula = Cnf::new(alloc, 4);
-    formula.push(clause(alloc, A, B)?)?;
-    formula.push(clause(alloc, A, B.negation())?)?;
-    formula.push(clause(alloc, A.negation(), B)?)?;
-    formula.push(clause(alloc, A.negation(), B.negation())?)?;
-    Ok(formula)
+    let lits = [literal(numbers[0]), literal(numbers[1])];
+    let clause = Clause::of(alloc, &lits).expect(rt, "memory");
+    clause.expect(rt, "no tautology")
 }
 
-/// Makes the literal true, which is open.
-fn decide(trail: &mut Trail, l: Lit) -> Result<(), Fail>
-    requires from_one { 1 ≤ l.var }
-    requires in_range { l.var ≤ trail.old.vars }
+fn add(rt: &impl Abort, alloc: Global, formula: &mut Cnf, numbers: [i8; 2])
+    requires vars { formula.old.vars ≡ 4 }
+    requires few { length formula.old.clauses ≤ 4 }
+    ensures vars { formula.new.vars ≡ 4 }
+    ensures one_more { length formula.new.clauses ≡ length formula.old.clauses + 1 }
+{
+    let clause = clause(rt, alloc, numbers);
+    formula.push(clause).expect(rt, "memory");
+}
+
+/// A trail over these clauses of four variables.
+fn trail_of(rt: &impl Abort, alloc: Global, clauses: [[i8; 2]; 4]) -> Trail
+    ensures vars { 4 ≤ result.vars }
+    ensures few { length result.clauses ≡ 4 }
+{
+    let mut formula = Cnf::new(alloc, 4);
+    add(rt, alloc, &mut formula, clauses[0]);
+    add(rt, alloc, &mut formula, clauses[1]);
+    add(rt, alloc, &mut formula, clauses[2]);
+    add(rt, alloc, &mut formula, clauses[3]);
+    let none = Log::new(alloc);
+    Trail::of(alloc, &formula, &none, &[]).expect(rt, "memory")
+}
+
+/// Makes the literal of this number true, which is open.
+fn decide(rt: &impl Abort, trail: &mut Trail, number: i8)
+    requires { 4 ≤ trail.old.vars }
     ensures vars { trail.new.vars ≡ trail.old.vars }
     ensures clauses { trail.new.clauses ≡ trail.old.clauses }
 {
-    match trail.value(l.var) {
-        None => trail.decide(l),
-        Some(_) => Err("not open")?,
+    let lit = literal(number);
+    match trail.value(lit.var) {
+        None => trail.decide(lit),
+        Some(_) => panic!(rt; "not open"),
     }
-    Ok(())
 }
 
 /// The clause that propagation finds falsified.
-fn conflict(trail: &mut Trail) -> Result<u32, Fail>
+fn conflict(rt: &impl Abort, trail: &mut Trail) -> u32
     ensures vars { trail.new.vars ≡ trail.old.vars }
     ensures clauses { trail.new.clauses ≡ trail.old.clauses }
-    ensures refuted { IfOk result (Refutes trail.new.clauses (falses_of trail.new.assigned)) }
+    ensures refuted { Refutes trail.new.clauses (falses_of trail.new.assigned) result }
 {
     match trail.propagate() {
-        Propagated::Conflict(number) => Ok(number),
-        Propagated::Closed => Err("no conflict")?,
+        Propagated::Conflict(number) => number,
+        Propagated::Closed => rt.panic("no conflict"),
     }
 }
 
-/// Clauses by which a variable forces a second one, and that forces two others that cannot both be true.
-fn implications(alloc: Global) -> Result<Cnf, Fail>
-    ensures vars { IfOk result (λ f. f.vars ≡ 4) }
-    ensures few { IfOk result (λ f. length f.clauses ≡ 4) }
+/// What is learnt from that clause.
+fn learnt(rt: &impl Abort, alloc: Global, trail: &mut Trail) -> Step
+    ensures vars { trail.new.vars ≡ trail.old.vars }
+    ensures clauses { trail.new.clauses ≡ trail.old.clauses }
+    ensures chain { IsChain trail.new.clauses result.clause result.hints }
+    ensures in_range { HasVarsUpTo trail.new.vars result.clause }
 {
-    let mut formula = Cnf::new(alloc, 4);
-    formula.push(clause(alloc, A.negation(), B)?)?;
-    formula.push(clause(alloc, B.negation(), C)?)?;
-    formula.push(clause(alloc, B.negation(), D)?)?;
-    formula.push(clause(alloc, C.negation(), D.negation())?)?;
-    Ok(formula)
+    let number = conflict(rt, trail);
+    learn(alloc, trail, number).expect(rt, "memory")
+}
+
+/// Goes back to level 0 and adds the step there, which is the fifth clause.
+fn add_fifth(rt: &impl Abort, trail: &mut Trail, step: Step)
+    requires few { length trail.old.clauses ≡ 4 }
+    requires chain { IsChain trail.old.clauses step.clause step.hints }
+    requires in_range { HasVarsUpTo trail.old.vars step.clause }
+{
+    trail.back_to(0);
+    let number = trail.add(step).expect(rt, "memory");
+    assert_eq!(rt; number, 5);
+}
+
+/// Whether the step has the literals of these numbers, and these hints.
+fn is_step(step: &Step, numbers: &[i8], hints: &[u32]) -> bool {
+    let lits = step.clause.lits();
+    lits.len() == numbers.len()
+        && lits
+            .iter()
+            .zip(numbers)
+            .all(|(lit, number)| *lit == literal(*number))
+        && step.hints.numbers() == hints
+}
+
+/// The level, and the values of the first two variables.
+fn state_of(trail: &Trail) -> (u32, Option<bool>, Option<bool>)
+    requires { 4 ≤ trail.now.vars }
+{
+    (trail.level(), trail.value(1), trail.value(2))
 }
 
 #[test]
-fn the_first_implication_point_is_learnt(rt: HostRuntime) -> Result<(), Fail> {
-    let alloc = rt.alloc();
-    let mut trail = Trail::of(alloc, &implications(alloc)?, &Log::new(alloc), &[])?;
-    decide(&mut trail, A)?;
-    let found = conflict(&mut trail)?;
-    let step = learn(alloc, &trail, found)?;
-    assert_eq!(rt; step.clause.lits(), [B.negation()].as_slice());
-    assert_eq!(rt; step.hints.numbers(), [3, 2, 4].as_slice());
-    Ok(())
+fn the_first_implication_point_is_learnt(rt: HostRuntime) {
+    let mut trail = trail_of(&rt, rt.alloc(), IMPLICATIONS);
+    decide(&rt, &mut trail, 1);
+    let step = learnt(&rt, rt.alloc(), &mut trail);
+    assert!(rt; is_step(&step, &[-2], &[3, 2, 4]));
 }
 
 #[test]
-fn going_back_opens_what_was_forced(rt: HostRuntime) -> Result<(), Fail> {
-    let alloc = rt.alloc();
-    let mut trail = Trail::of(alloc, &square(alloc)?, &Log::new(alloc), &[])?;
+fn going_back_opens_what_was_forced(rt: HostRuntime) {
+    let mut trail = trail_of(&rt, rt.alloc(), SQUARE);
     assert_eq!(rt; trail.propagate(), Propagated::Closed);
-    decide(&mut trail, A.negation())?;
-    let first = conflict(&mut trail)?;
-    assert_eq!(rt; (first, trail.level()), (1, 1));
+    decide(&rt, &mut trail, -1);
+    assert_eq!(rt; conflict(&rt, &mut trail), 1);
+    assert_eq!(rt; state_of(&trail), (1, Some(false), Some(false)));
+    trail.back_to(0);
+    assert_eq!(rt; state_of(&trail), (0, None, None));
+}
+
+#[test]
+fn two_conflicts_refute_the_square(rt: HostRuntime) {
+    let mut trail = trail_of(&rt, rt.alloc(), SQUARE);
+    decide(&rt, &mut trail, -1);
+    let first = learnt(&rt, rt.alloc(), &mut trail);
+    assert!(rt; is_step(&first, &[1], &[2, 1]));
+    add_fifth(&rt, &mut trail, first);
+    let last = learnt(&rt, rt.alloc(), &mut trail);
+    assert!(rt; is_step(&last, &[], &[5, 4, 3]));
+}
+
+#[test]
+fn the_first_variable_is_decided_where_nothing_was_met(rt: HostRuntime) {
+    let mut trail = trail_of(&rt, rt.alloc(), IMPLICATIONS);
+    assert_eq!(rt; trail.decide_next(true), Some(1));
+    assert_eq!(rt; trail.value(1), Some(true));
+}
+
+/// What is decided in five turns.
+fn decided(trail: &mut Trail) -> [Option<u32>; 5] {
+    [
+        trail.decide_next(false),
+        trail.decide_next(false),
+        trail.decide_next(false),
+        trail.decide_next(false),
+        trail.decide_next(false),
+    ]
+}
+
+#[test]
+fn what_a_step_met_is_decided_first(rt: HostRuntime) {
+    let mut trail = trail_of(&rt, rt.alloc(), IMPLICATIONS);
+    decide(&rt, &mut trail, 1);
+    let step = learnt(&rt, rt.alloc(), &mut trail);
+    add_fifth(&rt, &mut trail, step);
     assert_eq!(rt;
-        (trail.value(1), trail.value(2)),
-        (Some(false), Some(false))
+        decided(&mut trail),
+        [Some(2), Some(3), Some(4), Some(1), None]
     );
-    trail.back_to(0);
-    assert_eq!(rt;
-        (trail.level(), trail.value(1), trail.value(2)),
-        (0, None, None)
-    );
-    Ok(())
-}
-
-#[test]
-fn two_conflicts_refute_the_square(rt: HostRuntime) -> Result<(), Fail> {
-    let alloc = rt.alloc();
-    let mut trail = Trail::of(alloc, &square(alloc)?, &Log::new(alloc), &[])?;
-    decide(&mut trail, A.negation())?;
-    let first = conflict(&mut trail)?;
-    let step = learn(alloc, &trail, first)?;
-    assert_eq!(rt; step.clause.lits(), [A].as_slice());
-    assert_eq!(rt; step.hints.numbers(), [2, 1].as_slice());
-    trail.back_to(0);
-    assert_eq!(rt; trail.add(step)?, 5);
-    let second = conflict(&mut trail)?;
-    let last = learn(alloc, &trail, second)?;
-    assert_eq!(rt; last.clause.lits().len(), 0);
-    assert_eq!(rt; last.hints.numbers(), [5, 4, 3].as_slice());
-    Ok(())
-}
-
-#[test]
-fn the_first_variable_is_decided_where_nothing_was_met(rt: HostRuntime) -> Result<(), Fail> {
-    let alloc = rt.alloc();
-    let mut trail = Trail::of(alloc, &implications(alloc)?, &Log::new(alloc), &[])?;
-    assert_eq!(rt; trail.decide_next(), Some(1));
-    Ok(())
-}
-
-#[test]
-fn what_a_step_met_is_decided_first(rt: HostRuntime) -> Result<(), Fail> {
-    let alloc = rt.alloc();
-    let mut trail = Trail::of(alloc, &implications(alloc)?, &Log::new(alloc), &[])?;
-    decide(&mut trail, A)?;
-    let found = conflict(&mut trail)?;
-    let step = learn(alloc, &trail, found)?;
-    trail.back_to(0);
-    assert_eq!(rt; trail.add(step)?, 5);
-    let first = [
-        trail.decide_next(),
-        trail.decide_next(),
-        trail.decide_next(),
-    ];
-    assert_eq!(rt; first.as_slice(), [Some(2), Some(3), Some(4)].as_slice());
-    assert_eq!(rt; (trail.decide_next(), trail.decide_next()), (Some(1), None));
-    Ok(())
 }

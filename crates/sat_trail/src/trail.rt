@@ -288,11 +288,11 @@ impl Trail {
         });
     }
 
-    /// Makes the open variable of the greatest activity false, on a new level: the lowest of those that have it. None
+    /// Gives this value to the open variable of the greatest activity, on a new level: the lowest of those that have it. None
     /// where each variable has a value. It takes no memory.
-    pub fn decide_next(&mut self) -> Option<u32>
+    pub fn decide_next(&mut self, value: bool) -> Option<u32>
         ensures next { MatchOption result (HasAllValues self.old.vars (falses_of self.old.assigned)) (IsOpenVar self.old.vars (falses_of self.old.assigned)) }
-        ensures decided { MatchOption result (self.new ≡ self.old) (λ var. self.new ≡ decided self.old (record { var = var; positive = false })) }
+        ensures decided { MatchOption result (self.new ≡ self.old) (λ var. self.new ≡ decided self.old (record { var = var; positive = value })) }
         ensures few { length self.old.assigned ≤ self.old.vars + 1 }
     {
         let next_level = self.level() + 1;
@@ -300,7 +300,7 @@ impl Trail {
         self.assignment.assign(Assigned {
             lit: Lit {
                 var,
-                positive: false,
+                positive: value,
             },
             level: next_level,
             reason: None,

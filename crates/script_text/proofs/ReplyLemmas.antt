@@ -1,12 +1,11 @@
 -- The lines of replies, one reply more.
-use Rattle.std.proofs.Common.{◌≡◌, ℕ, zero, suc, ◌+◌, ◌<◌, List, [], ◌∷◌, ◌++◌, map, take, length, get_or, codes, decimal, refl, sym, ◌∙◌, ap, subst, arith, add-one, append_assoc}
-use Rattle.std.proofs.lemmas.List.{append-nil, map-append, length-take-le}
+use Rattle.std.proofs.Common.{◌≡◌, ℕ, zero, suc, ◌+◌, ◌<◌, List, [], ◌∷◌, ◌++◌, take, length, get_or, codes, decimal, refl, sym, ◌∙◌, ap, subst, arith, add-one, append_assoc}
+use Rattle.std.proofs.lemmas.List.{append-nil, length-take-le}
 use Rattle.std.proofs.Math.Seq.{take-suc}
 use Rattle.rel_formula.specs.Bounds.{Bounded}
 use Rattle.translation_rules.specs.Translation.{Translated}
-use Rattle.session_rules.specs.declared.reply.Reply.{Reply}
-use Rattle.session_rules.specs.declared.answers.Reply.{Reply as Answer}
-use Rattle.script_text.specs.Printed.{Printed, printed, all_printed, printed_next}
+use Rattle.session_rules.specs.declared.answers.Reply.{Reply}
+use Rattle.script_text.specs.Printed.{Printed, printed, all_printed}
 use Rattle.script_text.specs.Replies.{IsScenarioText, AreNumbered, IsReplyText, AreReplyTexts}
 
 pub texts_push : (p : Bounded) (xs : List Printed) (x : Printed) (lines text : List ℕ) → AreReplyTexts p xs lines → IsReplyText p x text → AreReplyTexts p (xs ++ x ∷ []) (lines ++ text)
@@ -14,29 +13,22 @@ texts_push p [] x lines text e is = (text, [], is, refl, ap (λ l. l ++ text) e 
 texts_push p (y ∷ ys) x lines text h is =
     (h.0, h.1 ++ text, h.2, texts_push p ys x h.1 text h.3 is, ap (λ l. l ++ text) h.4 ∙ append_assoc h.0 h.1 text)
 
-pub texts_more : (p : Bounded) (xs : List Reply) (i : ℕ) (x : Reply) (lines text : List ℕ) → i < length xs → x ≡ get_or xs i x → AreReplyTexts p (map printed_next (take i xs)) lines → IsReplyText p (printed_next x) text
-    → AreReplyTexts p (map printed_next (take (i + 1) xs)) (lines ++ text)
-texts_more p xs i x lines text l e h is =
-    let front : take (i + 1) xs ≡ take i xs ++ x ∷ [] = ap (λ k. take k xs) (add-one i) ∙ take-suc xs i x l ∙ sym (ap (λ y. take i xs ++ y ∷ []) e) in
-    subst (λ (zs : List Printed). AreReplyTexts p zs (lines ++ text)) (sym (ap (map printed_next) front ∙ map-append printed_next (take i xs) (x ∷ [])))
-    (texts_push p (map printed_next (take i xs)) (printed_next x) lines text h is)
-
 -- ---- replies at their floors
 
-printed_suc : (t : Translated) (floors : List (List ℕ)) (xs : List Answer) (i : ℕ) (f : List ℕ) (x : Answer) → i < length floors → i < length xs
+printed_suc : (t : Translated) (floors : List (List ℕ)) (xs : List Reply) (i : ℕ) (f : List ℕ) (x : Reply) → i < length floors → i < length xs
     → all_printed t (take (suc i) floors) (take (suc i) xs) ≡ all_printed t (take i floors) (take i xs) ++ printed t (get_or floors i f) (get_or xs i x) ∷ []
 printed_suc t [] xs i f x l m = absurd (omega arith)
 printed_suc t (g ∷ gs) [] i f x l m = absurd (omega arith)
 printed_suc t (g ∷ gs) (y ∷ ys) zero f x l m = refl
 printed_suc t (g ∷ gs) (y ∷ ys) (suc i) f x l m = ap (λ zs. printed t g y ∷ zs) (printed_suc t gs ys i f x (omega arith) (omega arith))
 
-pub answers_more : (p : Bounded) (t : Translated) (floors : List (List ℕ)) (xs : List Answer) (i : ℕ) (f : List ℕ) (x : Answer) (lines text : List ℕ) → i < length floors → i < length xs → x ≡ get_or xs i x
+pub answers_more : (p : Bounded) (t : Translated) (floors : List (List ℕ)) (xs : List Reply) (i : ℕ) (f : List ℕ) (x : Reply) (lines text : List ℕ) → i < length floors → i < length xs → x ≡ get_or xs i x
     → AreReplyTexts p (all_printed t (take i floors) (take i xs)) lines → IsReplyText p (printed t (get_or floors i f) x) text
     → AreReplyTexts p (all_printed t (take (i + 1) floors) (take (i + 1) xs)) (lines ++ text)
 answers_more p t floors xs i f x lines text l m e h is =
     let front : all_printed t (take (i + 1) floors) (take (i + 1) xs) ≡ all_printed t (take i floors) (take i xs) ++ printed t (get_or floors i f) x ∷ [] =
     ap (λ k. all_printed t (take k floors) (take k xs)) (add-one i) ∙ printed_suc t floors xs i f x l m
-    ∙ sym (ap (λ (y : Answer). all_printed t (take i floors) (take i xs) ++ printed t (get_or floors i f) y ∷ []) e) in
+    ∙ sym (ap (λ (y : Reply). all_printed t (take i floors) (take i xs) ++ printed t (get_or floors i f) y ∷ []) e) in
     subst (λ (zs : List Printed). AreReplyTexts p zs (lines ++ text)) (sym front) (texts_push p (all_printed t (take i floors) (take i xs)) (printed t (get_or floors i f) x) lines text h is)
 
 -- ---- numbered scenarios

@@ -9,8 +9,6 @@ use Rattle.session_rules.specs.declared.answers.Refusal.{Refusal}
 use Rattle.session_rules.specs.declared.answers.Refusal.TheVariants as refusal
 use Rattle.session_rules.specs.declared.answers.Reply.{Reply}
 use Rattle.session_rules.specs.declared.answers.Reply.TheVariants as reply
-use Rattle.session_rules.specs.declared.reply.Reply.{Reply as ReplyToNext}
-use Rattle.session_rules.specs.declared.reply.Reply.TheVariants as to_next
 
 -- what is printed of a reply: a scenario with its number; how many were shown at an end; cells; the budget; all scenarios of a
 -- floor; scenarios with the number of the first; the clauses and the steps of a proof; the words of a refusal
@@ -57,9 +55,3 @@ abbrev pub all_printed : Translated → List (List ℕ) → List Reply → List 
 all_printed t floors [] = []
 all_printed t [] (reply ∷ replies) = []
 all_printed t (floor ∷ floors) (reply ∷ replies) = printed t floor reply ∷ all_printed t floors replies
-
--- what is printed of a reply to `next`
-abbrev pub printed_next : ReplyToNext → Printed
-printed_next (to_next.Shown number scenario) = shown number scenario
-printed_next (to_next.End number) = ended number
-printed_next to_next.Memory = no_memory

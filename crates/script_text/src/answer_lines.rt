@@ -1,38 +1,17 @@
-// The lines of replies that print no proof, and the text of a session that has no others.
-ghost use Rattle.std.specs.Prelude.{◌≡◌, ◌++◌, ℕ, List, length, All, IfOk};
+// The lines of replies that print no proof.
+ghost use Rattle.std.specs.Prelude.{◌≡◌, ◌++◌, ℕ, List, IfOk};
 ghost use Rattle.translation_rules.specs.Translation.{Translated};
-ghost use Rattle.script_text.specs.Printed.{printed, all_printed};
-ghost use Rattle.script_text.specs.Replies.{NamesCellsOf, PrintsNoProof, IsReplyText, IsSessionText};
+ghost use Rattle.script_text.specs.Printed.{printed};
+ghost use Rattle.script_text.specs.Replies.{NamesCellsOf, PrintsNoProof, IsReplyText};
 
 use crate::listed_lines::{push_all, push_partly};
 use crate::numbers::push_number_line;
 use crate::offer_lines::push_offers;
 use crate::refusal_lines::push_refused;
-use crate::replies::push_name;
 use crate::scenario_lines::push_shown;
 use rel_formula::Problem;
 use session_rules::answers::Reply;
 use std::alloc::{AllocError, Global};
-
-/// The text of a session that prints no proof: its name and the lines of its replies. The cells that these name are the
-/// problem's.
-pub fn text_of_answers(
-    alloc: Global,
-    name: &str,
-    problem: &Problem,
-    replies: &[Reply],
-) -> Result<Vec<u8>, AllocError>
-    requires cells { All (NamesCellsOf problem.now) replies.now }
-    requires plain { All PrintsNoProof replies.now }
-    ensures { IfOk result (λ text. (t : Translated) (floors : List (List ℕ)) → length floors ≡ length replies.now → IsSessionText problem.now name.now (all_printed t floors replies.now) text.items) }
-{
-    let mut out = Vec::new(alloc);
-    push_name(&mut out, name)?;
-    for reply in replies {
-        push_answer(alloc, &mut out, problem, reply)?;
-    }
-    Ok(out)
-}
 
 /// Adds the lines of a reply that prints no proof. The cells that it names are the problem's.
 pub fn push_answer(

@@ -10,13 +10,10 @@ mod numbers;
 mod offer_lines;
 mod refusal_lines;
 mod relation_lines;
-mod replies;
 mod scenario_lines;
 mod sessions;
 #[cfg(test)]
 mod tests;
 
-pub use crate::answer_lines::text_of_answers;
 pub use crate::fault_lines::{fault_line, script_line};
-pub use crate::replies::{push_name, text_of_replies};
 pub use crate::sessions::{push_reply_at, session_text};

@@ -9,7 +9,6 @@ ghost use Rattle.script_text.specs.Replies.{NamesCellsOf, PrintsRightProof, Prin
 
 use crate::answer_lines::push_answer;
 use crate::numbers::push_number_line;
-use crate::replies::push_name;
 use proof_lines::text_of_proof;
 use rel_formula::Scenario;
 use session_rules::answers::Reply;
@@ -57,6 +56,16 @@ fn text_at(
         push_reply_at(alloc, &mut out, translation, &floors[place], reply)?;
     }
     Ok(out)
+}
+
+// Adds the line with the session's name.
+fn push_name(out: &mut Vec<u8>, name: &str) -> Result<(), AllocError>
+    ensures { IfOk result (λ _. out.new.items ≡ out.old.items ++ (codes "== " ++ name.now ++ codes "\n")) }
+{
+    out.extend_from_slice(b"== ")?;
+    out.extend_from_slice(name.as_bytes())?;
+    out.extend_from_slice(b"\n")?;
+    Ok(())
 }
 
 /// Adds the lines of a reply at its floor. Floor, and the cells that the reply names, are the problem's. A proof that is

@@ -4,7 +4,8 @@ ghost use Rattle.rel_formula.specs.Bounds.{cells_of};
 ghost use Rattle.rel_formula.specs.Renaming.{IsSymmetric};
 ghost use Rattle.rel_terms.specs.Terms.{IsTranslatable};
 
-use crate::{session_text, text_of_answers};
+use crate::answer_lines::push_answer;
+use crate::session_text;
 use rel_formula::{Expression, Formula, Problem, Relation, Scenario};
 use rel_terms::terms;
 use session_rules::answers::Reply;
@@ -79,30 +80,38 @@ fn one_cell(alloc: Global, number: u32) -> Result<Scenario, AllocError>
     Ok(scenario)
 }
 
-// The text of two replies over a problem of two cells.
-fn two_replies(alloc: Global, problem: &Problem) -> Result<Vec<u8>, AllocError>
+// The lines of two offers over a problem of two cells.
+fn two_offers(alloc: Global, problem: &Problem) -> Result<Vec<u8>, AllocError>
     requires { length (cells_of problem.now) ≡ 2 }
 {
+    let mut out = Vec::new(alloc);
     let cells = CellNumbers::of(vec![in alloc; 0, 1]?);
-    let scenarios = Scenarios::of(vec![in alloc; one_cell(alloc, 1)?]?);
-    let replies = vec![in alloc;
-        Reply::Offers { cells },
-        Reply::Partly {
-            first: 3,
-            scenarios
-        },
-    ]?;
-    Ok(text_of_answers(alloc, "a", problem, replies.as_slice())?)
+    push_answer(alloc, &mut out, problem, &Reply::Offers { cells })?;
+    Ok(out)
 }
 
-// The text of replies that name no cells.
+// The lines of the third scenario alone, over a problem of two cells.
+fn third_alone(alloc: Global, problem: &Problem) -> Result<Vec<u8>, AllocError>
+    requires { length (cells_of problem.now) ≡ 2 }
+{
+    let mut out = Vec::new(alloc);
+    let scenarios = Scenarios::of(vec![in alloc; one_cell(alloc, 1)?]?);
+    let first = 3;
+    push_answer(
+        alloc,
+        &mut out,
+        problem,
+        &Reply::Partly { first, scenarios },
+    )?;
+    Ok(out)
+}
+
+// The lines of replies that name no cells.
 fn plain_replies(alloc: Global, problem: &Problem) -> Result<Vec<u8>, AllocError> {
-    let replies = vec![in alloc;
-        Reply::BudgetSet(7),
-        Reply::Back,
-        Reply::Refused(Refusal::Deep),
-    ]?;
-    Ok(text_of_answers(alloc, "a", problem, replies.as_slice())?)
+    let mut out = Vec::new(alloc);
+    push_answer(alloc, &mut out, problem, &Reply::BudgetSet(7))?;
+    push_answer(alloc, &mut out, problem, &Reply::Refused(Refusal::Deep))?;
+    Ok(out)
 }
 
 // The text of a session that went back once.
@@ -114,16 +123,34 @@ fn back_alone(alloc: Global, made: &Translation) -> Result<Vec<u8>, AllocError> 
 }
 
 #[test]
-fn lines_of_replies(rt: HostRuntime) -> Result<(), Fail> {
+fn offers_are_named(rt: HostRuntime) -> Result<(), Fail> {
     let alloc = rt.alloc();
     let problem = three_of(&rt, alloc, &[0, 1])?;
     assert!(rt; problem.cells() == 2);
-    let named = two_replies(alloc, &problem)?;
-    let told: &[u8] = b"== a\noffers 2\nA A$0\nA A$1\nscenario 3\nA = {A$1}\npartly 1\n";
-    assert!(rt; named.as_slice() == told);
-    let plain = plain_replies(alloc, &problem)?;
-    let short: &[u8] = b"== a\nbudget 7\nback\nrefused deep\n";
-    assert!(rt; plain.as_slice() == short);
+    let text = two_offers(alloc, &problem)?;
+    let told: &[u8] = b"offers 2\nA A$0\nA A$1\n";
+    assert!(rt; text.as_slice() == told);
+    Ok(())
+}
+
+#[test]
+fn listed_scenarios_have_numbers(rt: HostRuntime) -> Result<(), Fail> {
+    let alloc = rt.alloc();
+    let problem = three_of(&rt, alloc, &[0, 1])?;
+    assert!(rt; problem.cells() == 2);
+    let text = third_alone(alloc, &problem)?;
+    let told: &[u8] = b"scenario 3\nA = {A$1}\npartly 1\n";
+    assert!(rt; text.as_slice() == told);
+    Ok(())
+}
+
+#[test]
+fn replies_without_cells(rt: HostRuntime) -> Result<(), Fail> {
+    let alloc = rt.alloc();
+    let problem = three_of(&rt, alloc, &[0, 1])?;
+    let text = plain_replies(alloc, &problem)?;
+    let told: &[u8] = b"budget 7\nrefused deep\n";
+    assert!(rt; text.as_slice() == told);
     Ok(())
 }
 

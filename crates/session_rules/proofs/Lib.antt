@@ -1,6 +1,5 @@
-mod Runs
+pub mod Runs
 mod Refuted
 mod OneFloor
 mod Searched
 mod Readings
-mod Alone

@@ -1,4 +1,3 @@
-pub mod Machine
 pub mod ProofOfEnd
 pub mod States
 pub mod Naming
@@ -8,4 +7,3 @@ pub mod Proofs
 pub mod Work
 pub mod Evidence
 pub mod Transcripts
-pub mod NextAlone

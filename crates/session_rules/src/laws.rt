@@ -26,8 +26,6 @@ ghost use Rattle.session_rules.specs.Proofs.{HasRenamingAmong, IsCovered, Proves
 ghost use Rattle.session_rules.specs.Work.{AreRounds, IsWork, Round, units_in};
 ghost use Rattle.session_rules.specs.Evidence.{IsEndShown, IsNoInstanceShown};
 ghost use Rattle.session_rules.specs.Transcripts.{IsTranscript, Serves, without_memory};
-ghost use Rattle.session_rules.specs.NextAlone.{IsSameExchange, alone_of};
-ghost use Rattle.session_rules.specs.Machine.{State as StateAlone, Start as StartAlone, Exchange as ExchangeAlone, MachineRun as RunAlone};
 
 use crate::answers::{Refusal, Reply};
 use crate::end_proof::ProofKind;
@@ -160,10 +158,4 @@ pub fn units_add_up()
         → units_in t pool (part ∷ parts) copies ≡ novel_steps (given_to t pool part) part.log + units_in t pool parts copies }
     ensures copy { (t : Translated) (pool : List LogStep) (parts : List Parted) (found : List ℕ) (copies : List (List ℕ))
         → units_in t pool parts (found ∷ copies) ≡ units_in t pool parts copies + 1 }
-{}
-
-/// A run of the machine of `next` alone is one of the whole machine, with some proofs for its ends.
-pub fn next_alone_is_a_run()
-    ensures { (p : Bounded) (budget : ℕ) (alone : List ExchangeAlone) (last : StateAlone) → RunAlone p (StartAlone budget) alone last
-        → (xs : List Exchange) × AllZip IsSameExchange alone xs × MachineRun p (start budget) xs × (last ≡ alone_of (state_after (start budget) xs)) }
 {}

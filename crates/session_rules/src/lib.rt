@@ -1,22 +1,17 @@
 //! The session machine, which says which reply a step may have and what state it leaves; what proofs of ends prove, and the
 //! work that a search does; transcripts. The types of replies, of proofs, and of what sessions are asked for and answered.
-//!
-//! `Reply` and the step of its module are those of `next` alone, which the program runs today: their machine is a part of the
-//! whole one, whose replies are `answers::Reply`.
 #![tactic(auto)]
 
 pub mod answers;
 mod end_proof;
 pub mod laws;
 mod lists;
-pub mod reply;
 mod script;
 #[cfg(test)]
 mod tests;
 
-pub use crate::answers::{Refusal, WorkDone};
+pub use crate::answers::{Refusal, Reply, WorkDone};
 pub use crate::end_proof::{EndProof, ProofKind};
 pub use crate::lists::{CellNumbers, Parts, Replies, Scenarios};
-pub use crate::reply::Reply;
 pub use crate::script::{SessionScript, Transcript};
 pub use session_words::{AtomName, AtomNames, Command, Commands, Step};

@@ -9,6 +9,7 @@ use Rattle.session_rules.specs.States.{State, ShownAt, Start, top_floor, shown_a
 use Rattle.session_rules.specs.Steps.{MayAnswer, Exchange, MachineRun, state_after, IsReached}
 use Rattle.session_rules.specs.Proofs.{IsCopy}
 use Rattle.session_rules.specs.declared.answers.Reply.{Reply}
+use Rattle.session_rules.proofs.Runs.{states_join, runs_joined}
 use Rattle.session_rules.specs.declared.answers.Reply.TheVariants.{Shown, End, BudgetSet}
 use Rattle.session_store.specs.Stored.{Stored, copies_after, copies_kept}
 use Rattle.session_search.specs.Fits.{FitsProblem, IsKept}
@@ -17,14 +18,6 @@ use Rattle.session_search.proofs.Here.{CopyAt}
 
 abbrev ended_by : State → ProofOfEnd → State
 ended_by s proof = record s { ended = s.ended ++ record { floor = top_floor s; proof = proof } ∷ [] }
-
-states_join : (s : State) (xs ys : List Exchange) → state_after s (xs ++ ys) ≡ state_after (state_after s xs) ys
-states_join s [] ys = refl
-states_join s (x ∷ xs) ys = states_join (after s x.reply) xs ys
-
-runs_joined : (p : Bounded) (s : State) (xs ys : List Exchange) → MachineRun p s xs → MachineRun p (state_after s xs) ys → MachineRun p s (xs ++ ys)
-runs_joined p s [] ys run later = later
-runs_joined p s (x ∷ xs) ys (step, run) later = (step, runs_joined p (after s x.reply) xs ys run later)
 
 -- what was shown at a floor, and one more somewhere
 module _ (floor : List ℕ) (s : State) (x : ShownAt) (y : List ℕ) where

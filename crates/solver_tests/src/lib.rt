@@ -1,4 +1,5 @@
-//! Tests of the crates of proof and search, in a crate of their own: so none of those is proved a second time for its tests.
+//! Tests of `sat_core` and of the checker in `refutation_check`, in a crate of their own: so these aren't proved a second time
+//! for them.
 #![tactic(auto)]
 
 #[cfg(test)]

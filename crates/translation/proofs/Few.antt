@@ -1,19 +1,14 @@
 -- There are at most as many pairs of neighbours as atoms.
-use Rattle.std.proofs.Common.{◌≡◌, ◌≢◌, inl, inr, ◌<◌, ◌≤◌, ℕ, Bool, true, List, map, length, get_or, AllPairs, Contains, refl, sym, ◌∙◌, ap, subst, arith}
-use Rattle.std.specs.Bool.{Decides}
-use Rattle.std.specs.Cmp.{IsEquivalence}
+use Rattle.std.proofs.Common.{◌≡◌, ◌≢◌, ◌<◌, ◌≤◌, ℕ, List, map, length, get_or, AllPairs, Contains, refl, sym, ap, subst, arith}
 use Rattle.std.specs.declared.cmp.Ordering.{Ordering}
 use Rattle.std.specs.declared.cmp.Ordering.TheVariants.{Less, Equal, Greater}
 use Rattle.std.specs.Ordering.{nat_cmp, ordering_then}
-use Rattle.std.proofs.lemmas.Bool.{cases_Bool}
 use Rattle.std.proofs.lemmas.Bool.Decides.{nat_tests}
 use Rattle.std.proofs.lemmas.List.{length-map}
-use Rattle.std.proofs.lemmas.Map.Made.{IsDistinct-from_AllPairs, is_member-Decides, length-le_from_is_member}
 use Rattle.tuple_core.specs.declared.atom.Atom.{Atom}
 use Rattle.tuple_core.specs.Order.{atom_cmp}
-use Rattle.tuple_core.specs.Swap.{atom_eq}
-use Rattle.tuple_core.proofs.Atoms.{atom_eq-decides}
 use Rattle.rel_formula.specs.Bounds.{Bounded, IsAtomOf, HasFewAtoms}
+use Rattle.rel_formula.proofs.Counts.{no_longer}
 use Rattle.rel_formula.proofs.Lists.{pairs_map}
 use Rattle.rel_formula.proofs.Open.{map_has}
 use Rattle.translation.specs.Kept.{AreAllSwaps}
@@ -30,26 +25,6 @@ then_not_less Greater p f g e = cc
 not_less : (a b : Atom) → atom_cmp a b ≡ Less → a ≢ b
 not_less a b e same = then_not_less (nat_cmp a.top a.top) (nat_cmp a.place a.place) (number_not_less a.top) (number_not_less a.place) (subst (λ x. atom_cmp a x ≡ Less) (sym same) e)
 
--- two tests with the same answer
-same_answer : (a b : Bool) → (a ≡ true → b ≡ true) → (b ≡ true → a ≡ true) → a ≡ b
-same_answer a b f g = elim (cases_Bool a) [
-  | inl t ↦ t ∙ sym (f t)
-  | inr u ↦ elim (cases_Bool b) [ inl t ↦ g t ∙ sym t | inr v ↦ u ∙ sym v ]
-]
-
-module _ {K : Type 0} (eq : K → K → Bool) (decides : (a b : K) → Decides (eq a b) (a ≡ b)) where
-  equivalent : IsEquivalence eq
-  equivalent = record {
-    refl = λ a. (decides a a).1 refl;
-    symm = λ a b. same_answer (eq a b) (eq b a) (λ t. (decides b a).1 (sym ((decides a b).0 t))) (λ t. (decides a b).1 (sym ((decides b a).0 t)));
-    congr = λ a b c t. ap (λ x. eq x c) ((decides a b).0 t);
-  }
-
-  -- distinct members of a list are at most as many
-  pub no_more : (xs ys : List K) → AllPairs (λ a b. a ≢ b) xs → ((a : K) → Contains xs a → Contains ys a) → length xs ≤ length ys
-  no_more xs ys distinct inside = length-le_from_is_member equivalent xs ys (IsDistinct-from_AllPairs decides xs distinct)
-      (λ a t. (is_member-Decides decides ys a).1 (inside a ((is_member-Decides decides xs a).0 t)))
-
 abbrev first_of : Atom × Atom → Atom
 first_of pair = pair.0
 
@@ -63,6 +38,6 @@ few_pairs p pairs few all =
     let firsts = map first_of pairs in
     let long : length firsts ≡ length pairs = length-map pairs first_of in
     let distinct : AllPairs (λ a b. a ≢ b) firsts = pairs_map (λ a b. a ≢ b) first_of pairs (λ j k d less l. not_less (get_or pairs j d).0 (get_or pairs k d).0 (all.rising j k d less l)) in
-    let most = no_more atom_eq atom_eq-decides firsts few.0 distinct (λ a c. let (b, d) = mapped pairs a c in few.2 a ((all.exactly a b).0 d).first) in
+    let most = no_longer firsts few.0 distinct (λ a c. let (b, d) = mapped pairs a c in few.2 a ((all.exactly a b).0 d).first) in
     let m = few.1 in
     omega arith

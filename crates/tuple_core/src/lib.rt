@@ -1,13 +1,13 @@
 //! Atoms, tuples of one to three atoms, sorted sets of tuples with the relational operators, and names.
 #![tactic(auto)]
 
-pub mod atom;
+mod atom;
 pub mod laws;
-pub mod name;
+mod name;
 #[cfg(test)]
 mod tests;
-pub mod tuple;
-pub mod tuple_set;
+mod tuple;
+mod tuple_set;
 
 pub use crate::atom::Atom;
 pub use crate::name::Name;

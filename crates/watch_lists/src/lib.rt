@@ -1,4 +1,4 @@
-// For each number of a literal, the watched places that have it, linked through the places themselves.
+//! For each number of a literal, the watched places that have it, linked through the places themselves.
 #![tactic(auto)]
 
 mod lists;

@@ -1,4 +1,4 @@
-// Two watched literals a clause: what became false is followed through the clauses that watch it.
+//! Two watched literals a clause: what became false is followed through the clauses that watch it.
 #![tactic(auto)]
 
 mod back;

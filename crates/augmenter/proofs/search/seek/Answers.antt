@@ -10,8 +10,9 @@ use Rattle.sat_core.specs.declared.search.Answer.{Answer}
 use Rattle.translation_rules.specs.Translation.{var_of}
 use Rattle.translation_rules.specs.Locals.{units_of}
 use Rattle.translation_rules.specs.Parts.{given_to}
+use Rattle.local_clauses.proofs.Cells.{few_cells}
 use Rattle.augmenter.specs.Search.{IsSearchFor}
-use Rattle.augmenter.proofs.Seeking.{Known, Told, told, variables, few_cells, as_many, found_part, found_answer, spent_part, refuted_part, refuted_answer}
+use Rattle.augmenter.proofs.Seeking.{Known, Told, told, variables, as_many, found_part, found_answer, spent_part, refuted_part, refuted_answer}
 use Rattle.augmenter.proofs.search.seek.Goals as goal
 
 pub units_of-requires : goal.units_of-requires
@@ -23,8 +24,8 @@ units_of-requires c =
     let count : length (cells_of t.problem) ≤ 4096 = subst (λ p. length (cells_of p) ≤ 4096) c.problem.ensures.value c.relations.ensures.well.few_cells in
     subst (All (λ cell. IsVariable (var_of cell))) (sym c.numbers.ensures.value) (variables t.problem cells c.requires.cells count)
 
-pub solve-requires-clause-few : goal.solve-requires-clause-few
-solve-requires-clause-few c =
+pub solve_towards-requires-clause-few : goal.solve_towards-requires-clause-few
+solve_towards-requires-clause-few c =
     let t = c.args.translation.now in
     let pool = c.args.pool.now in
     let cells = c.args.cells.now in

@@ -7,17 +7,17 @@ use Rattle.explorer_cli.proofs.Served.{runs_more}
 use Rattle.explorer_cli.proofs.sessions.text_of_sessions.Goals as goal
 
 pub translation_of-translation-requires : goal.translation_of-translation-requires
-translation_of-translation-requires c = all_at (IsTranslated c.args.models.now) c.args.sessions.now c.loop-place.place c.index-sessions-place.result c.requires.translated c.loop-place-test.true c.index-sessions-place.is
+translation_of-translation-requires c = all_at (IsTranslated c.args.models.now) c.args.sessions.now c.loop-session.session-index c.session-item.result c.requires.translated c.loop-session-test.true c.session-item.is
 
 pub run-requires-clause-allowed : goal.run-requires-clause-allowed
-run-requires-clause-allowed c = all_at (λ (x : SessionEntry). All IsAllowed x.commands) c.args.sessions.now c.loop-place.place c.index-sessions-place.result c.requires.allowed c.loop-place-test.true c.index-sessions-place.is
+run-requires-clause-allowed c = all_at (λ (x : SessionEntry). All IsAllowed x.commands) c.args.sessions.now c.loop-session.session-index c.session-item.result c.requires.allowed c.loop-session-test.true c.session-item.is
 
 pub run-requires-clause-asked : goal.run-requires-clause-asked
-run-requires-clause-asked c = all_at (λ (x : SessionEntry). asked_by x.commands ≤ 20000) c.args.sessions.now c.loop-place.place c.index-sessions-place.result c.requires.asked c.loop-place-test.true c.index-sessions-place.is
+run-requires-clause-asked c = all_at (λ (x : SessionEntry). asked_by x.commands ≤ 20000) c.args.sessions.now c.loop-session.session-index c.session-item.result c.requires.asked c.loop-session-test.true c.session-item.is
 
-pub loop-place-preserved : goal.loop-place-preserved
-loop-place-preserved c =
-    runs_more c.texts_go_on.ensures.output c.args.budget c.args.sessions.now c.args.models.now c.loop-place.place c.index-sessions-place.result c.translation_of-translation.result.now
-    c.loop-place.text.items c.extend_from_slice.new.self.items c.in_ok-lines.lines.items
-    c.loop-place-test.true c.index-sessions-place.is c.translation_of-translation.ensures
-    (c.in_ok-extend_from_slice.ensures.items ∙ ap (λ (xs : List ℕ). c.loop-place.text.items ++ xs) c.deref.ensures.value) c.loop-place.invariant c.in_ok-lines.ensures
+pub loop-session-preserved : goal.loop-session-preserved
+loop-session-preserved c =
+    runs_more c.texts_go_on.ensures.output c.args.budget c.args.sessions.now c.args.models.now c.loop-session.session-index c.session-item.result c.translation_of-translation.result.now
+    c.loop-session.text.items c.extend_from_slice.new.self.items c.in_ok-lines.lines.items
+    c.loop-session-test.true c.session-item.is c.translation_of-translation.ensures
+    (c.in_ok-extend_from_slice.ensures.items ∙ ap (λ (xs : List ℕ). c.loop-session.text.items ++ xs) c.deref.ensures.value) c.loop-session.invariant c.in_ok-lines.ensures

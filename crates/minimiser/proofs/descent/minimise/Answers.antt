@@ -8,8 +8,9 @@ use Rattle.sat_core.specs.declared.search.Answer.{Answer}
 use Rattle.sat_core.specs.Answers.{log_of, IsRight as IsRightAnswer}
 use Rattle.translation_rules.specs.Parts.{novel_in}
 use Rattle.translation_rules.specs.Descents.{IsSmaller, descent_locals}
+use Rattle.local_clauses.proofs.Cells.{few_cells}
 use Rattle.minimiser.specs.Down.{IsDescent}
-use Rattle.minimiser.proofs.Cells.{fewer, few_cells, few_locals}
+use Rattle.minimiser.proofs.Cells.{fewer, few_locals}
 use Rattle.minimiser.proofs.Going.{Going, set_out, ended, spent_all, next, minimal}
 use Rattle.minimiser.proofs.Answered.{Told, told, found}
 use Rattle.minimiser.proofs.descent.minimise.Goals as goal

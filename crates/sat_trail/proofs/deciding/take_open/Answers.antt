@@ -22,7 +22,7 @@ returns-then-is_none-clause-next c =
     }
 
 pub returns-then-is_none-clause-order : goal.returns-then-is_none-clause-order
-returns-then-is_none-clause-order c = rw c.in-Some.ensures.taken (order_taken _ _ c.taking.order c.in-Some.place c.taking.invariant)
+returns-then-is_none-clause-order c = rw c.in-Some.ensures.taken (λ value. order_taken _ _ c.taking.order c.in-Some.place value c.taking.invariant)
 
 pub returns-clause-next : goal.returns-clause-next
 returns-clause-next c = all_valued _ _ _ c.taking.invariant c.in_default.ensures.first

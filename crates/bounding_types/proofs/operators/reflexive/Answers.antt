@@ -1,0 +1,10 @@
+use Rattle.std.proofs.Common.{refl, ◌++◌}
+use Rattle.model_types.specs.Bounding.{through, doubles}
+use Rattle.bounding_types.proofs.Alike.{same_then, same_append}
+use Rattle.bounding_types.proofs.operators.reflexive.Goals as goal
+
+pub returns : goal.returns
+returns c =
+    let tops = c.args.tops.now in
+    same_then c.in_ok-all.all (c.in_ok-pairs.pairs ++ doubles tops) (through tops c.args.a ++ doubles tops) c.in_ok-all.ensures
+    (same_append c.in_ok-pairs.pairs (doubles tops) (through tops c.args.a) (doubles tops) c.in_ok-pairs.ensures (λ t. refl))

@@ -1,0 +1,19 @@
+use Rattle.std.proofs.Common.{refl, sym, ap, [], ◌∷◌, arith}
+use Rattle.std.specs.List.{list_any}
+use Rattle.std.proofs.lemmas.List.{append-nil}
+use Rattle.bounding_types.specs.Same.{lists_of}
+use Rattle.bounding_types.proofs.Turns.{row_turn, whole, each_alone}
+use Rattle.bounding_types.proofs.products.put_all.Goals as goal
+
+pub loop-list-init : goal.loop-list-init
+loop-list-init c = λ t. ap (list_any t) (sym (append-nil c.args.all.now))
+
+pub loop-list-preserved : goal.loop-list-preserved
+loop-list-preserved c =
+    row_turn (λ y. y ∷ []) c.args.lists.now c.loop-list.list-index c.list-item.result c.args.all.now c.loop-list.all c.put_if.new.all (c.deref.result.now ∷ [])
+    c.loop-list-test.true c.list-item.is c.loop-list.invariant c.in_ok-put_if.ensures (ap (λ y. y ∷ []) c.deref.ensures.value)
+
+pub returns : goal.returns
+returns c =
+    let lists = lists_of c.args.lists.now in
+    whole (λ y. y ∷ []) c.args.lists.now c.loop-list.list-index c.args.all.now c.loop-list.all lists lists (omega arith) refl (each_alone lists) c.loop-list.invariant

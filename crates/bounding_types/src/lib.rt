@@ -1,0 +1,16 @@
+//! Bounding types: sets of lists of top-level signatures, and what each operator makes of them. Want of memory is also
+//! answered where a type would have more than `MOST_LISTS` lists, and where no more lists may be looked at.
+#![tactic(auto)]
+
+mod closure;
+mod kept;
+pub mod operators;
+mod products;
+mod rows;
+#[cfg(test)]
+mod tests;
+mod work;
+
+pub use crate::kept::{BoundingType, MOST_LISTS};
+pub use crate::work::Work;
+pub use std::alloc::AllocError as NoMemory;

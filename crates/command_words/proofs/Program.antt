@@ -1,0 +1,212 @@
+-- How `clap` reads the whole words.
+use Rattle.std.proofs.Common.{◌≡◌, ◌∙◌, ◌⊎◌, ◌||◌, Bool, cond, true, false, List, [], ◌∷◌, ◌++◌, codes, Some, None, is_some, refl, sym, ap, ap₂, subst, inl, inr}
+use Rattle.std.specs.List.{fold}
+use Rattle.std.specs.Prelude.{option_map}
+use Rattle.std.specs.Str.{bytes_eq}
+use Rattle.std.proofs.lemmas.Slice.Eq.{bytes_eq-Decides}
+use Rattle.clap.specs.Kinds.{Kinds, or_else}
+use Rattle.clap.specs.Walk.{Names, Row, Text, Walk, arg_by_long, finished, has_row, idle, nothing_held, settled, subcommand_met, walked, with_default}
+use Rattle.clap.specs.Simple.{App, Shape, built, entered, is_simple, names_of, subcommand_of}
+use Rattle.clap.specs.Faults.{check_fault, default_fault, defaults_fault, entered_fault, fault_of, is_simple_and_free, level_fault, settle_fault, walk_fault}
+use Rattle.clap.proofs.OnLiterals.{clap_on_literals}
+use Rattle.clap.proofs.WalkLemmas.{walk_stopped}
+use Rattle.command_words.specs.Program.{program}
+use Rattle.command_words.proofs.LongWords.{HasLongAlone, IsLong, both_none, idle_turn, none_of_both, walk_at}
+use Rattle.command_words.proofs.Options.{AllPlain, Pass, Use, all_written, check_shape, end_of, first_safe, has_dashes, option_of, others_safe, read_words, rest_kinds, rules, run_shape, settle_kinds, settled_end, used_all, write_uses}
+
+abbrev whole : App
+whole = built program
+
+abbrev names : Names
+names = names_of whole
+
+abbrev start : Walk
+start = walk_at [] None idle
+
+-- the walk where a command was met, with the words behind it
+abbrev stopped_at : Text → List Text → Walk
+stopped_at name rest = record start { stopped = Some (name, rest) }
+
+-- ---- behind the command's word nothing is refused above it
+
+no_fault_behind : (s : Shape) (n : Names) (name : Text) (seen words : List Text) → walk_fault s n (stopped_at name seen) words ≡ []
+unfolding walk_fault walked
+no_fault_behind s n name seen [] = refl
+no_fault_behind s n name seen (word ∷ words) = no_fault_behind s n name (seen ++ word ∷ []) words
+
+-- the faults by the walk over all words
+abbrev faults_by : Walk → Kinds → Kinds
+faults_by w kinds =
+    or_else kinds (or_else (entered_fault whole w.stopped) (or_else (settle_fault whole.top.rules false w.held)
+    (or_else (defaults_fault (settled whole.top.rules w.held).rows whole.top.rules) (check_fault whole.top (finished whole.top.rules w.held) (is_some (entered whole w.stopped))))))
+
+abbrev walk_of : List Text → Walk
+walk_of words = fold (walked whole.top.rules names) start words
+
+abbrev kinds_of : List Text → Kinds
+kinds_of words = walk_fault whole.top names start words
+
+run_walk : (rest : List Text) → walk_of (codes "run" ∷ rest) ≡ stopped_at (codes "run") rest
+unfolding walked
+run_walk rest = sym (walk_stopped whole.top.rules names start (codes "run") [] rest)
+
+check_walk : (rest : List Text) → walk_of (codes "check" ∷ rest) ≡ stopped_at (codes "check") rest
+unfolding walked
+check_walk rest = sym (walk_stopped whole.top.rules names start (codes "check") [] rest)
+
+run_kinds : (rest : List Text) → kinds_of (codes "run" ∷ rest) ≡ []
+unfolding walked walk_fault
+run_kinds rest = no_fault_behind whole.top names (codes "run") [] rest
+
+check_kinds : (rest : List Text) → kinds_of (codes "check" ∷ rest) ≡ []
+unfolding walked walk_fault
+check_kinds rest = no_fault_behind whole.top names (codes "check") [] rest
+
+-- the faults of the command below
+abbrev below : Shape → List Text → Kinds
+below s rest = level_fault s [] nothing_held rest false []
+
+run_faults : (rest : List Text) → fault_of program (codes "run" ∷ rest) ≡ or_else (below run_shape rest) []
+unfolding defaults_fault
+run_faults rest = ap₂ faults_by (run_walk rest) (run_kinds rest)
+
+check_faults : (rest : List Text) → fault_of program (codes "check" ∷ rest) ≡ or_else (below check_shape rest) []
+unfolding defaults_fault
+check_faults rest = ap₂ faults_by (check_walk rest) (check_kinds rest)
+
+-- ---- the level of `run`
+
+-- the matches of `run`
+abbrev pub rows_of_run : List Row → List Row
+rows_of_run rows = fold with_default rows rules
+
+no_default : (a : Bool) (rows : List Row) → default_fault rows (option_of a) ≡ []
+no_default true rows = go (has_row (codes "workers") rows)
+  where
+    go : (b : Bool) → cond (b || true) [] (default_fault [] (option_of true)) ≡ []
+    go true = refl
+    go false = refl
+no_default false rows = go (has_row (codes "budget") rows)
+  where
+    go : (b : Bool) → cond (b || true) [] (default_fault [] (option_of false)) ≡ []
+    go true = refl
+    go false = refl
+
+no_defaults : (rows : List Row) → defaults_fault rows rules ≡ []
+unfolding defaults_fault
+no_defaults rows = none_of_both _ _ (no_default true rows) (none_of_both _ _ (no_default false (with_default rows (option_of true))) refl)
+
+run_below : (rest : List Text) → rest_kinds start rest ≡ [] → below run_shape rest ≡ []
+run_below rest e =
+    let parts = both_none _ _ e in
+    none_of_both _ _ parts.0 (none_of_both _ _ parts.1 (none_of_both _ _ (no_defaults (settled_end (end_of start rest))) refl))
+
+below_run : (rest : List Text) → below run_shape rest ≡ [] → rest_kinds start rest ≡ []
+below_run rest e =
+    let end = end_of start rest in
+    let walks = walk_fault run_shape [] start rest in
+    let settles = settle_kinds end.rows end.pending in
+    let after = or_else (defaults_fault (settled_end end) rules) (check_fault run_shape (rows_of_run (settled_end end)) false) in
+    let parts = both_none walks (or_else settles after) e in
+    none_of_both walks settles parts.0 (both_none settles after parts.1).0
+
+run_rows : (rest : List Text) → subcommand_of program (codes "run" ∷ rest) ≡ Some (codes "run", rows_of_run (settled_end (end_of start rest)))
+run_rows rest = ap (λ (w : Walk). entered whole w.stopped) (run_walk rest)
+
+-- ---- words that pass
+
+top_long : HasLongAlone whole.top
+top_long = record { no_short = λ x. refl; no_place = refl }
+
+check_long : HasLongAlone check_shape
+check_long = record { no_short = λ x. refl; no_place = refl }
+
+no_rule : (s : Shape) (word : Text) → s.rules ≡ [] → IsLong s word → ⊥
+no_rule s word none is =
+    let bad : None ≡ Some is.rule = ap (λ rs. arg_by_long rs is.name) (sym none) ∙ is.found in
+    absurd (cc)
+
+-- the words are `check`, or `run` and uses of its options
+pub record IsRun (words : List Text) : Type 0 where
+  pub uses : List Use
+  pub are : words ≡ codes "run" ∷ all_written uses
+  pub pass : Pass [] uses
+  pub rows : subcommand_of program words ≡ Some (codes "run", rows_of_run (used_all [] uses))
+
+abbrev pub Accepted : List Text → Type 0
+Accepted words = (words ≡ codes "check" ∷ []) ⊎ IsRun words
+
+accepted_run : (rest : List Text) → has_dashes rest ≡ false → fault_of program (codes "run" ∷ rest) ≡ [] → IsRun (codes "run" ∷ rest)
+accepted_run rest safe e =
+    let passes = below_run rest (both_none _ _ (sym (run_faults rest) ∙ e)).0 in
+    let r = read_words rest [] None safe passes in
+    record {
+      uses = r.uses;
+      are = ap (λ ws. codes "run" ∷ ws) r.are;
+      pass = r.pass;
+      rows = run_rows rest ∙ ap (λ (rows : List Row). Some (codes "run", rows_of_run rows)) r.ends;
+    }
+
+accepted_check : (rest : List Text) → has_dashes rest ≡ false → fault_of program (codes "check" ∷ rest) ≡ [] → rest ≡ []
+unfolding walk_fault
+accepted_check [] safe e = refl
+accepted_check (word ∷ rest) safe e =
+    let turn = (both_none _ _ (both_none _ _ (both_none _ _ (sym (check_faults (word ∷ rest)) ∙ e)).0).0).0 in
+    absurd (no_rule check_shape word refl (idle_turn check_shape [] check_long [] None word refl (first_safe word rest safe) turn))
+
+other_word : (word : Text) (rest : List Text) → bytes_eq word (codes "--") ≡ false → subcommand_met names idle word ≡ None → fault_of program (word ∷ rest) ≡ [] → ⊥
+unfolding walk_fault
+other_word word rest safe none e =
+    let turn = (both_none _ _ (both_none _ _ e).0).0 in
+    no_rule whole.top word refl (idle_turn whole.top names top_long [] None word none safe turn)
+
+no_words : fault_of program [] ≡ [] → ⊥
+unfolding clap_on_literals
+no_words e = absurd (cc)
+
+pub accepted : (words : List Text) → has_dashes words ≡ false → fault_of program words ≡ [] → Accepted words
+accepted [] safe e = absurd (no_words e)
+accepted (word ∷ rest) safe e = go (bytes_eq (codes "run") word) (bytes_eq (codes "check") word) refl refl
+  where
+    go : (x y : Bool) → bytes_eq (codes "run") word ≡ x → bytes_eq (codes "check") word ≡ y → Accepted (word ∷ rest)
+    go true y is is' =
+        let same = (bytes_eq-Decides (codes "run") word).0 is in
+        inr (subst (λ (w : Text). IsRun (w ∷ rest)) same (accepted_run rest (others_safe word rest safe) (subst (λ (w : Text). fault_of program (w ∷ rest) ≡ []) (sym same) e)))
+    go false true is is' =
+        let same = (bytes_eq-Decides (codes "check") word).0 is' in
+        let none = accepted_check rest (others_safe word rest safe) (subst (λ (w : Text). fault_of program (w ∷ rest) ≡ []) (sym same) e) in
+        inl (ap₂ (λ (w : Text) (ws : List Text). w ∷ ws) (sym same) none)
+    go false false is is' =
+        let none : subcommand_met names idle word ≡ None = ap₂ (λ (x y : Bool). option_map (λ (s : Text × List Text). s.0) (cond (x || false) (Some (codes "run", [])) (cond (y || false) (Some (codes "check", [])) None))) is is' in
+        absurd (other_word word rest (first_safe word rest safe) none e)
+
+-- ---- and only they do
+
+pub record Passes (words : List Text) (uses : List Use) : Type 0 where
+  pub no_fault : fault_of program words ≡ []
+  pub rows : subcommand_of program words ≡ Some (codes "run", rows_of_run (used_all [] uses))
+
+pub run_passes : (uses : List Use) → AllPlain uses → Pass [] uses → Passes (codes "run" ∷ all_written uses) uses
+run_passes uses plain pass =
+    let rest = all_written uses in
+    let w = write_uses uses plain [] None refl pass in
+    record {
+      no_fault = run_faults rest ∙ none_of_both _ [] (run_below rest w.passes) refl;
+      rows = run_rows rest ∙ ap (λ (rows : List Row). Some (codes "run", rows_of_run rows)) w.ends;
+    }
+
+pub check_passes : fault_of program (codes "check" ∷ []) ≡ []
+unfolding clap_on_literals
+check_passes = refl
+
+pub check_rows : subcommand_of program (codes "check" ∷ []) ≡ Some (codes "check", [])
+unfolding clap_on_literals
+check_rows = refl
+
+-- ---- `clap` says exactly what it makes of such a program
+
+pub simple_program : is_simple program ≡ true
+simple_program = refl
+
+pub free_program : is_simple_and_free program ≡ true
+free_program = refl

@@ -1,0 +1,333 @@
+-- The command that is read of the matches is the one that the words say.
+use Rattle.std.proofs.Common.{◌≡◌, ◌≤◌, ◌∙◌, ◌⊎◌, ◌&&◌, ◌||◌, ℕ, Bool, cond, not, true, false, List, [], ◌∷◌, ◌++◌, codes, pos, Option, Some, None, IfNone, IfSome, refl, sym, ap, ap₂, subst, inl, inr, arith, append-nil}
+use Rattle.std.specs.Str.{bytes_eq}
+use Rattle.clap.specs.Kinds.{Kinds, IsAmong, or_else}
+use Rattle.clap.specs.Lexer.{without_minus}
+use Rattle.clap.specs.ValueTests.{accepts}
+use Rattle.clap.specs.Walk.{Row, Text, first_of, has_row, one_of}
+use Rattle.clap.specs.Simple.{subcommand_of}
+use Rattle.clap.specs.Faults.{fault_of}
+use Rattle.clap.specs.declared.error.kind.ErrorKind.{ErrorKind}
+use Rattle.clap.specs.declared.error.kind.ErrorKind.TheVariants.{ArgumentConflict, ValueValidation}
+use Rattle.clap.specs.declared.builder.value_parser.ValueParser.{ValueParser}
+use Rattle.clap.specs.declared.builder.value_parser.ValueParser.TheVariants.{Signed}
+use Rattle.command_words.specs.Words.{AreOptions, IsBudget, IsNumber, IsWorkers, Says, SaysNone, number_after}
+use Rattle.command_words.specs.Program.{ReadsNumber, ReadsRun, program}
+use Rattle.command_words.specs.declared.reading.Command.{Command}
+use Rattle.command_words.specs.declared.reading.Command.TheVariants.{Run, Check}
+use Rattle.command_words.proofs.LongWords.{dashes}
+use Rattle.command_words.proofs.Numbers.{accepted_number, minus_off, number_in_range, number_plain}
+use Rattle.command_words.proofs.Options.{AllPlain, Pass, Use, all_written, has_dashes, name_of, spelled, use_kinds, use_rows, used_all, written}
+use Rattle.command_words.proofs.Program.{IsRun, accepted, check_passes, check_rows, rows_of_run, run_passes}
+
+-- ---- one use
+
+abbrev parser_of : Bool → ValueParser
+parser_of true = Signed (pos 1) (pos 16)
+parser_of false = Signed (pos 0) (pos 100000)
+
+record IsFresh (a : Bool) (v : Text) (rows : List Row) : Type 0 where
+  pub fresh : has_row (name_of a) rows ≡ false
+  pub takes : accepts false (parser_of a) v ≡ true
+
+abbrev kinds_by : Bool → Bool → Kinds
+kinds_by used taken = or_else (cond (used && true) (ArgumentConflict ∷ []) []) (or_else (cond taken [] (ValueValidation ∷ [])) [])
+
+fresh_use : (a : Bool) (v : Text) (rows : List Row) → use_kinds a v rows ≡ [] → IsFresh a v rows
+fresh_use true v rows e = go (has_row (name_of true) rows) (accepts false (parser_of true) v) refl refl e
+  where
+    go : (x y : Bool) → has_row (name_of true) rows ≡ x → accepts false (parser_of true) v ≡ y → kinds_by x y ≡ [] → IsFresh true v rows
+    go true y is is' bad = absurd (cc)
+    go false true is is' e = record { fresh = is; takes = is' }
+    go false false is is' bad = absurd (cc)
+fresh_use false v rows e = go (has_row (name_of false) rows) (accepts false (parser_of false) v) refl refl e
+  where
+    go : (x y : Bool) → has_row (name_of false) rows ≡ x → accepts false (parser_of false) v ≡ y → kinds_by x y ≡ [] → IsFresh false v rows
+    go true y is is' bad = absurd (cc)
+    go false true is is' e = record { fresh = is; takes = is' }
+    go false false is is' bad = absurd (cc)
+
+use_passes : (a : Bool) (v : Text) (rows : List Row) → IsFresh a v rows → use_kinds a v rows ≡ []
+use_passes true v rows is = ap₂ kinds_by is.fresh is.takes
+use_passes false v rows is = ap₂ kinds_by is.fresh is.takes
+
+abbrev matched : List Use → List Row
+matched uses = rows_of_run (used_all [] uses)
+
+-- ---- what is read of the matches
+
+record IsTaken (v : Text) (n : ℕ) : Type 0 where
+  pub number : IsNumber v
+  pub is : n ≡ number_after 0 v
+
+taken : (default n : ℕ) (name : Text) (rows : List Row) (v : Text) → first_of name rows ≡ Some v → one_of name rows ≡ Some (without_minus v) → ReadsNumber default name rows (Some n) → IsTaken v n
+taken default n name rows v first one (inl none) = let bad : Some v ≡ None = sym first ∙ none.0 in absurd (cc)
+taken default n name rows v first one (inr some) =
+    let both : Some some.0 ≡ Some v = sym some.1 ∙ first in
+    let same : some.0 ≡ v = cc in
+    let number = subst IsNumber same some.2 in
+    let text = one ∙ ap Some (minus_off v number) in
+    record { number = number; is = some.3 (text ∙ ap Some (sym same)) ∙ ap (number_after 0) same }
+
+absent : (default n : ℕ) (name : Text) (rows : List Row) → first_of name rows ≡ None → ReadsNumber default name rows (Some n) → n ≡ default
+absent default n name rows first (inl none) = none.1
+absent default n name rows first (inr some) = let bad : None ≡ Some some.0 = sym first ∙ some.1 in absurd (cc)
+
+is_workers : (joined : Bool) (v : Text) (n : ℕ) (rows : List Row) → IsTaken v n → IsFresh true v rows → IsWorkers (written (record { which = true; joined = joined; value = v })) n
+is_workers joined v n rows t f =
+    let range = number_in_range 1 16 v t.number f.takes in
+    record { word = v; number = t.number; is = t.is; least = subst (λ (m : ℕ). 1 ≤ m) (sym t.is) range.least; most = subst (λ (m : ℕ). m ≤ 16) (sym t.is) range.most; given = go joined }
+  where
+    go : (j : Bool) → (written (record { which = true; joined = j; value = v }) ≡ codes "--workers" ∷ v ∷ []) ⊎ (written (record { which = true; joined = j; value = v }) ≡ (codes "--workers" ++ codes "=" ++ v) ∷ [])
+    go true = inr refl
+    go false = inl refl
+
+is_budget : (joined : Bool) (v : Text) (n : ℕ) (rows : List Row) → IsTaken v n → IsFresh false v rows → IsBudget (written (record { which = false; joined = joined; value = v })) n
+is_budget joined v n rows t f =
+    let range = number_in_range 0 100000 v t.number f.takes in
+    record { word = v; number = t.number; is = t.is; least = subst (λ (m : ℕ). 0 ≤ m) (sym t.is) range.least; most = subst (λ (m : ℕ). m ≤ 100000) (sym t.is) range.most; given = go joined }
+  where
+    go : (j : Bool) → (written (record { which = false; joined = j; value = v }) ≡ codes "--budget" ∷ v ∷ []) ⊎ (written (record { which = false; joined = j; value = v }) ≡ (codes "--budget" ++ codes "=" ++ v) ∷ [])
+    go true = inr refl
+    go false = inl refl
+
+-- these are the options that the words have
+abbrev Reading : List Use → Type 0
+Reading uses = Pass [] uses → (workers budget : ℕ) → ReadsNumber 4 (codes "workers") (matched uses) (Some workers) → ReadsNumber 20000 (codes "budget") (matched uses) (Some budget) → AreOptions (all_written uses) workers budget
+
+read_none : Reading []
+read_none pass workers budget w b = inl (refl, absent 4 workers (codes "workers") [] refl w, absent 20000 budget (codes "budget") [] refl b)
+
+read_one : (a j : Bool) (v : Text) → Reading (record { which = a; joined = j; value = v } ∷ [])
+read_one true j v pass workers budget w b =
+    let u : Use = record { which = true; joined = j; value = v } in
+    let rows = matched (u ∷ []) in
+    let is = is_workers j v workers [] (taken 4 workers (codes "workers") rows v refl refl w) (fresh_use true v [] pass.0) in
+    inr (inl (subst (λ (ws : List Text). IsWorkers ws workers) (sym (append-nil (written u))) is, absent 20000 budget (codes "budget") rows refl b))
+read_one false j v pass workers budget w b =
+    let u : Use = record { which = false; joined = j; value = v } in
+    let rows = matched (u ∷ []) in
+    let is = is_budget j v budget [] (taken 20000 budget (codes "budget") rows v refl refl b) (fresh_use false v [] pass.0) in
+    inr (inr (inl (subst (λ (ws : List Text). IsBudget ws budget) (sym (append-nil (written u))) is, absent 4 workers (codes "workers") rows refl w)))
+
+-- no option is used twice
+again : (a : Bool) (v : Text) (rows : List Row) → has_row (name_of a) rows ≡ true → use_kinds a v rows ≡ [] → ⊥
+again a v rows has e = let fresh = (fresh_use a v rows e).fresh in absurd (cc (has, fresh))
+
+read_two : (a j : Bool) (v : Text) (a' j' : Bool) (v' : Text) → Reading (record { which = a; joined = j; value = v } ∷ record { which = a'; joined = j'; value = v' } ∷ [])
+read_two true j v true j' v' pass workers budget w b = absurd (again true v' (use_rows true v []) refl pass.1.0)
+read_two false j v false j' v' pass workers budget w b = absurd (again false v' (use_rows false v []) refl pass.1.0)
+read_two true j v false j' v' pass workers budget w b =
+    let u : Use = record { which = true; joined = j; value = v } in
+    let t : Use = record { which = false; joined = j'; value = v' } in
+    let rows = matched (u ∷ t ∷ []) in
+    let first = is_workers j v workers [] (taken 4 workers (codes "workers") rows v refl refl w) (fresh_use true v [] pass.0) in
+    let second = is_budget j' v' budget (use_rows true v []) (taken 20000 budget (codes "budget") rows v' refl refl b) (fresh_use false v' (use_rows true v []) pass.1.0) in
+    inr (inr (inr (inl (record { front = written u; back = written t; in_order = ap (λ ws. written u ++ ws) (append-nil (written t)); first = first; second = second }))))
+read_two false j v true j' v' pass workers budget w b =
+    let u : Use = record { which = false; joined = j; value = v } in
+    let t : Use = record { which = true; joined = j'; value = v' } in
+    let rows = matched (u ∷ t ∷ []) in
+    let first = is_budget j v budget [] (taken 20000 budget (codes "budget") rows v refl refl b) (fresh_use false v [] pass.0) in
+    let second = is_workers j' v' workers (use_rows false v []) (taken 4 workers (codes "workers") rows v' refl refl w) (fresh_use true v' (use_rows false v []) pass.1.0) in
+    inr (inr (inr (inr (record { front = written u; back = written t; in_order = ap (λ ws. written u ++ ws) (append-nil (written t)); first = first; second = second }))))
+
+no_third : (a : Bool) (v : Text) (a' : Bool) (v' : Text) (a'' : Bool) (v'' : Text) → use_kinds a' v' (use_rows a v []) ≡ [] → use_kinds a'' v'' (use_rows a' v' (use_rows a v [])) ≡ [] → ⊥
+no_third true v true v' a'' v'' second third = again true v' (use_rows true v []) refl second
+no_third false v false v' a'' v'' second third = again false v' (use_rows false v []) refl second
+no_third true v false v' true v'' second third = again true v'' (use_rows false v' (use_rows true v [])) refl third
+no_third true v false v' false v'' second third = again false v'' (use_rows false v' (use_rows true v [])) refl third
+no_third false v true v' true v'' second third = again true v'' (use_rows true v' (use_rows false v [])) refl third
+no_third false v true v' false v'' second third = again false v'' (use_rows true v' (use_rows false v [])) refl third
+
+read_options : (uses : List Use) → Reading uses
+read_options [] = read_none
+read_options (u ∷ []) = read_one u.which u.joined u.value
+read_options (u ∷ t ∷ []) = read_two u.which u.joined u.value t.which t.joined t.value
+read_options (u ∷ t ∷ s ∷ more) = λ pass workers budget w b. absurd (no_third u.which u.value t.which t.value s.which s.value pass.1.0 pass.1.1.0)
+
+-- ---- words that say a command
+
+-- what is read of these rows are numbers
+abbrev HasNumbers : List Row → Type 0
+HasNumbers rows = (a : Bool) (text : Text) → first_of (name_of a) rows ≡ Some text → IsNumber text × (one_of (name_of a) rows ≡ Some text)
+
+record IsGood (options : List Text) : Type 0 where
+  pub uses : List Use
+  pub are : options ≡ all_written uses
+  pub plain : AllPlain uses
+  pub pass : Pass [] uses
+  pub numbers : HasNumbers (matched uses)
+
+number_here : (v text : Text) → IsNumber v → Some v ≡ Some text → IsNumber text × (Some (without_minus v) ≡ Some text)
+number_here v text is e = let same : v ≡ text = cc in (subst IsNumber same is, ap Some (minus_off v is ∙ same))
+
+no_number : (text : Text) {P : Type 0} → None ≡ Some text → P
+no_number text e = absurd (cc)
+
+numbers_none : HasNumbers []
+numbers_none a text e = no_number text e
+
+numbers_one : (a j : Bool) (v : Text) → IsNumber v → HasNumbers (matched (record { which = a; joined = j; value = v } ∷ []))
+numbers_one true j v is true text e = number_here v text is e
+numbers_one true j v is false text e = no_number text e
+numbers_one false j v is true text e = no_number text e
+numbers_one false j v is false text e = number_here v text is e
+
+numbers_two : (a j : Bool) (v : Text) (j' : Bool) (v' : Text) → IsNumber v → IsNumber v' → HasNumbers (matched (record { which = a; joined = j; value = v } ∷ record { which = not a; joined = j'; value = v' } ∷ []))
+numbers_two true j v j' v' is is' true text e = number_here v text is e
+numbers_two true j v j' v' is is' false text e = number_here v' text is' e
+numbers_two false j v j' v' is is' true text e = number_here v' text is' e
+numbers_two false j v j' v' is is' false text e = number_here v text is e
+
+-- an option as a use
+record IsUse (a : Bool) (words : List Text) : Type 0 where
+  pub joined : Bool
+  pub value : Text
+  pub number : IsNumber value
+  pub takes : accepts false (parser_of a) value ≡ true
+  pub are : words ≡ written (record { which = a; joined = joined; value = value })
+
+use_of_workers : (words : List Text) (n : ℕ) → IsWorkers words n → IsUse true words
+use_of_workers words n is = go is.given
+  where
+    takes : accepts false (parser_of true) is.word ≡ true
+    takes = accepted_number 1 16 is.word (omega arith) is.number (subst (λ (m : ℕ). 1 ≤ m) is.is is.least) (subst (λ (m : ℕ). m ≤ 16) is.is is.most)
+
+    go : (words ≡ codes "--workers" ∷ is.word ∷ []) ⊎ (words ≡ (codes "--workers" ++ codes "=" ++ is.word) ∷ []) → IsUse true words
+    go (inl e) = record { joined = false; value = is.word; number = is.number; takes = takes; are = e }
+    go (inr e) = record { joined = true; value = is.word; number = is.number; takes = takes; are = e }
+
+use_of_budget : (words : List Text) (n : ℕ) → IsBudget words n → IsUse false words
+use_of_budget words n is = go is.given
+  where
+    takes : accepts false (parser_of false) is.word ≡ true
+    takes = accepted_number 0 100000 is.word (omega arith) is.number (subst (λ (m : ℕ). 0 ≤ m) is.is is.least) (subst (λ (m : ℕ). m ≤ 100000) is.is is.most)
+
+    go : (words ≡ codes "--budget" ∷ is.word ∷ []) ⊎ (words ≡ (codes "--budget" ++ codes "=" ++ is.word) ∷ []) → IsUse false words
+    go (inl e) = record { joined = false; value = is.word; number = is.number; takes = takes; are = e }
+    go (inr e) = record { joined = true; value = is.word; number = is.number; takes = takes; are = e }
+
+abbrev use_as : (a : Bool) (words : List Text) → IsUse a words → Use
+use_as a words u = record { which = a; joined = u.joined; value = u.value }
+
+good_one : (a : Bool) (words : List Text) → IsUse a words → IsGood words
+good_one a words u = record {
+  uses = use_as a words u ∷ [];
+  are = u.are ∙ sym (append-nil (written (use_as a words u)));
+  plain = (number_plain u.value u.number, tt);
+  pass = (use_passes a u.value [] (record { fresh = refl; takes = u.takes }), tt);
+  numbers = numbers_one a u.joined u.value u.number;
+}
+
+other_fresh : (a : Bool) (v : Text) → has_row (name_of (not a)) (use_rows a v []) ≡ false
+other_fresh true v = refl
+other_fresh false v = refl
+
+good_two : (a : Bool) (words front back : List Text) → words ≡ front ++ back → IsUse a front → IsUse (not a) back → IsGood words
+good_two a words front back e u t =
+    let first = use_as a front u in
+    let second = use_as (not a) back t in
+    record {
+      uses = first ∷ second ∷ [];
+      are = e ∙ ap₂ (λ (xs ys : List Text). xs ++ ys) u.are (t.are ∙ sym (append-nil (written second)));
+      plain = (number_plain u.value u.number, (number_plain t.value t.number, tt));
+      pass = (use_passes a u.value [] (record { fresh = refl; takes = u.takes }), (use_passes (not a) t.value (use_rows a u.value []) (record { fresh = other_fresh a u.value; takes = t.takes }), tt));
+      numbers = numbers_two a u.joined u.value t.joined t.value u.number t.number;
+    }
+
+good_options : (options : List Text) (workers budget : ℕ) → AreOptions options workers budget → IsGood options
+good_options options workers budget (inl none) = record { uses = []; are = none.0; plain = tt; pass = tt; numbers = numbers_none }
+good_options options workers budget (inr (inl one)) = good_one true options (use_of_workers options workers one.0)
+good_options options workers budget (inr (inr (inl one))) = good_one false options (use_of_budget options budget one.0)
+good_options options workers budget (inr (inr (inr (inl both)))) =
+    good_two true options both.front both.back both.in_order (use_of_workers both.front workers both.first) (use_of_budget both.back budget both.second)
+good_options options workers budget (inr (inr (inr (inr both)))) =
+    good_two false options both.front both.back both.in_order (use_of_budget both.front budget both.first) (use_of_workers both.back workers both.second)
+
+-- none of them is `--`
+spelled_safe : (a : Bool) (given : Option Text) → bytes_eq (spelled a given) dashes ≡ false
+spelled_safe true given = refl
+spelled_safe false given = refl
+
+uses_safe : (uses : List Use) → AllPlain uses → has_dashes (all_written uses) ≡ false
+uses_safe [] plain = refl
+uses_safe (u ∷ us) plain = go u.joined (uses_safe us plain.1)
+  where
+    go : (j : Bool) → has_dashes (all_written us) ≡ false → has_dashes (written (record u { joined = j }) ++ all_written us) ≡ false
+    go true e = ap₂ (λ (x y : Bool). x || y) (spelled_safe u.which (Some u.value)) e
+    go false e = ap₂ (λ (x y : Bool). x || y) (spelled_safe u.which None) (ap₂ (λ (x y : Bool). x || y) plain.0.safe e)
+
+-- ---- the answers
+
+-- words that say a command have no `--` and no fault
+record IsClean (words : List Text) : Type 0 where
+  pub safe : has_dashes words ≡ false
+  pub passes : fault_of program words ≡ []
+
+run_clean : (words options : List Text) → words ≡ codes "run" ∷ options → IsGood options → IsClean words
+run_clean words options e good =
+    let whole = e ∙ ap (λ ws. codes "run" ∷ ws) good.are in
+    record {
+      safe = ap has_dashes whole ∙ uses_safe good.uses good.plain;
+      passes = ap (fault_of program) whole ∙ (run_passes good.uses good.plain good.pass).no_fault;
+    }
+
+says_clean : (words : List Text) (c : Command) → Says words c → IsClean words
+says_clean words (Run workers budget) says = run_clean words says.0 says.1 (good_options says.0 workers budget says.2)
+says_clean words Check says = record { safe = ap has_dashes says; passes = ap (fault_of program) says ∙ check_passes }
+
+pub escape_says_none : (words : List Text) → has_dashes words ≡ true → SaysNone words
+escape_says_none words e c says = let safe = (says_clean words c says).safe in absurd (cc (e, safe))
+
+pub fault_says_none : (words : List Text) (k : ErrorKind) → IsAmong k (fault_of program words) → SaysNone words
+fault_says_none words k is c says = subst (IsAmong k) (says_clean words c says).passes is
+
+-- the command is none where no command is said, and else the one that is
+pub record IsSaid (words : List Text) (said : Option Command) : Type 0 where
+  pub none : IfNone said (SaysNone words)
+  pub some : IfSome said (Says words)
+
+abbrev Found : Type 0
+Found = Option (Text × List Row)
+
+said_check : (words : List Text) (said : Option Command) → words ≡ codes "check" ∷ [] → said ≡ Some Check → IsSaid words said
+said_check words said e is = subst (IsSaid words) (sym is) (record { none = tt; some = e })
+
+run_is_no_check : (options : List Text) → codes "run" ∷ options ≡ codes "check" ∷ [] → ⊥
+run_is_no_check options e = absurd (cc)
+
+same_rows : (name : Text) (xs ys : List Row) → ◌≡◌ {A = Found} (Some (name, xs)) (Some (name, ys)) → xs ≡ ys
+same_rows name xs ys e = let both : ◌≡◌ {A = Text × List Row} (name, xs) (name, ys) = cc in ap (λ (p : Text × List Row). p.1) both
+
+said_run : (words : List Text) (said : Option Command) (is : IsRun words) → ReadsRun (matched is.uses) said → IsSaid words said
+said_run words None is reads = record { none = refuses; some = tt }
+  where
+    unread : (options : List Text) → words ≡ codes "run" ∷ options → IsGood options → ⊥
+    unread options e good =
+        let whole = e ∙ ap (λ ws. codes "run" ∷ ws) good.are in
+        let rows = (run_passes good.uses good.plain good.pass).rows in
+        let both : ◌≡◌ {A = Found} (Some (codes "run", matched is.uses)) (Some (codes "run", matched good.uses)) = sym is.rows ∙ ap (subcommand_of program) whole ∙ rows in
+        let same = same_rows (codes "run") (matched is.uses) (matched good.uses) both in
+        let numbers = subst HasNumbers (sym same) good.numbers in
+        elim reads [
+          | inl w ↦ let n = numbers true w.0 w.1 in w.2 n.0 n.1
+          | inr b ↦ let n = numbers false b.0 b.1 in b.2 n.0 n.1
+        ]
+
+    refuses : SaysNone words
+    refuses (Run workers budget) says = unread says.0 says.1 (good_options says.0 workers budget says.2)
+    refuses Check says = run_is_no_check (all_written is.uses) (sym is.are ∙ says)
+said_run words (Some c) is reads = record {
+  none = tt;
+  some = subst (Says words) (sym reads.4) (all_written is.uses, is.are, read_options is.uses is.pass reads.0 reads.1 reads.2 reads.3);
+}
+
+pub is_said : (words : List Text) (found : Found) (said : Option Command) → has_dashes words ≡ false → fault_of program words ≡ [] → found ≡ subcommand_of program words
+    → ((rows : List Row) → found ≡ Some (codes "run", rows) → ReadsRun rows said) → ((rows : List Row) → found ≡ Some (codes "check", rows) → said ≡ Some Check)
+    → IsSaid words said
+is_said words found said safe none is run check =
+    elim (accepted words safe none) [
+      | inl e ↦ said_check words said e (check [] (is ∙ ap (subcommand_of program) e ∙ check_rows))
+      | inr r ↦ said_run words said r (run (matched r.uses) (is ∙ r.rows))
+    ]

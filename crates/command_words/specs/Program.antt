@@ -1,0 +1,44 @@
+-- What `clap` is told of the words, and what is read of its matches.
+use Rattle.std.specs.Prelude.{◌≡◌, ◌⊎◌, ℕ, List, Option, Some, None, codes, pos, true, MatchOption}
+use Rattle.clap.specs.Walk.{Row, Rule, Text, first_of, one_of}
+use Rattle.clap.specs.Simple.{App, Shape, new_app, new_rule, new_shape, with_rule, with_subcommand}
+use Rattle.clap.specs.declared.builder.value_parser.ValueParser.{ValueParser}
+use Rattle.clap.specs.declared.builder.value_parser.ValueParser.TheVariants.{Signed}
+use Rattle.command_words.specs.Words.{IsNumber, number_after}
+use Rattle.command_words.specs.declared.reading.Command.{Command}
+use Rattle.command_words.specs.declared.reading.Command.TheVariants.{Run}
+
+-- an option by its long name, with a number
+abbrev pub number_option : Text → ValueParser → Rule
+number_option name numbers = record (new_rule name) { long = Some name; parser = Some numbers }
+
+abbrev pub workers : Rule
+workers = number_option (codes "workers") (Signed (pos 1) (pos 16))
+
+abbrev pub budget : Rule
+budget = number_option (codes "budget") (Signed (pos 0) (pos 100000))
+
+abbrev pub run_command : App
+run_command = with_rule (with_rule (new_app (codes "run")) workers) budget
+
+abbrev pub check_command : App
+check_command = new_app (codes "check")
+
+-- every word belongs to the program, a command is needed, and none asks for help
+abbrev pub top_shape : Shape
+top_shape = record (new_shape (codes "explore")) { no_binary_name = true; disable_help_flag = true; disable_help_subcommand = true; subcommand_required = true }
+
+abbrev pub program : App
+program = with_subcommand (with_subcommand (record (new_app (codes "explore")) { top = top_shape }) run_command.top) check_command.top
+
+-- what is read of an option: its default, or the number that its text is
+abbrev pub ReadsNumber : ℕ → Text → List Row → Option ℕ → Type 0
+ReadsNumber default name rows read = MatchOption read
+    ((text : Text) × (first_of name rows ≡ Some text) × (IsNumber text → one_of name rows ≡ Some text → ⊥))
+    (λ n. ((first_of name rows ≡ None) × (n ≡ default)) ⊎ ((text : Text) × (first_of name rows ≡ Some text) × IsNumber text × (one_of name rows ≡ Some text → n ≡ number_after 0 text)))
+
+-- both options' numbers are read, or one isn't
+abbrev pub ReadsRun : List Row → Option Command → Type 0
+ReadsRun rows said = MatchOption said
+    (ReadsNumber 4 (codes "workers") rows None ⊎ ReadsNumber 20000 (codes "budget") rows None)
+    (λ c. (workers : ℕ) × (budget : ℕ) × ReadsNumber 4 (codes "workers") rows (Some workers) × ReadsNumber 20000 (codes "budget") rows (Some budget) × (c ≡ Run workers budget))

@@ -1,0 +1,4 @@
+pub mod Bracketing
+pub mod Chains
+pub mod Climbs
+pub mod Tops

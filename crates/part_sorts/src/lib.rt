@@ -1,0 +1,15 @@
+//! What the parts of a resolved tree are, what each operator wants of its operands, and over which top-level signature each
+//! signature stands.
+#![tactic(auto)]
+
+pub mod arities;
+pub mod bounds;
+pub mod comparisons;
+pub mod kinds;
+pub mod places;
+pub mod tables;
+#[cfg(test)]
+mod tests;
+
+pub use crate::kinds::Kind;
+pub use std::alloc::AllocError as NoMemory;

@@ -1,0 +1,10 @@
+//! Predicates and functions that call themselves.
+#![tactic(auto)]
+
+mod calls;
+mod recursion;
+#[cfg(test)]
+mod tests;
+
+pub use crate::recursion::first_recursive;
+pub use std::alloc::AllocError as NoMemory;

@@ -1,0 +1,8 @@
+//! The relations of signatures, with the tuples that they have at least and at most.
+#![tactic(auto)]
+
+pub mod names;
+pub mod places;
+pub mod signatures;
+#[cfg(test)]
+mod tests;
