@@ -262,16 +262,14 @@ gap_back {after = after} (block body gap closed more) at ts from =
 
 -- ---- readings
 
-abbrev token : TokenKind → ℕ → ℕ → Place → List ℕ → Token
-token k start end place text = record { kind = k; start = start; end = end; place = place; text = text }
+abbrev token : TokenKind → ℕ → Place → List ℕ → Token
+token k start place text = record { kind = k; start = start; place = place; text = text }
 
-token_is : (t : Token) (at : Spot) → t.start ≡ at.start → t.end ≡ t.start + length t.text → t.place ≡ at.place → token_at t.kind at t.text ≡ t
-token_is t at start end place =
+token_is : (t : Token) (at : Spot) → t.start ≡ at.start → t.place ≡ at.place → token_at t.kind at t.text ≡ t
+token_is t at start place =
     let k = t.kind in
     let text = t.text in
-    ap (λ (s : ℕ). token k s (s + length text) at.place text) (sym start)
-    ∙ ap (λ (e : ℕ). token k t.start e at.place text) (sym end)
-    ∙ ap (λ (p : Place). token k t.start t.end p text) (sym place)
+    ap (λ (s : ℕ). token k s at.place text) (sym start) ∙ ap (λ (p : Place). token k t.start p text) (sym place)
 
 ends_here : (at : Spot) → From at [] []
 unfolding tokens_from
@@ -287,7 +285,7 @@ from_reads (t ∷ ts) at text reads =
     let has : 0 < length t.text = has_byte t.kind t.text reads.1 next.longest in
     let l = length-append t.text reads.1 in
     let shorter : length reads.1 < length (t.text ++ reads.1) = omega arith in
-    let one : token_at t.kind here t.text ≡ t = token_is t here next.start next.end next.place in
+    let one : token_at t.kind here t.text ≡ t = token_is t here next.start next.place in
     let from : From here (t.text ++ reads.1) (token_at t.kind here t.text ∷ ts) = λ n enough.
     step_back (t.text ++ reads.1) n here (passed here t.text) (Some (token_at t.kind here t.text)) reads.1 ts shorter (token_step t.kind here t.text reads.1 next.longest) rest enough in
     subst (λ (xs : List ℕ). From at xs (t ∷ ts)) (sym next.whole)

@@ -66,7 +66,6 @@ next_behind at piece rest text gap after t whole before next =
       separated = before gap (t.text ++ after) (sym next.whole) next.separated;
       longest = next.longest;
       start = let s = next.start in omega arith;
-      end = next.end;
       place = next.place ∙ after_append at.place piece gap;
     }
 
@@ -91,7 +90,6 @@ step_reads (front.Token k n) at bs x us is e reads =
         separated = nothing;
         longest = is.1;
         start = omega arith;
-        end = refl;
         place = after_none at.place;
       },
       subst (λ s. Reads (passed s (take n bs)) (drop n bs) us) (sym (passed_none at)) reads,

@@ -144,7 +144,6 @@ step_later (front.Token k n) at text x e is read stops =
         separated = nothing;
         longest = is.1;
         start = omega arith;
-        end = refl;
         place = after_none at.place;
       },
       subst (λ s'. ReadsBefore (passed s' (take n text)) (drop n text) s.tokens s.rest) (sym (passed_none at)) s.reads,

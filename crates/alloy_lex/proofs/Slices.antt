@@ -8,7 +8,7 @@ use Rattle.alloy_lex.specs.declared.token.TokenKind.{TokenKind}
 use Rattle.alloy_lex.specs.declared.token.TokenKind.TheVariants as kind
 use Rattle.alloy_lex.specs.declared.lexing.Spot.{Spot}
 use Rattle.alloy_lex.specs.Fronts.{line_feed, slash}
-use Rattle.alloy_lex.specs.Tokens.{is_continuation, next_line, next_column, after_byte, after_bytes, passed, origin, tokens_of}
+use Rattle.alloy_lex.specs.Tokens.{is_continuation, next_line, next_column, after_byte, after_bytes, passed, origin, tokens_of, token_end}
 use Rattle.alloy_lex.specs.Reading.{IsToken, IsNext, Reads, AreSlices, AreSized}
 use Rattle.alloy_lex.proofs.Paths.{take_front, drop_front}
 use Rattle.alloy_lex.proofs.Readings.{tokens_read}
@@ -31,17 +31,16 @@ module _ (whole : List ℕ) where
   drop_more a b xs e = ap (λ (ys : List ℕ). drop b ys) e ∙ drop-drop b a whole
 
   slice_of : (at : Spot) (text gap rest : List ℕ) (t : Token) → text ≡ drop at.start whole → IsNext at text gap rest t
-      → (at.start ≤ t.start) × (t.start < t.end) × (t.end ≤ length whole) × (t.text ≡ slice_range whole t.start t.end)
+      → (at.start ≤ t.start) × (0 < length t.text) × (token_end t ≤ length whole) × (t.text ≡ slice_range whole t.start (token_end t))
   slice_of at text gap rest t there next =
       let start : t.start ≡ at.start + length gap = next.start in
-      let end : t.end ≡ t.start + length t.text = next.end in
       let has : 0 < length t.text = has_byte t.kind t.text rest next.longest in
       let parts : length text ≡ length gap + length (t.text ++ rest) = ap (λ (xs : List ℕ). length xs) next.whole ∙ length-append gap (t.text ++ rest) in
       let more : length (t.text ++ rest) ≡ length t.text + length rest = length-append t.text rest in
       let left : length text ≡ length whole - at.start = ap (λ (xs : List ℕ). length xs) there ∙ length-drop at.start whole in
       let behind : drop t.start whole ≡ t.text ++ rest =
       ap (λ (k : ℕ). drop k whole) start ∙ sym (drop_more at.start (length gap) text there) ∙ ap (λ (xs : List ℕ). drop (length gap) xs) next.whole ∙ drop_front gap (t.text ++ rest) in
-      let long : length t.text ≡ t.end - t.start = omega arith in (
+      let long : length t.text ≡ token_end t - t.start = omega arith in (
         omega arith,
         omega arith,
         omega arith,
@@ -59,7 +58,7 @@ module _ (whole : List ℕ) where
   slices_from (t ∷ ts) at text there reads =
       let next = reads.2 in
       let slice = slice_of at text reads.0 reads.1 t there next in
-      let end : at.start + length reads.0 + length t.text ≡ t.end = sym (next.end ∙ ap (λ (k : ℕ). k + length t.text) next.start) in
+      let end : at.start + length reads.0 + length t.text ≡ token_end t = sym (ap (λ (k : ℕ). k + length t.text) next.start) in
       (slice.0, slice.1, slice.2, slice.3, subst (λ (k : ℕ). AreSlices whole k ts) end (slices_from ts (passed (passed at reads.0) t.text) reads.1 (rest_of at text reads.0 reads.1 t there next) reads.3))
 
 pub tokens_slices : (text : List ℕ) (ts : List Token) → tokens_of text ≡ Ok ts → AreSlices text 0 ts
@@ -89,7 +88,6 @@ sized_from [] at text fits line column reads = tt
 sized_from (t ∷ ts) at text fits line column reads =
     let next = reads.2 in
     let start : t.start ≡ at.start + length reads.0 = next.start in
-    let end : t.end ≡ t.start + length t.text = next.end in
     let parts : length text ≡ length reads.0 + length (t.text ++ reads.1) = ap (λ (xs : List ℕ). length xs) next.whole ∙ length-append reads.0 (t.text ++ reads.1) in
     let more : length (t.text ++ reads.1) ≡ length t.text + length reads.1 = length-append t.text reads.1 in
     let gap = after_bounds reads.0 at.place in
@@ -100,7 +98,7 @@ sized_from (t ∷ ts) at text fits line column reads =
     let text_column = text'.1 in
     let at_line : t.place.line ≡ (after_bytes at.place reads.0).line = ap (λ (p : Place). p.line) next.place in
     let at_column : t.place.column ≡ (after_bytes at.place reads.0).column = ap (λ (p : Place). p.column) next.place in (
-      record { order = omega arith; end = omega arith; line = omega arith; column = omega arith },
+      record { end = omega arith; line = omega arith; column = omega arith },
       sized_from ts (passed (passed at reads.0) t.text) reads.1 (omega arith) (omega arith) (omega arith) reads.3,
     )
 

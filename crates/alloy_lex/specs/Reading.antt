@@ -11,7 +11,7 @@ use Rattle.alloy_lex.specs.declared.token.LexFault.TheVariants as fault
 use Rattle.alloy_lex.specs.declared.lexing.Spot.{Spot}
 use Rattle.alloy_lex.specs.Words.{is_word, symbols}
 use Rattle.alloy_lex.specs.Fronts.{is_space, is_letter, is_digit, is_name_byte, is_in_line, line_feed, slash, number_from}
-use Rattle.alloy_lex.specs.Tokens.{next_line, next_column, after_bytes, passed, origin}
+use Rattle.alloy_lex.specs.Tokens.{next_line, next_column, after_bytes, passed, token_end, origin}
 
 -- ---- what separates tokens
 
@@ -79,7 +79,6 @@ pub record IsNext (at : Spot) (text gap rest : List ℕ) (t : Token) : Type 0 wh
   pub separated : Separates gap (t.text ++ rest)
   pub longest : IsToken t.kind t.text rest
   pub start : t.start ≡ at.start + length gap
-  pub end : t.end ≡ t.start + length t.text
   pub place : t.place ≡ after_bytes at.place gap
 
 -- a text, from a spot on, reads as these tokens
@@ -150,7 +149,7 @@ pub record IsRefused (text : List ℕ) (e : LexFault) : Type 0 where
 -- each token is the slice of the text from its start to its end, which has a byte, and they stand in order
 abbrev pub AreSlices : List ℕ → ℕ → List Token → Type 0
 AreSlices text from [] = Unit {0}
-AreSlices text from (t ∷ ts) = (from ≤ t.start) × (t.start < t.end) × (t.end ≤ length text) × (t.text ≡ slice_range text t.start t.end) × AreSlices text t.end ts
+AreSlices text from (t ∷ ts) = (from ≤ t.start) × (0 < length t.text) × (token_end t ≤ length text) × (t.text ≡ slice_range text t.start (token_end t)) × AreSlices text (token_end t) ts
 
 -- the place of each token counts the lines and the characters before it
 abbrev pub ArePlaced : List ℕ → List Token → Type 0
@@ -159,8 +158,7 @@ ArePlaced text (t ∷ ts) = ((cs : List ℕ) → encode_utf8_all cs ≡ take t.s
 
 -- a token lies within a text of the greatest length, and so does its place
 pub record IsSized (t : Token) : Type 0 where
-  pub order : t.start ≤ t.end
-  pub end : t.end ≤ 1048576
+  pub end : token_end t ≤ 1048576
   pub line : t.place.line ≤ 1048577
   pub column : t.place.column ≤ 1048577
 

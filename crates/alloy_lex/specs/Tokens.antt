@@ -40,8 +40,12 @@ Step = Option Token × Spot × List ℕ
 abbrev pub passed : Spot → List ℕ → Spot
 passed at text = record { start = at.start + length text; place = after_bytes at.place text }
 
+-- the bytes of the source before what follows a token
+abbrev pub token_end : Token → ℕ
+token_end t = t.start + length t.text
+
 abbrev pub token_at : TokenKind → Spot → List ℕ → Token
-token_at k at text = record { kind = k; start = at.start; end = at.start + length text; place = at.place; text = text }
+token_at k at text = record { kind = k; start = at.start; place = at.place; text = text }
 
 abbrev pub step_at : Front → Spot → List ℕ → Result Step LexFault
 step_at (front.Blank n) at bs = Ok (None, passed at (take n bs), drop n bs)

@@ -5,8 +5,8 @@ ghost use Rattle.alloy_lex.specs.Tokens.{after_byte, after_bytes, passed, token_
 ghost use Rattle.alloy_lex.specs.Reading.{AreSized};
 
 use crate::front::{Front, ascii_text, front_of};
-use crate::token::{LexFault, Place, Text, Token, TokenKind};
-use std::alloc::{AllocError, Global};
+use crate::token::{LexFault, Place, Spelling, Token, TokenKind};
+use std::alloc::Global;
 
 /// How far a text was read: the bytes that were passed, and the place of what follows.
 #[derive(Clone, Copy, Debug, PartialEq, Eq)]
@@ -71,27 +71,22 @@ fn passed(at: Spot, bytes: &[u8]) -> Spot
     }
 }
 
-fn token_at(alloc: Global, kind: TokenKind, at: Spot, bytes: &[u8]) -> Result<Token, AllocError>
+fn token_at<'a>(kind: TokenKind, at: Spot, bytes: &'a [u8]) -> Token<'a>
     requires ascii { IsAscii bytes.now }
     requires small { at.start + length bytes.now < 2 ^ 29 }
-    ensures { IfOk result (λ t. t ≡ token_at kind at bytes.now) }
+    ensures { result ≡ token_at kind at bytes.now }
 {
-    Ok(Token {
+    Token {
         kind,
-        start: at.start,
-        end: at.start + bytes.len(),
+        start: at.start as u32,
         place: at.place,
-        text: Text::of(alloc, ascii_text(bytes))?,
-    })
+        text: Spelling::of(ascii_text(bytes)),
+    }
 }
 
 // One token, or a space or a comment, and where the text goes on.
 #[tactic(auto, unfolding(crate::specs::Tokens::step_of))]
-fn step<'a>(
-    alloc: Global,
-    at: Spot,
-    bytes: &'a [u8],
-) -> Result<(Option<Token>, Spot, &'a [u8]), LexFault>
+fn step<'a>(at: Spot, bytes: &'a [u8]) -> Result<(Option<Token<'a>>, Spot, &'a [u8]), LexFault>
     requires some { 0 < length bytes.now }
     requires start { at.start + length bytes.now < 2 ^ 29 }
     requires line { at.place.line + length bytes.now < 2 ^ 29 }
@@ -109,8 +104,7 @@ fn step<'a>(
         }
         Front::Token(kind, n) => {
             let (text, rest) = bytes.split_at(n);
-            let token = token_at(alloc, kind, at, text)?;
-            Ok((Some(token), passed(at, text), rest))
+            Ok((Some(token_at(kind, at, text)), passed(at, text), rest))
         }
         Front::BadCharacter => Err(LexFault::BadCharacter { place: at.place }),
         Front::OpenComment => Err(LexFault::OpenComment { place: at.place }),
@@ -119,7 +113,7 @@ fn step<'a>(
 }
 
 /// The tokens of a text, or its first fault.
-pub fn lex(alloc: Global, text: &str) -> Result<Vec<Token>, LexFault>
+pub fn lex<'a>(alloc: Global, text: &'a str) -> Result<Vec<Token<'a>>, LexFault>
     requires { length text.now ≤ 1048576 }
     ensures tokens { IfOk result (λ v. tokens_of text.now ≡ Ok v.items) }
     ensures faults { IfErr result (λ e. IsFaultOf e (tokens_of text.now)) }
@@ -133,7 +127,7 @@ pub fn lex(alloc: Global, text: &str) -> Result<Vec<Token>, LexFault>
     };
     let mut rest = text.as_bytes();
     'each: while !rest.is_empty() {
-        let (found, next, behind) = step(alloc, at, rest)?;
+        let (found, next, behind) = step(at, rest)?;
         if let Some(token) = found {
             tokens.push(token)?;
         }

@@ -10,4 +10,4 @@ mod tests;
 mod token;
 
 pub use crate::lexing::lex;
-pub use crate::token::{LexFault, Place, Text, Token, TokenKind};
+pub use crate::token::{LexFault, Place, Spelling, Text, Token, TokenKind};

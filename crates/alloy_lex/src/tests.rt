@@ -1,5 +1,5 @@
 // That the definitions are the language's: texts whose tokens were worked out by hand.
-use crate::{LexFault, Token, TokenKind, lex};
+use crate::{LexFault, Text, Token, TokenKind, lex};
 use std::alloc::Global;
 use std::fmt::Write;
 use std::process::Abort;
@@ -272,15 +272,16 @@ fn knows_the_words_that_are_refused(rt: HostRuntime) -> Result<(), Fail> {
     Ok(())
 }
 
-// Where each token stands, and the copied text of the first.
+// Where each token stands, and a copy of what the first spells.
 fn told_slices(alloc: Global, tokens: &[Token]) -> Result<String, Fail> {
     let mut out = String::new(alloc);
     for token in tokens {
-        write!(out, "{}-{} ", token.start, token.end)?;
+        write!(out, "{}+{} ", token.start, token.text.text().len())?;
     }
     if let Some(first) = tokens.first() {
-        let copy = first.text.copy(alloc)?;
-        out.push_str(copy.text())?;
+        let spelling = first.text.again();
+        let text = Text::of(alloc, spelling.text())?.copy(alloc)?;
+        out.push_str(text.text())?;
     }
     Ok(out)
 }
@@ -291,9 +292,6 @@ fn tells_slices(rt: HostRuntime) -> Result<(), Fail> {
         return Err("refused")?;
     };
     let found = told_slices(rt.alloc(), &tokens)?;
-    assert_eq!(rt;
-        found.as_str(),
-        "9-12 13-14 20-21 22-24 24-25 26-28 29-30 sig"
-    );
+    assert_eq!(rt; found.as_str(), "9+3 13+1 20+1 22+2 24+1 26+2 29+1 sig");
     Ok(())
 }

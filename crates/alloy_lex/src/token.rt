@@ -23,20 +23,26 @@ pub enum TokenKind {
     Symbol,
 }
 
-/// A token's text, seen as the list of its bytes.
+/// A text of its own, seen as the list of its bytes.
 #[derive(Debug, Drop)]
 pub struct Text {
     text: String,
 }
 
-/// A token: what it is, the bytes of the source from `start` until `end`, where they begin, and what they spell.
+/// What a token spells, lent by the text that it was read from, and seen as the list of its bytes.
+#[derive(Debug, Drop)]
+pub struct Spelling<'a> {
+    text: &'a str,
+}
+
+/// A token: what it is, how many bytes of the source stand before it, the place where it begins, and what it spells. It
+/// borrows the source.
 #[derive(Drop)]
-pub struct Token {
+pub struct Token<'a> {
     pub kind: TokenKind,
-    pub start: usize,
-    pub end: usize,
+    pub start: u32,
     pub place: Place,
-    pub text: Text,
+    pub text: Spelling<'a>,
 }
 
 /// Why a text has no tokens: its first fault, or no memory for them.
@@ -61,7 +67,7 @@ impl Model for Text {
 }
 
 impl Text {
-    /// The token's text that spells this.
+    /// The text that spells this.
     pub fn of(alloc: Global, text: &str) -> Result<Text, AllocError>
         ensures { IfOk result (λ t. t ≡ text.now) }
     {
@@ -83,6 +89,37 @@ impl Text {
         ensures { IfOk result (λ t. t ≡ self.now) }
     {
         Text::of(alloc, self.text())
+    }
+}
+
+impl<'a> Model for Spelling<'a> {
+    ghost use Rattle.std.specs.Prelude.{List, ℕ};
+
+    ghost Value = { List ℕ };
+
+    ghost view = { λ s. s.text.now };
+}
+
+impl<'a> Spelling<'a> {
+    pub(crate) fn of(text: &'a str) -> Spelling<'a>
+        ensures { result ≡ text.now }
+    {
+        Spelling { text }
+    }
+
+    /// What it spells.
+    pub fn text(&self) -> &'a str
+        ensures value { result.now ≡ self.now }
+        ensures utf8 { IsUtf8 self.now }
+    {
+        self.text
+    }
+
+    /// The same spelling, lent again.
+    pub fn again(&self) -> Spelling<'a>
+        ensures { result ≡ self.now }
+    {
+        Spelling { text: self.text }
     }
 }
 

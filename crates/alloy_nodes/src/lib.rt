@@ -1,7 +1,11 @@
 //! Expressions, formulas and numbers, read from tokens.
 #![tactic(auto)]
 
-mod nest;
+mod binders;
+mod chains;
+mod levels;
 pub mod nodes;
+mod paths;
+mod rules;
 mod signs;
 mod variables;

@@ -1,6 +1,5 @@
 -- What contracts see of a bound that was read, and of its operands.
-use Rattle.std.specs.Borrow.{Bor}
-use Rattle.std.specs.Prelude.{List, Bool, map, Option, option_map, Ok}
+use Rattle.std.specs.Prelude.{true, List, Bool, map, Option, option_map, Ok}
 use Rattle.std.specs.List.{list_any}
 use Rattle.alloy_lex.specs.declared.token.Place.{Place}
 use Rattle.alloy_syntax.specs.declared.class.Class.TheVariants as class
@@ -9,6 +8,7 @@ use Rattle.alloy_syntax.specs.Tree.{BoundTree}
 use Rattle.alloy_syntax.specs.View.{bound_view}
 use Rattle.alloy_syntax.specs.Readers.{Parser, ◌>>=◌, next_is, many}
 use Rattle.alloy_syntax.specs.declared.seen.Seen.{Seen}
+use Rattle.alloy_syntax.specs.declared.halt.Tokens.{Tokens}
 use Rattle.alloy_syntax.specs.Bounds.{Standing, whole, part, beside, Bounded, BoundReader, operand_over}
 use Rattle.alloy_parse.specs.declared.bounds.ReadBound.{ReadBound}
 use Rattle.alloy_parse.specs.declared.bounds.Standing.{Standing as Stands}
@@ -18,11 +18,11 @@ use Rattle.alloy_parse.specs.declared.bounds.Standing.TheVariants as stands
 abbrev pub standing_view : Stands → Standing
 standing_view stands.Whole = whole
 standing_view stands.Part = part
-standing_view (stands.Beside word) = beside word.now
+standing_view (stands.Beside word) = beside word.left.now
 
 -- the tokens from a word on
-abbrev pub word_view : Option (Bor (List Seen)) → Option (List Seen)
-word_view = option_map (λ word. word.now)
+abbrev pub word_view : Option Tokens → Option (List Seen)
+word_view = option_map (λ word. word.left.now)
 
 -- a bound that was read
 abbrev pub bounded : ReadBound → Bounded
@@ -41,4 +41,4 @@ any_arrow = list_any (λ x. x.1.has_arrow)
 
 -- the operands behind the first, and whether one of them has an arrow
 unfoldable pub operands_over : BoundReader → Standing → Parser (List (Place × BoundTree) × Bool)
-operands_over j standing ts = many (next_is class.Plus) (operand_over j standing) ts >>= λ xs. Ok ((trees_at xs.0, any_arrow xs.0), xs.1)
+operands_over j standing ts = many (next_is class.Plus) (operand_over true j standing) ts >>= λ xs. Ok ((trees_at xs.0, any_arrow xs.0), xs.1)

@@ -15,7 +15,7 @@ use Rattle.alloy_parse.specs.declared.fault.ParseFault.TheVariants as fault
 -- just behind a token; the first place of a text, where there is none
 abbrev pub place_behind : Option Token → Place
 place_behind None = record { line = 1; column = 1 }
-place_behind (Some t) = record { line = t.place.line; column = t.place.column + (t.end - t.start) }
+place_behind (Some t) = record { line = t.place.line; column = t.place.column + length t.text }
 
 -- just behind the last token
 abbrev pub end_of : List Token → Place

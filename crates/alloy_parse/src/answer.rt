@@ -26,7 +26,7 @@ fn place_behind(token: &Token) -> Place
 {
     Place {
         line: token.place.line,
-        column: token.place.column + (token.end - token.start) as u32,
+        column: token.place.column + token.text.text().len() as u32,
     }
 }
 
@@ -67,7 +67,7 @@ fn refusal(alloc: Global, token: &Seen) -> Result<ParseFault, AllocError>
 {
     let place = token.place;
     if is_class(token.class, Class::Refused) {
-        let word = token.text.copy(alloc)?;
+        let word = Text::of(alloc, token.text.text())?;
         return Ok(ParseFault::Unsupported { place, word });
     }
     Ok(ParseFault::Unexpected { place })
@@ -76,9 +76,9 @@ fn refusal(alloc: Global, token: &Seen) -> Result<ParseFault, AllocError>
 // The fault where the tokens that are left can't go on.
 fn refused_at(alloc: Global, all: &[Token], rest: Tokens) -> Result<ParseFault, AllocError>
     requires { AreSized all.now }
-    ensures { IfOk result (λ f. f ≡ fault_of all.now (refused rest.now)) }
+    ensures { IfOk result (λ f. f ≡ fault_of all.now (refused rest.entry.left.now)) }
 {
-    match rest {
+    match rest.left {
         [] => Ok(ParseFault::EndOfText { place: end_of(all) }),
         [token, ..] => refusal(alloc, token),
     }
@@ -87,9 +87,9 @@ fn refused_at(alloc: Global, all: &[Token], rest: Tokens) -> Result<ParseFault, 
 // Where the next token stands, or just behind the last.
 fn place_of(all: &[Token], rest: Tokens) -> Place
     requires { AreSized all.now }
-    ensures { result ≡ place_of all.now rest.now }
+    ensures { result ≡ place_of all.now rest.entry.left.now }
 {
-    match rest {
+    match rest.left {
         [] => end_of(all),
         [token, ..] => token.place,
     }
@@ -122,7 +122,12 @@ pub fn parse(alloc: Global, tokens: &[Token]) -> Result<Model, ParseFault>
     ensures fault { IfErr result (λ f. Refuses tokens.now f (model_of (seen_all tokens.now))) }
 {
     let seen = seen_tokens(alloc, tokens)?;
-    match model(alloc, seen.as_slice()) {
+    match model(
+        alloc,
+        Tokens {
+            left: seen.as_slice(),
+        },
+    ) {
         Ok(model) => Ok(model),
         Err(halt) => Err(fault_at(alloc, tokens, halt)),
     }

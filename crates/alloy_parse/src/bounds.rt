@@ -1,5 +1,5 @@
 // Readers of a field's bound. Each takes how many brackets more may nest (`room`) and where the bound stands.
-ghost use Rattle.std.specs.Prelude.{◌≡◌, ◌<◌, ◌≤◌, length, map, IfOk, if◌then◌else◌, Ok};
+ghost use Rattle.std.specs.Prelude.{◌≡◌, ◌<◌, ◌≤◌, length, map, IfOk, if◌then◌else◌, Ok, true};
 ghost use Rattle.alloy_syntax.specs.Readers.{place_at};
 ghost use Rattle.alloy_syntax.specs.Bounds.{is_whole, word_round, operand_in, standing_beside, word_beside, refuse_word, side_over, begins_bound_arrow, bound_arrow_over, more_bound_arrows, bound_arrows_over, operand_over, bound_over, begins_bound, bound_within};
 ghost use Rattle.alloy_syntax.specs.View.{arrow_view};
@@ -8,7 +8,9 @@ ghost use Rattle.alloy_parse.specs.Bounds.{standing_view, word_view, bounded, op
 
 use alloy_lex::Place;
 use alloy_syntax::Class;
-use alloy_syntax::cursor::{after, after_mark, expect, is_mark, mark_at, name, next_is, place_at};
+use alloy_syntax::cursor::{
+    after, after_mark, expect, fitted, is_mark, mark_at, name, next_is, place_at,
+};
 use alloy_syntax::halt::{Halt, Tokens};
 use alloy_syntax::reading::Form;
 use alloy_syntax::tree::{Bound, BoundArrow};
@@ -86,7 +88,7 @@ fn standing_beside<'a>(marked: Option<Tokens<'a>>) -> Standing<'a>
 // The first multiplicity word beside an arrow.
 #[tactic(auto, unfolding(alloy_syntax::specs::Bounds::word_beside))]
 fn word_beside<'a>(tokens: Tokens<'a>) -> Option<Tokens<'a>>
-    ensures { word_view result ≡ word_beside tokens.now }
+    ensures { word_view result ≡ word_beside tokens.entry.left.now }
 {
     if is_mark(tokens) {
         return Some(tokens);
@@ -97,7 +99,7 @@ fn word_beside<'a>(tokens: Tokens<'a>) -> Option<Tokens<'a>>
 
 // A word that may not stand there.
 fn refuse_word<'a>(marked: Option<Tokens<'a>>) -> Result<(), Halt<'a>>
-    ensures { Gives (λ x. tt) result (refuse_word (word_view marked.entry)) }
+    ensures { Gives (λ x. tt) result (refuse_word true (word_view marked.entry)) }
 {
     match marked {
         None => Ok(()),
@@ -107,7 +109,7 @@ fn refuse_word<'a>(marked: Option<Tokens<'a>>) -> Result<(), Halt<'a>>
 
 // A word that may stand there only where that is said.
 fn refuse_unless<'a>(allowed: bool, marked: Option<Tokens<'a>>) -> Result<(), Halt<'a>>
-    ensures { Gives (λ x. tt) result (if allowed then Ok tt else refuse_word (word_view marked.entry)) }
+    ensures { Gives (λ x. tt) result (if allowed then Ok tt else refuse_word true (word_view marked.entry)) }
 {
     if allowed { Ok(()) } else { refuse_word(marked) }
 }
@@ -115,14 +117,14 @@ fn refuse_unless<'a>(allowed: bool, marked: Option<Tokens<'a>>) -> Result<(), Ha
 // An arrow, or a multiplicity word before one.
 #[tactic(auto, unfolding(alloy_syntax::specs::Bounds::begins_bound_arrow))]
 fn begins_bound_arrow(tokens: Tokens) -> bool
-    ensures { result ≡ begins_bound_arrow tokens.now }
+    ensures { result ≡ begins_bound_arrow tokens.entry.left.now }
 {
     next_is(tokens, Class::Arrow) || is_mark(tokens)
 }
 
 #[tactic(auto, unfolding(alloy_syntax::specs::Bounds::begins_bound))]
 fn begins_bound(tokens: Tokens) -> bool
-    ensures { result ≡ begins_bound tokens.now }
+    ensures { result ≡ begins_bound tokens.entry.left.now }
 {
     next_is(tokens, Class::LeftParen) || next_is(tokens, Class::Name)
 }
@@ -136,8 +138,8 @@ fn side<'a>(
     room: u32,
     standing: Standing<'a>,
 ) -> Result<(ReadBound<'a>, Tokens<'a>), Halt<'a>>
-    ensures value { Gives (λ x. (bounded x.0, x.1.now)) result (side_over (bound_within room) (standing_view standing.entry) tokens.now) }
-    ensures shorter { IfOk result (λ x. length x.1.now < length tokens.now) }
+    ensures value { Gives (λ x. (bounded x.0, x.1.left.now)) result (side_over (bound_within true room) (standing_view standing.entry) tokens.entry.left.now) }
+    ensures shorter { IfOk result (λ x. length x.1.left.now < length tokens.entry.left.now) }
 {
     if !next_is(tokens, Class::LeftParen) {
         let (name, rest) = name(alloc, tokens)?;
@@ -167,8 +169,8 @@ fn bound_arrow<'a>(
     room: u32,
     before: Before<'a>,
 ) -> Result<(BoundArrow, Tokens<'a>), Halt<'a>>
-    ensures value { Gives (λ x. (arrow_view x.0, x.1.now)) result (bound_arrow_over (bound_within room) (standing_view before.entry.standing) (word_view before.entry.marked) before.entry.has_arrow tokens.now) }
-    ensures shorter { IfOk result (λ x. length x.1.now < length tokens.now) }
+    ensures value { Gives (λ x. (arrow_view x.0, x.1.left.now)) result (bound_arrow_over true (bound_within true room) (standing_view before.entry.standing) (word_view before.entry.marked) before.entry.has_arrow tokens.entry.left.now) }
+    ensures shorter { IfOk result (λ x. length x.1.left.now < length tokens.entry.left.now) }
 {
     let (place, rest) = expect(after_mark(tokens), Class::Arrow)?;
     refuse_word(word_round(before.standing))?;
@@ -198,8 +200,8 @@ fn more_bound_arrows<'a>(
     room: u32,
     standing: Standing<'a>,
 ) -> Result<(Vec<BoundArrow>, Tokens<'a>), Halt<'a>>
-    ensures value { Gives (λ x. (map arrow_view x.0.items, x.1.now)) result (more_bound_arrows (bound_within room) (standing_view standing.entry) (word_view marked.entry) (arrow_view first) tokens.now) }
-    ensures shorter { IfOk result (λ x. length x.1.now ≤ length tokens.now) }
+    ensures value { Gives (λ x. (map arrow_view x.0.items, x.1.left.now)) result (more_bound_arrows true (bound_within true room) (standing_view standing.entry) (word_view marked.entry) (arrow_view first) tokens.entry.left.now) }
+    ensures shorter { IfOk result (λ x. length x.1.left.now ≤ length tokens.entry.left.now) }
 {
     let before = Before {
         standing,
@@ -214,7 +216,7 @@ fn more_bound_arrows<'a>(
         all.push(another)?;
         rest = behind;
     }
-    Ok((all, rest))
+    Ok((fitted(all), rest))
 }
 
 // Sides with arrows between them.
@@ -226,8 +228,8 @@ fn bound_arrows<'a>(
     room: u32,
     standing: Standing<'a>,
 ) -> Result<(ReadBound<'a>, Tokens<'a>), Halt<'a>>
-    ensures value { Gives (λ x. (bounded x.0, x.1.now)) result (bound_arrows_over (bound_within room) (standing_view standing.entry) tokens.now) }
-    ensures shorter { IfOk result (λ x. length x.1.now < length tokens.now) }
+    ensures value { Gives (λ x. (bounded x.0, x.1.left.now)) result (bound_arrows_over true (bound_within true room) (standing_view standing.entry) tokens.entry.left.now) }
+    ensures shorter { IfOk result (λ x. length x.1.left.now < length tokens.entry.left.now) }
 {
     let (first, rest) = side(alloc, tokens, room, standing)?;
     if !begins_bound_arrow(rest) {
@@ -258,8 +260,8 @@ fn operand<'a>(
     room: u32,
     standing: Standing<'a>,
 ) -> Result<(ReadBound<'a>, Tokens<'a>), Halt<'a>>
-    ensures value { Gives (λ x. ((place_at tokens.now, bounded x.0), x.1.now)) result (operand_over (bound_within room) (standing_view standing.entry) tokens.now) }
-    ensures shorter { IfOk result (λ x. length x.1.now < length tokens.now) }
+    ensures value { Gives (λ x. ((place_at tokens.entry.left.now, bounded x.0), x.1.left.now)) result (operand_over true (bound_within true room) (standing_view standing.entry) tokens.entry.left.now) }
+    ensures shorter { IfOk result (λ x. length x.1.left.now < length tokens.entry.left.now) }
 {
     bound_arrows(alloc, after(tokens), room, operand_in(standing))
 }
@@ -273,8 +275,8 @@ fn operands<'a>(
     room: u32,
     standing: Standing<'a>,
 ) -> Result<(Vec<(Place, Bound)>, bool, Tokens<'a>), Halt<'a>>
-    ensures value { Gives (λ x. ((map operand_view x.0.items, x.1), x.2.now)) result (operands_over (bound_within room) (standing_view standing.entry) tokens.now) }
-    ensures shorter { IfOk result (λ x. length x.2.now ≤ length tokens.now) }
+    ensures value { Gives (λ x. ((map operand_view x.0.items, x.1), x.2.left.now)) result (operands_over (bound_within true room) (standing_view standing.entry) tokens.entry.left.now) }
+    ensures shorter { IfOk result (λ x. length x.2.left.now ≤ length tokens.entry.left.now) }
 {
     let mut all = Vec::new(alloc);
     let mut has_arrow = false;
@@ -285,7 +287,7 @@ fn operands<'a>(
         has_arrow |= another.has_arrow;
         rest = behind;
     }
-    Ok((all, has_arrow, rest))
+    Ok((fitted(all), has_arrow, rest))
 }
 
 // Operands with `+` between them.
@@ -297,8 +299,8 @@ fn bound<'a>(
     room: u32,
     standing: Standing<'a>,
 ) -> Result<(ReadBound<'a>, Tokens<'a>), Halt<'a>>
-    ensures value { Gives (λ x. (bounded x.0, x.1.now)) result (bound_over (bound_within room) (standing_view standing.entry) tokens.now) }
-    ensures shorter { IfOk result (λ x. length x.1.now < length tokens.now) }
+    ensures value { Gives (λ x. (bounded x.0, x.1.left.now)) result (bound_over true (bound_within true room) (standing_view standing.entry) tokens.entry.left.now) }
+    ensures shorter { IfOk result (λ x. length x.1.left.now < length tokens.entry.left.now) }
 {
     let (first, rest) = bound_arrows(alloc, tokens, room, standing)?;
     if !next_is(rest, Class::Plus) {
@@ -323,8 +325,8 @@ pub fn bound_within<'a>(
     room: u32,
     standing: Standing<'a>,
 ) -> Result<(ReadBound<'a>, Tokens<'a>), Halt<'a>>
-    ensures value { Gives (λ x. (bounded x.0, x.1.now)) result (bound_within room (standing_view standing.entry) tokens.now) }
-    ensures shorter { IfOk result (λ x. length x.1.now < length tokens.now) }
+    ensures value { Gives (λ x. (bounded x.0, x.1.left.now)) result (bound_within true room (standing_view standing.entry) tokens.entry.left.now) }
+    ensures shorter { IfOk result (λ x. length x.1.left.now < length tokens.entry.left.now) }
 {
     if room > 0 {
         return bound(alloc, tokens, room - 1, standing);

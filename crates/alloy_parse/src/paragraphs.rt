@@ -1,5 +1,5 @@
 // Readers of paragraphs, from signatures to commands, and of the whole model.
-ghost use Rattle.std.specs.Prelude.{◌≡◌, ◌<◌, ◌≤◌, length, map, option_map, IfOk};
+ghost use Rattle.std.specs.Prelude.{◌≡◌, ◌<◌, ◌≤◌, length, map, option_map, IfOk, true};
 ghost use Rattle.alloy_syntax.specs.Readers.{next_is, many, others};
 ghost use Rattle.alloy_syntax.specs.Paragraphs.{depth_limit, own_block, field_at, fields_at, parent_at, is_qualifier, qualifier_at, after_qualifier, after_abstract, qualified, signatures_at, fact_at, parameters_to, parameter_list, predicate_at, function_at, assertion_at, entry_at, entries_at, exceptions_at, has_default, scope_at, expected_at, label_at, target_at, command_at, paragraph_at, is_left, heading_at, ordering_at, open_at, model_of};
 ghost use Rattle.alloy_syntax.specs.View.{declaration_view, field_view, block_view, target_view, scope_view, paragraph_view, model_view};
@@ -10,7 +10,8 @@ use alloy_lex::Place;
 use alloy_nodes::nodes;
 use alloy_syntax::Class;
 use alloy_syntax::cursor::{
-    after, after_mark, expect, is_mark, mark_at, name, names, next_is, number, path, place_at,
+    after, after_mark, expect, fitted, is_mark, mark_at, name, names, next_is, number, path,
+    place_at,
 };
 use alloy_syntax::halt::{Halt, Tokens};
 use alloy_syntax::reading::Form;
@@ -25,8 +26,8 @@ const DEPTH_LIMIT: u32 = 200;
 
 // A paragraph's own block.
 fn own_block<'a>(alloc: Global, tokens: Tokens<'a>) -> Result<(Block, Tokens<'a>), Halt<'a>>
-    ensures value { Gives (λ x. (block_view x.0, x.1.now)) result (own_block depth_limit tokens.now) }
-    ensures shorter { IfOk result (λ x. length x.1.now < length tokens.now) }
+    ensures value { Gives (λ x. (block_view x.0, x.1.left.now)) result (own_block true depth_limit tokens.entry.left.now) }
+    ensures shorter { IfOk result (λ x. length x.1.left.now < length tokens.entry.left.now) }
 {
     nodes::block(alloc, tokens, DEPTH_LIMIT)
 }
@@ -36,8 +37,8 @@ fn own_block<'a>(alloc: Global, tokens: Tokens<'a>) -> Result<(Block, Tokens<'a>
 // Names with one bound.
 #[tactic(auto, unfolding(alloy_syntax::specs::Paragraphs::field_at))]
 fn field<'a>(alloc: Global, tokens: Tokens<'a>) -> Result<(Field, Tokens<'a>), Halt<'a>>
-    ensures value { Gives (λ x. (field_view x.0, x.1.now)) result (field_at depth_limit tokens.now) }
-    ensures shorter { IfOk result (λ x. length x.1.now < length tokens.now) }
+    ensures value { Gives (λ x. (field_view x.0, x.1.left.now)) result (field_at true depth_limit tokens.entry.left.now) }
+    ensures shorter { IfOk result (λ x. length x.1.left.now < length tokens.entry.left.now) }
 {
     let (names, rest) = names(alloc, tokens)?;
     let (_, rest) = expect(rest, Class::Colon)?;
@@ -57,8 +58,8 @@ fn more_fields<'a>(
     first: Field,
     tokens: Tokens<'a>,
 ) -> Result<(Vec<Field>, Tokens<'a>), Halt<'a>>
-    ensures value { Gives (λ x. (map field_view x.0.items, x.1.now)) result (others (field_at depth_limit) (field_view first) tokens.now) }
-    ensures shorter { IfOk result (λ x. length x.1.now ≤ length tokens.now) }
+    ensures value { Gives (λ x. (map field_view x.0.items, x.1.left.now)) result (others (field_at true depth_limit) (field_view first) tokens.entry.left.now) }
+    ensures shorter { IfOk result (λ x. length x.1.left.now ≤ length tokens.entry.left.now) }
 {
     let mut all = Vec::new(alloc);
     all.push(first)?;
@@ -68,14 +69,14 @@ fn more_fields<'a>(
         all.push(another)?;
         rest = behind;
     }
-    Ok((all, rest))
+    Ok((fitted(all), rest))
 }
 
 // The fields of a signature, if it has any.
 #[tactic(auto, unfolding(alloy_syntax::specs::Paragraphs::fields_at, alloy_syntax::specs::Readers::listed))]
 fn fields<'a>(alloc: Global, tokens: Tokens<'a>) -> Result<(Vec<Field>, Tokens<'a>), Halt<'a>>
-    ensures value { Gives (λ x. (map field_view x.0.items, x.1.now)) result (fields_at depth_limit tokens.now) }
-    ensures shorter { IfOk result (λ x. length x.1.now ≤ length tokens.now) }
+    ensures value { Gives (λ x. (map field_view x.0.items, x.1.left.now)) result (fields_at true depth_limit tokens.entry.left.now) }
+    ensures shorter { IfOk result (λ x. length x.1.left.now ≤ length tokens.entry.left.now) }
 {
     if next_is(tokens, Class::RightBrace) {
         return Ok((Vec::new(alloc), tokens));
@@ -87,8 +88,8 @@ fn fields<'a>(alloc: Global, tokens: Tokens<'a>) -> Result<(Vec<Field>, Tokens<'
 // A parent behind `extends` or `in`, if there is one.
 #[tactic(auto, unfolding(alloy_syntax::specs::Paragraphs::parent_at))]
 fn parent<'a>(alloc: Global, tokens: Tokens<'a>) -> Result<(Option<Parent>, Tokens<'a>), Halt<'a>>
-    ensures value { Gives (λ x. (x.0, x.1.now)) result (parent_at tokens.now) }
-    ensures shorter { IfOk result (λ x. length x.1.now ≤ length tokens.now) }
+    ensures value { Gives (λ x. (x.0, x.1.left.now)) result (parent_at tokens.entry.left.now) }
+    ensures shorter { IfOk result (λ x. length x.1.left.now ≤ length tokens.entry.left.now) }
 {
     if next_is(tokens, Class::Extends) {
         let (name, rest) = name(alloc, after(tokens))?;
@@ -114,14 +115,14 @@ struct Qualifiers<'a> {
 // Whether `one`, `lone` or `some` stands there.
 #[tactic(auto, unfolding(alloy_syntax::specs::Paragraphs::is_qualifier))]
 fn is_qualifier(tokens: Tokens) -> bool
-    ensures { result ≡ is_qualifier tokens.now }
+    ensures { result ≡ is_qualifier tokens.entry.left.now }
 {
     is_mark(tokens) && !next_is(tokens, Class::Set)
 }
 
 #[tactic(auto, unfolding(alloy_syntax::specs::Paragraphs::qualifier_at))]
 fn qualifier_at(tokens: Tokens) -> Option<Mark>
-    ensures { result ≡ qualifier_at tokens.now }
+    ensures { result ≡ qualifier_at tokens.entry.left.now }
 {
     if is_qualifier(tokens) {
         mark_at(tokens)
@@ -131,8 +132,8 @@ fn qualifier_at(tokens: Tokens) -> Option<Mark>
 }
 
 fn after_qualifier<'a>(tokens: Tokens<'a>) -> Tokens<'a>
-    ensures value { result.now ≡ after_qualifier tokens.now }
-    ensures shorter { length result.now ≤ length tokens.now }
+    ensures value { result.left.now ≡ after_qualifier tokens.entry.left.now }
+    ensures shorter { length result.left.now ≤ length tokens.entry.left.now }
 {
     if is_qualifier(tokens) {
         after(tokens)
@@ -142,8 +143,8 @@ fn after_qualifier<'a>(tokens: Tokens<'a>) -> Tokens<'a>
 }
 
 fn after_abstract<'a>(tokens: Tokens<'a>) -> Tokens<'a>
-    ensures value { result.now ≡ after_abstract tokens.now }
-    ensures shorter { length result.now ≤ length tokens.now }
+    ensures value { result.left.now ≡ after_abstract tokens.entry.left.now }
+    ensures shorter { length result.left.now ≤ length tokens.entry.left.now }
 {
     if next_is(tokens, Class::Abstract) {
         after(tokens)
@@ -155,10 +156,10 @@ fn after_abstract<'a>(tokens: Tokens<'a>) -> Tokens<'a>
 // The words before `sig`, each at most once, in any order.
 #[tactic(auto, unfolding(alloy_syntax::specs::Paragraphs::qualified))]
 fn qualified<'a>(tokens: Tokens<'a>) -> Qualifiers<'a>
-    ensures is_abstract { result.is_abstract ≡ (qualified tokens.now).is_abstract }
-    ensures mark { result.mark ≡ (qualified tokens.now).mark }
-    ensures behind { result.behind.now ≡ (qualified tokens.now).behind }
-    ensures shorter { length result.behind.now ≤ length tokens.now }
+    ensures is_abstract { result.is_abstract ≡ (qualified tokens.entry.left.now).is_abstract }
+    ensures mark { result.mark ≡ (qualified tokens.entry.left.now).mark }
+    ensures behind { result.behind.left.now ≡ (qualified tokens.entry.left.now).behind }
+    ensures shorter { length result.behind.left.now ≤ length tokens.entry.left.now }
 {
     if next_is(tokens, Class::Abstract) {
         let rest = after(tokens);
@@ -179,8 +180,8 @@ fn qualified<'a>(tokens: Tokens<'a>) -> Qualifiers<'a>
 // Signatures. A block behind them is refused.
 #[tactic(auto, unfolding(alloy_syntax::specs::Paragraphs::signatures_at))]
 fn signatures<'a>(alloc: Global, tokens: Tokens<'a>) -> Result<(Paragraph, Tokens<'a>), Halt<'a>>
-    ensures value { Gives (λ x. (paragraph_view x.0, x.1.now)) result (signatures_at depth_limit tokens.now) }
-    ensures shorter { IfOk result (λ x. length x.1.now < length tokens.now) }
+    ensures value { Gives (λ x. (paragraph_view x.0, x.1.left.now)) result (signatures_at true depth_limit tokens.entry.left.now) }
+    ensures shorter { IfOk result (λ x. length x.1.left.now < length tokens.entry.left.now) }
 {
     let front = qualified(tokens);
     let (_, rest) = expect(front.behind, Class::Sig)?;
@@ -206,8 +207,8 @@ fn signatures<'a>(alloc: Global, tokens: Tokens<'a>) -> Result<(Paragraph, Token
 
 #[tactic(auto, unfolding(alloy_syntax::specs::Paragraphs::fact_at))]
 fn fact<'a>(alloc: Global, tokens: Tokens<'a>) -> Result<(Paragraph, Tokens<'a>), Halt<'a>>
-    ensures value { Gives (λ x. (paragraph_view x.0, x.1.now)) result (fact_at depth_limit tokens.now) }
-    ensures shorter { IfOk result (λ x. length x.1.now < length tokens.now) }
+    ensures value { Gives (λ x. (paragraph_view x.0, x.1.left.now)) result (fact_at true depth_limit tokens.entry.left.now) }
+    ensures shorter { IfOk result (λ x. length x.1.left.now < length tokens.entry.left.now) }
 {
     let rest = if next_is(tokens, Class::Name) {
         after(tokens)
@@ -224,8 +225,8 @@ fn parameters_to<'a>(
     tokens: Tokens<'a>,
     closing: Class,
 ) -> Result<(Vec<Declaration>, Tokens<'a>), Halt<'a>>
-    ensures value { Gives (λ x. (map declaration_view x.0.items, x.1.now)) result (parameters_to depth_limit closing tokens.now) }
-    ensures shorter { IfOk result (λ x. length x.1.now ≤ length tokens.now) }
+    ensures value { Gives (λ x. (map declaration_view x.0.items, x.1.left.now)) result (parameters_to true depth_limit closing tokens.entry.left.now) }
+    ensures shorter { IfOk result (λ x. length x.1.left.now ≤ length tokens.entry.left.now) }
 {
     if next_is(tokens, closing) {
         return Ok((Vec::new(alloc), after(tokens)));
@@ -241,8 +242,8 @@ fn parameters<'a>(
     alloc: Global,
     tokens: Tokens<'a>,
 ) -> Result<(Vec<Declaration>, Tokens<'a>), Halt<'a>>
-    ensures value { Gives (λ x. (map declaration_view x.0.items, x.1.now)) result (parameter_list depth_limit tokens.now) }
-    ensures shorter { IfOk result (λ x. length x.1.now ≤ length tokens.now) }
+    ensures value { Gives (λ x. (map declaration_view x.0.items, x.1.left.now)) result (parameter_list true depth_limit tokens.entry.left.now) }
+    ensures shorter { IfOk result (λ x. length x.1.left.now ≤ length tokens.entry.left.now) }
 {
     if next_is(tokens, Class::LeftBracket) {
         return parameters_to(alloc, after(tokens), Class::RightBracket);
@@ -255,8 +256,8 @@ fn parameters<'a>(
 
 #[tactic(auto, unfolding(alloy_syntax::specs::Paragraphs::predicate_at))]
 fn predicate<'a>(alloc: Global, tokens: Tokens<'a>) -> Result<(Paragraph, Tokens<'a>), Halt<'a>>
-    ensures value { Gives (λ x. (paragraph_view x.0, x.1.now)) result (predicate_at depth_limit tokens.now) }
-    ensures shorter { IfOk result (λ x. length x.1.now < length tokens.now) }
+    ensures value { Gives (λ x. (paragraph_view x.0, x.1.left.now)) result (predicate_at true depth_limit tokens.entry.left.now) }
+    ensures shorter { IfOk result (λ x. length x.1.left.now < length tokens.entry.left.now) }
 {
     let (name, rest) = name(alloc, tokens)?;
     let (parameters, rest) = parameters(alloc, rest)?;
@@ -266,8 +267,8 @@ fn predicate<'a>(alloc: Global, tokens: Tokens<'a>) -> Result<(Paragraph, Tokens
 
 #[tactic(auto, unfolding(alloy_syntax::specs::Paragraphs::function_at))]
 fn function<'a>(alloc: Global, tokens: Tokens<'a>) -> Result<(Paragraph, Tokens<'a>), Halt<'a>>
-    ensures value { Gives (λ x. (paragraph_view x.0, x.1.now)) result (function_at depth_limit tokens.now) }
-    ensures shorter { IfOk result (λ x. length x.1.now < length tokens.now) }
+    ensures value { Gives (λ x. (paragraph_view x.0, x.1.left.now)) result (function_at true depth_limit tokens.entry.left.now) }
+    ensures shorter { IfOk result (λ x. length x.1.left.now < length tokens.entry.left.now) }
 {
     let (name, rest) = name(alloc, tokens)?;
     let (parameters, rest) = parameters(alloc, rest)?;
@@ -287,8 +288,8 @@ fn function<'a>(alloc: Global, tokens: Tokens<'a>) -> Result<(Paragraph, Tokens<
 
 #[tactic(auto, unfolding(alloy_syntax::specs::Paragraphs::assertion_at))]
 fn assertion<'a>(alloc: Global, tokens: Tokens<'a>) -> Result<(Paragraph, Tokens<'a>), Halt<'a>>
-    ensures value { Gives (λ x. (paragraph_view x.0, x.1.now)) result (assertion_at depth_limit tokens.now) }
-    ensures shorter { IfOk result (λ x. length x.1.now < length tokens.now) }
+    ensures value { Gives (λ x. (paragraph_view x.0, x.1.left.now)) result (assertion_at true depth_limit tokens.entry.left.now) }
+    ensures shorter { IfOk result (λ x. length x.1.left.now < length tokens.entry.left.now) }
 {
     let (name, rest) = name(alloc, tokens)?;
     let (body, rest) = own_block(alloc, rest)?;
@@ -300,8 +301,8 @@ fn assertion<'a>(alloc: Global, tokens: Tokens<'a>) -> Result<(Paragraph, Tokens
 // The size that a scope gives to a signature.
 #[tactic(auto, unfolding(alloy_syntax::specs::Paragraphs::entry_at))]
 fn entry<'a>(alloc: Global, tokens: Tokens<'a>) -> Result<(Entry, Tokens<'a>), Halt<'a>>
-    ensures value { Gives (λ x. (x.0, x.1.now)) result (entry_at tokens.now) }
-    ensures shorter { IfOk result (λ x. length x.1.now < length tokens.now) }
+    ensures value { Gives (λ x. (x.0, x.1.left.now)) result (entry_at tokens.entry.left.now) }
+    ensures shorter { IfOk result (λ x. length x.1.left.now < length tokens.entry.left.now) }
 {
     let exactly = next_is(tokens, Class::Exactly);
     let rest = if exactly { after(tokens) } else { tokens };
@@ -321,8 +322,8 @@ fn more_entries<'a>(
     first: Entry,
     tokens: Tokens<'a>,
 ) -> Result<(Vec<Entry>, Tokens<'a>), Halt<'a>>
-    ensures value { Gives (λ x. (x.0.items, x.1.now)) result (others entry_at first tokens.now) }
-    ensures shorter { IfOk result (λ x. length x.1.now ≤ length tokens.now) }
+    ensures value { Gives (λ x. (x.0.items, x.1.left.now)) result (others entry_at first tokens.entry.left.now) }
+    ensures shorter { IfOk result (λ x. length x.1.left.now ≤ length tokens.entry.left.now) }
 {
     let mut all = Vec::new(alloc);
     all.push(first)?;
@@ -332,13 +333,13 @@ fn more_entries<'a>(
         all.push(another)?;
         rest = behind;
     }
-    Ok((all, rest))
+    Ok((fitted(all), rest))
 }
 
 #[tactic(auto, unfolding(alloy_syntax::specs::Paragraphs::entries_at, alloy_syntax::specs::Readers::listed))]
 fn entries<'a>(alloc: Global, tokens: Tokens<'a>) -> Result<(Vec<Entry>, Tokens<'a>), Halt<'a>>
-    ensures value { Gives (λ x. (x.0.items, x.1.now)) result (entries_at tokens.now) }
-    ensures shorter { IfOk result (λ x. length x.1.now < length tokens.now) }
+    ensures value { Gives (λ x. (x.0.items, x.1.left.now)) result (entries_at tokens.entry.left.now) }
+    ensures shorter { IfOk result (λ x. length x.1.left.now < length tokens.entry.left.now) }
 {
     let (first, rest) = entry(alloc, tokens)?;
     more_entries(alloc, first, rest)
@@ -347,8 +348,8 @@ fn entries<'a>(alloc: Global, tokens: Tokens<'a>) -> Result<(Vec<Entry>, Tokens<
 // The entries behind `but`, if it is there.
 #[tactic(auto, unfolding(alloy_syntax::specs::Paragraphs::exceptions_at))]
 fn exceptions<'a>(alloc: Global, tokens: Tokens<'a>) -> Result<(Vec<Entry>, Tokens<'a>), Halt<'a>>
-    ensures value { Gives (λ x. (x.0.items, x.1.now)) result (exceptions_at tokens.now) }
-    ensures shorter { IfOk result (λ x. length x.1.now ≤ length tokens.now) }
+    ensures value { Gives (λ x. (x.0.items, x.1.left.now)) result (exceptions_at tokens.entry.left.now) }
+    ensures shorter { IfOk result (λ x. length x.1.left.now ≤ length tokens.entry.left.now) }
 {
     if next_is(tokens, Class::But) {
         return entries(alloc, after(tokens));
@@ -359,7 +360,7 @@ fn exceptions<'a>(alloc: Global, tokens: Tokens<'a>) -> Result<(Vec<Entry>, Toke
 // Whether a number stands there that no name follows.
 #[tactic(auto, unfolding(alloy_syntax::specs::Paragraphs::has_default))]
 fn has_default(tokens: Tokens) -> bool
-    ensures { result ≡ has_default tokens.now }
+    ensures { result ≡ has_default tokens.entry.left.now }
 {
     next_is(tokens, Class::Number) && !next_is(after(tokens), Class::Name)
 }
@@ -367,8 +368,8 @@ fn has_default(tokens: Tokens) -> bool
 // A command's scope, if it has one.
 #[tactic(auto, unfolding(alloy_syntax::specs::Paragraphs::scope_at))]
 fn scope<'a>(alloc: Global, tokens: Tokens<'a>) -> Result<(Option<Scope>, Tokens<'a>), Halt<'a>>
-    ensures value { Gives (λ x. (option_map scope_view x.0, x.1.now)) result (scope_at tokens.now) }
-    ensures shorter { IfOk result (λ x. length x.1.now ≤ length tokens.now) }
+    ensures value { Gives (λ x. (option_map scope_view x.0, x.1.left.now)) result (scope_at tokens.entry.left.now) }
+    ensures shorter { IfOk result (λ x. length x.1.left.now ≤ length tokens.entry.left.now) }
 {
     if !next_is(tokens, Class::For) {
         return Ok((None, tokens));
@@ -387,8 +388,8 @@ fn scope<'a>(alloc: Global, tokens: Tokens<'a>) -> Result<(Option<Scope>, Tokens
 // The number behind `expect`, if it is there.
 #[tactic(auto, unfolding(alloy_syntax::specs::Paragraphs::expected_at))]
 fn expected<'a>(tokens: Tokens<'a>) -> Result<(Option<Number>, Tokens<'a>), Halt<'a>>
-    ensures value { Gives (λ x. (x.0, x.1.now)) result (expected_at tokens.now) }
-    ensures shorter { IfOk result (λ x. length x.1.now ≤ length tokens.now) }
+    ensures value { Gives (λ x. (x.0, x.1.left.now)) result (expected_at tokens.entry.left.now) }
+    ensures shorter { IfOk result (λ x. length x.1.left.now ≤ length tokens.entry.left.now) }
 {
     if next_is(tokens, Class::Expect) {
         let (number, rest) = number(after(tokens))?;
@@ -400,8 +401,8 @@ fn expected<'a>(tokens: Tokens<'a>) -> Result<(Option<Number>, Tokens<'a>), Halt
 // A name, if there is one.
 #[tactic(auto, unfolding(alloy_syntax::specs::Paragraphs::label_at))]
 fn label<'a>(alloc: Global, tokens: Tokens<'a>) -> Result<(Option<Name>, Tokens<'a>), Halt<'a>>
-    ensures value { Gives (λ x. (x.0, x.1.now)) result (label_at tokens.now) }
-    ensures shorter { IfOk result (λ x. length x.1.now ≤ length tokens.now) }
+    ensures value { Gives (λ x. (x.0, x.1.left.now)) result (label_at tokens.entry.left.now) }
+    ensures shorter { IfOk result (λ x. length x.1.left.now ≤ length tokens.entry.left.now) }
 {
     if next_is(tokens, Class::Name) {
         let (name, rest) = name(alloc, tokens)?;
@@ -413,8 +414,8 @@ fn label<'a>(alloc: Global, tokens: Tokens<'a>) -> Result<(Option<Name>, Tokens<
 // What a command runs or checks: a name, or a block, which may have a label.
 #[tactic(auto, unfolding(alloy_syntax::specs::Paragraphs::target_at))]
 fn target<'a>(alloc: Global, tokens: Tokens<'a>) -> Result<(Target, Tokens<'a>), Halt<'a>>
-    ensures value { Gives (λ x. (target_view x.0, x.1.now)) result (target_at depth_limit tokens.now) }
-    ensures shorter { IfOk result (λ x. length x.1.now < length tokens.now) }
+    ensures value { Gives (λ x. (target_view x.0, x.1.left.now)) result (target_at true depth_limit tokens.entry.left.now) }
+    ensures shorter { IfOk result (λ x. length x.1.left.now < length tokens.entry.left.now) }
 {
     if next_is(tokens, Class::Name) && !next_is(after(tokens), Class::LeftBrace) {
         let (name, rest) = name(alloc, tokens)?;
@@ -432,8 +433,8 @@ fn command<'a>(
     kind: CommandKind,
     place: Place,
 ) -> Result<(Paragraph, Tokens<'a>), Halt<'a>>
-    ensures value { Gives (λ x. (paragraph_view x.0, x.1.now)) result (command_at depth_limit kind place tokens.now) }
-    ensures shorter { IfOk result (λ x. length x.1.now < length tokens.now) }
+    ensures value { Gives (λ x. (paragraph_view x.0, x.1.left.now)) result (command_at true depth_limit kind place tokens.entry.left.now) }
+    ensures shorter { IfOk result (λ x. length x.1.left.now < length tokens.entry.left.now) }
 {
     let (target, rest) = target(alloc, tokens)?;
     let (scope, rest) = scope(alloc, rest)?;
@@ -452,8 +453,8 @@ fn command<'a>(
 
 #[tactic(auto, unfolding(alloy_syntax::specs::Paragraphs::paragraph_at))]
 fn paragraph<'a>(alloc: Global, tokens: Tokens<'a>) -> Result<(Paragraph, Tokens<'a>), Halt<'a>>
-    ensures value { Gives (λ x. (paragraph_view x.0, x.1.now)) result (paragraph_at depth_limit tokens.now) }
-    ensures shorter { IfOk result (λ x. length x.1.now < length tokens.now) }
+    ensures value { Gives (λ x. (paragraph_view x.0, x.1.left.now)) result (paragraph_at true depth_limit tokens.entry.left.now) }
+    ensures shorter { IfOk result (λ x. length x.1.left.now < length tokens.entry.left.now) }
 {
     if next_is(tokens, Class::Fact) {
         return fact(alloc, after(tokens));
@@ -478,16 +479,16 @@ fn paragraph<'a>(alloc: Global, tokens: Tokens<'a>) -> Result<(Paragraph, Tokens
 
 #[tactic(auto, unfolding(alloy_syntax::specs::Paragraphs::is_left))]
 fn is_left(tokens: Tokens) -> bool
-    ensures { result ≡ is_left tokens.now }
+    ensures { result ≡ is_left tokens.entry.left.now }
 {
-    !tokens.is_empty()
+    !tokens.left.is_empty()
 }
 
 fn all_paragraphs<'a>(
     alloc: Global,
     tokens: Tokens<'a>,
 ) -> Result<(Vec<Paragraph>, Tokens<'a>), Halt<'a>>
-    ensures { Gives (λ x. (map paragraph_view x.0.items, x.1.now)) result (many is_left (paragraph_at depth_limit) tokens.now) }
+    ensures { Gives (λ x. (map paragraph_view x.0.items, x.1.left.now)) result (many is_left (paragraph_at true depth_limit) tokens.entry.left.now) }
 {
     let mut all = Vec::new(alloc);
     let mut rest = tokens;
@@ -496,13 +497,13 @@ fn all_paragraphs<'a>(
         all.push(another)?;
         rest = behind;
     }
-    Ok((all, rest))
+    Ok((fitted(all), rest))
 }
 
 // The name behind `module`, if it is there.
 #[tactic(auto, unfolding(alloy_syntax::specs::Paragraphs::heading_at))]
 fn heading<'a>(alloc: Global, tokens: Tokens<'a>) -> Result<(Option<Name>, Tokens<'a>), Halt<'a>>
-    ensures { Gives (λ x. (x.0, x.1.now)) result (heading_at tokens.now) }
+    ensures { Gives (λ x. (x.0, x.1.left.now)) result (heading_at tokens.entry.left.now) }
 {
     if next_is(tokens, Class::Module) {
         let (name, rest) = name(alloc, after(tokens))?;
@@ -514,8 +515,8 @@ fn heading<'a>(alloc: Global, tokens: Tokens<'a>) -> Result<(Option<Name>, Token
 // The module of an `open`, which is that of orderings.
 #[tactic(auto, unfolding(alloy_syntax::specs::Paragraphs::ordering_at))]
 fn ordering<'a>(alloc: Global, tokens: Tokens<'a>) -> Result<(Name, Tokens<'a>), Halt<'a>>
-    ensures value { Gives (λ x. (x.0, x.1.now)) result (ordering_at tokens.now) }
-    ensures shorter { IfOk result (λ x. length x.1.now < length tokens.now) }
+    ensures value { Gives (λ x. (x.0, x.1.left.now)) result (ordering_at tokens.entry.left.now) }
+    ensures shorter { IfOk result (λ x. length x.1.left.now < length tokens.entry.left.now) }
 {
     let (module, rest) = path(alloc, tokens)?;
     if module.text.text() == "util/ordering" {
@@ -528,8 +529,8 @@ fn ordering<'a>(alloc: Global, tokens: Tokens<'a>) -> Result<(Name, Tokens<'a>),
 // An ordering, with its first word.
 #[tactic(auto, unfolding(alloy_syntax::specs::Paragraphs::open_at))]
 fn open<'a>(alloc: Global, tokens: Tokens<'a>) -> Result<(Open, Tokens<'a>), Halt<'a>>
-    ensures value { Gives (λ x. (x.0, x.1.now)) result (open_at tokens.now) }
-    ensures shorter { IfOk result (λ x. length x.1.now < length tokens.now) }
+    ensures value { Gives (λ x. (x.0, x.1.left.now)) result (open_at tokens.entry.left.now) }
+    ensures shorter { IfOk result (λ x. length x.1.left.now < length tokens.entry.left.now) }
 {
     let (_, rest) = ordering(alloc, after(tokens))?;
     let (_, rest) = expect(rest, Class::LeftBracket)?;
@@ -541,7 +542,7 @@ fn open<'a>(alloc: Global, tokens: Tokens<'a>) -> Result<(Open, Tokens<'a>), Hal
 }
 
 fn opens<'a>(alloc: Global, tokens: Tokens<'a>) -> Result<(Vec<Open>, Tokens<'a>), Halt<'a>>
-    ensures { Gives (λ x. (x.0.items, x.1.now)) result (many (next_is Class.Open) open_at tokens.now) }
+    ensures { Gives (λ x. (x.0.items, x.1.left.now)) result (many (next_is Class.Open) open_at tokens.entry.left.now) }
 {
     let mut all = Vec::new(alloc);
     let mut rest = tokens;
@@ -550,13 +551,13 @@ fn opens<'a>(alloc: Global, tokens: Tokens<'a>) -> Result<(Vec<Open>, Tokens<'a>
         all.push(another)?;
         rest = behind;
     }
-    Ok((all, rest))
+    Ok((fitted(all), rest))
 }
 
 /// The model that the tokens are, or where reading stops.
 #[tactic(auto, unfolding(alloy_syntax::specs::Paragraphs::model_at))]
 pub fn model<'a>(alloc: Global, tokens: Tokens<'a>) -> Result<Model, Halt<'a>>
-    ensures { Gives model_view result (model_of tokens.now) }
+    ensures { Gives model_view result (model_of tokens.entry.left.now) }
 {
     let (heading, rest) = heading(alloc, tokens)?;
     let (opens, rest) = opens(alloc, rest)?;

@@ -59,6 +59,6 @@ reads_ends test item front rest total r stops = sym r.equation ∙ ends_of test 
 pub loop_fails : {A : Type 0} (e : Halt) (test : List Seen → Bool) (item : Parser A) (front : List A) (rest : List Seen) (total : Result (List A × List Seen) Stop)
     → Reads test item front rest total → test rest ≡ true → Fails e (item rest) → Fails e total
 loop_fails halt.Memory test item front rest total r going read = tt
-loop_fails (halt.Refused ts) test item front rest total r going read = reads_fails test item front rest (refused ts.now) total r going read
-loop_fails (halt.Deep ts) test item front rest total r going read = reads_fails test item front rest (too_deep ts.now) total r going read
-loop_fails (halt.Unsupported form ts) test item front rest total r going read = reads_fails test item front rest (unsupported form ts.now) total r going read
+loop_fails (halt.Refused ts) test item front rest total r going read = reads_fails test item front rest (refused ts.left.now) total r going read
+loop_fails (halt.Deep ts) test item front rest total r going read = reads_fails test item front rest (too_deep ts.left.now) total r going read
+loop_fails (halt.Unsupported form ts) test item front rest total r going read = reads_fails test item front rest (unsupported form ts.left.now) total r going read

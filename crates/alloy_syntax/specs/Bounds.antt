@@ -51,10 +51,10 @@ standing_beside (Some word) = beside word
 unfoldable pub word_beside : List Seen → Option (List Seen)
 word_beside ts = if is_mark ts then Some ts else (if is_mark (after ts) then Some (after ts) else None)
 
--- a word that may not stand there
-abbrev pub refuse_word : Option (List Seen) → Result (Unit {0}) Stop
-refuse_word None = Ok tt
-refuse_word (Some word) = Err (unsupported form.ArrowMultiplicity word)
+-- a word that may not stand there, where reading is strict, as it is but in proofs
+abbrev pub refuse_word : Bool → Option (List Seen) → Result (Unit {0}) Stop
+refuse_word strict None = Ok tt
+refuse_word strict (Some word) = if strict then Err (unsupported form.ArrowMultiplicity word) else Ok tt
 
 -- side = name | "(" bound ")"
 unfoldable pub side_over : BoundReader → BoundReader
@@ -67,37 +67,37 @@ unfoldable pub begins_bound_arrow : List Seen → Bool
 begins_bound_arrow ts = next_is class.Arrow ts || is_mark ts
 
 -- [ mult ] "->" [ mult ] side, behind a side with a word, or with an arrow
-unfoldable pub bound_arrow_over : BoundReader → Standing → Option (List Seen) → Bool → Parser BoundArrowTree
-bound_arrow_over j standing marked has_arrow ts = do
+unfoldable pub bound_arrow_over : Bool → BoundReader → Standing → Option (List Seen) → Bool → Parser BoundArrowTree
+bound_arrow_over strict j standing marked has_arrow ts = do
   arrow ← expect class.Arrow (after_mark ts)
-  outside ← refuse_word (word_round standing)
-  before ← refuse_word marked
-  here ← if is_whole standing && not has_arrow then Ok tt else refuse_word (word_beside ts)
+  outside ← refuse_word strict (word_round standing)
+  before ← refuse_word strict marked
+  here ← if is_whole standing && not has_arrow then Ok tt else refuse_word strict (word_beside ts)
   side ← side_over j (standing_beside (word_beside ts)) (after_mark arrow.1)
   Ok (record { left = mark_at ts; place = arrow.0; right = mark_at arrow.1; side = side.0.bound }, side.1)
 
 -- the first arrow and the others, behind which none may have a word; the first may have none either, if there are others
-unfoldable pub more_bound_arrows : BoundReader → Standing → Option (List Seen) → BoundArrowTree → Parser (List BoundArrowTree)
-more_bound_arrows j standing marked first ts = with_front (first ∷ []) (many begins_bound_arrow (bound_arrow_over j standing marked true) ts)
+unfoldable pub more_bound_arrows : Bool → BoundReader → Standing → Option (List Seen) → BoundArrowTree → Parser (List BoundArrowTree)
+more_bound_arrows strict j standing marked first ts = with_front (first ∷ []) (many begins_bound_arrow (bound_arrow_over strict j standing marked true) ts)
 
 -- arrows = side { [ mult ] "->" [ mult ] side }
-unfoldable pub bound_arrows_over : BoundReader → BoundReader
-bound_arrows_over j standing ts = side_over j standing ts >>= λ first.
+unfoldable pub bound_arrows_over : Bool → BoundReader → BoundReader
+bound_arrows_over strict j standing ts = side_over j standing ts >>= λ first.
     if begins_bound_arrow first.1 then (do
-      arrow ← bound_arrow_over j standing first.0.marked first.0.has_arrow first.1
-      more ← more_bound_arrows j standing (word_beside first.1) arrow.0 arrow.1
+      arrow ← bound_arrow_over strict j standing first.0.marked first.0.has_arrow first.1
+      more ← more_bound_arrows strict j standing (word_beside first.1) arrow.0 arrow.1
       Ok (record { bound = bound_arrows first.0.bound (arrows_of more.0); marked = word_beside first.1; has_arrow = true }, more.1))
     else Ok first
 
-unfoldable pub operand_over : BoundReader → Standing → Parser (Place × Bounded)
-operand_over j standing ts = bound_arrows_over j (operand_in standing) (after ts) >>= λ x. Ok ((place_at ts, x.0), x.1)
+unfoldable pub operand_over : Bool → BoundReader → Standing → Parser (Place × Bounded)
+operand_over strict j standing ts = bound_arrows_over strict j (operand_in standing) (after ts) >>= λ x. Ok ((place_at ts, x.0), x.1)
 
 -- bound = arrows { "+" arrows }
-unfoldable pub bound_over : BoundReader → BoundReader
-bound_over j standing ts = bound_arrows_over j standing ts >>= λ first.
+unfoldable pub bound_over : Bool → BoundReader → BoundReader
+bound_over strict j standing ts = bound_arrows_over strict j standing ts >>= λ first.
     if next_is class.Plus first.1 then (do
-      before ← refuse_word first.0.marked
-      more ← many (next_is class.Plus) (operand_over j standing) first.1
+      before ← refuse_word strict first.0.marked
+      more ← many (next_is class.Plus) (operand_over strict j standing) first.1
       Ok (record { bound = bound_union first.0.bound (unions_of (map (λ x. (x.0, x.1.bound)) more.0)); marked = None; has_arrow = first.0.has_arrow || list_any (λ x. x.1.has_arrow) more.0 }, more.1))
     else Ok first
 
@@ -105,6 +105,6 @@ unfoldable pub begins_bound : List Seen → Bool
 begins_bound ts = next_is class.LeftParen ts || next_is class.Name ts
 
 -- what stands in brackets, where so many more tokens deep may be read; at 0 it lies too deep
-unfoldable pub bound_within : ℕ → BoundReader
-bound_within zero standing ts = if begins_bound ts then Err (too_deep ts) else Err (refused ts)
-bound_within (suc room) standing ts = bound_over (bound_within room) standing ts
+unfoldable pub bound_within : Bool → ℕ → BoundReader
+bound_within strict zero standing ts = if begins_bound ts then Err (too_deep ts) else Err (refused ts)
+bound_within strict (suc room) standing ts = bound_over strict (bound_within strict room) standing ts

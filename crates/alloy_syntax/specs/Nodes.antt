@@ -379,9 +379,10 @@ declarations_over i single ts = declaration_over i single ts >>= λ first. more_
 unfoldable pub body_over : Reader → Around → Parser Tree
 body_over i a ts = if next_is class.Bar ts then node_over i a (after ts) else block_tree i ts
 
-unfoldable pub quantified_over : Reader → Around → Quantifier → Place → Parser Tree
-quantified_over i a q p ts = do
-  declared ← declarations_over i (is_single q) ts
+-- with forms refused or not
+unfoldable pub quantified_over : Bool → Reader → Around → Quantifier → Place → Parser Tree
+quantified_over strict i a q p ts = do
+  declared ← declarations_over i (strict && is_single q) ts
   body ← body_over i a declared.1
   Ok (quantified q p (declarations_of declared.0) body.0, body.1)
 
@@ -404,17 +405,18 @@ let_over i a p ts = do
 
 -- ---- how deep constructs nest
 
-unfoldable pub inside_over : Reader → Reader
-inside_over i a inside.Node = node_over i a
-inside_over i a inside.Negation = negation_over i a
-inside_over i a inside.Implied = implication_over i a
-inside_over i a inside.Sum = sum_over i a
-inside_over i a inside.Size = size_over i a
-inside_over i a inside.Tight = tight_over i a
-inside_over i a (inside.Quantified q p) = quantified_over i a q p
-inside_over i a (inside.Let p) = let_over i a p
+unfoldable pub inside_over : Bool → Reader → Reader
+inside_over strict i a inside.Node = node_over i a
+inside_over strict i a inside.Negation = negation_over i a
+inside_over strict i a inside.Implied = implication_over i a
+inside_over strict i a inside.Sum = sum_over i a
+inside_over strict i a inside.Size = size_over i a
+inside_over strict i a inside.Tight = tight_over i a
+inside_over strict i a (inside.Quantified q p) = quantified_over strict i a q p
+inside_over strict i a (inside.Let p) = let_over i a p
 
--- what stands under constructs, where so many more tokens deep may be read; at 0 it lies too deep
-unfoldable pub within : ℕ → Reader
-within zero a part = stop_at part
-within (suc room) a part = inside_over (within room) a part
+-- What stands under constructs, where so many more may nest; at 0 it lies too deep. Several variables of `lone` and `one`
+-- are refused where reading is strict, as it is but in proofs.
+unfoldable pub within : Bool → ℕ → Reader
+within strict zero a part = stop_at part
+within strict (suc room) a part = inside_over strict (within strict room) a part

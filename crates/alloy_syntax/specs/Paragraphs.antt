@@ -20,24 +20,25 @@ use Rattle.alloy_syntax.specs.Readers.{Stop, unsupported, Parser, ◌>>=◌, nex
 use Rattle.alloy_syntax.specs.Nodes.{within, block_over, sum_over, braced_over, declarations_over}
 use Rattle.alloy_syntax.specs.Bounds.{whole, bound_within}
 
--- So many constructs may nest, from the paragraph on: the brackets of its own are the first.
+-- So many constructs may nest, from the paragraph on: the brackets of its own are the first. Reading is strict, and refuses the
+-- forms that the language doesn't take though the grammar goes on with them; in proofs it may let them pass.
 
 -- a paragraph's own block
-abbrev pub own_block : ℕ → Parser BlockTree
-own_block limit = block_over (within limit)
+abbrev pub own_block : Bool → ℕ → Parser BlockTree
+own_block strict limit = block_over (within strict limit)
 
 -- ---- signatures
 
 -- field = names ":" [ mult ] bound
-unfoldable pub field_at : ℕ → Parser FieldTree
-field_at limit ts = do
+unfoldable pub field_at : Bool → ℕ → Parser FieldTree
+field_at strict limit ts = do
   names ← names_at ts
   colon ← expect class.Colon names.1
-  read ← bound_within limit whole (after_mark colon.1)
+  read ← bound_within strict limit whole (after_mark colon.1)
   Ok (record { names = names.0; mark = mark_at colon.1; bound = read.0.bound }, read.1)
 
-unfoldable pub fields_at : ℕ → Parser (List FieldTree)
-fields_at limit ts = if next_is class.RightBrace ts then Ok ([], ts) else listed (field_at limit) ts
+unfoldable pub fields_at : Bool → ℕ → Parser (List FieldTree)
+fields_at strict limit ts = if next_is class.RightBrace ts then Ok ([], ts) else listed (field_at strict limit) ts
 
 unfoldable pub parent_at : Parser (Option Parent)
 parent_at ts =
@@ -70,54 +71,54 @@ qualified ts =
     else record { is_abstract = next_is class.Abstract (after_qualifier ts); mark = qualifier_at ts; behind = after_abstract (after_qualifier ts) }
 
 -- a block directly behind a signature is refused
-unfoldable pub signatures_at : ℕ → Parser ParagraphTree
-signatures_at limit ts = do
+unfoldable pub signatures_at : Bool → ℕ → Parser ParagraphTree
+signatures_at strict limit ts = do
   word ← expect class.Sig (qualified ts).behind
   names ← names_at word.1
   parent ← parent_at names.1
   opened ← expect class.LeftBrace parent.1
-  fields ← fields_at limit opened.1
+  fields ← fields_at strict limit opened.1
   closed ← expect class.RightBrace fields.1
   if next_is class.LeftBrace closed.1 then Err (unsupported form.Appended closed.1) else Ok (signatures (qualified ts).is_abstract (qualified ts).mark names.0 parent.0 fields.0, closed.1)
 
 -- ---- facts, predicates, functions and assertions, behind their first word
 
-unfoldable pub fact_at : ℕ → Parser ParagraphTree
-fact_at limit ts = own_block limit (if next_is class.Name ts then after ts else ts) >>= λ b. Ok (fact b.0, b.1)
+unfoldable pub fact_at : Bool → ℕ → Parser ParagraphTree
+fact_at strict limit ts = own_block strict limit (if next_is class.Name ts then after ts else ts) >>= λ b. Ok (fact b.0, b.1)
 
 -- [ decls ] and the closing bracket, in the list's own brackets
-abbrev pub parameters_to : ℕ → Class → Parser (List DeclarationTree)
-parameters_to limit closing ts =
+abbrev pub parameters_to : Bool → ℕ → Class → Parser (List DeclarationTree)
+parameters_to strict limit closing ts =
     if next_is closing ts then Ok ([], after ts)
-    else declarations_over (within (limit - 1)) false ts >>= (λ x. expect closing x.1 >>= λ c. Ok (x.0, c.1))
+    else declarations_over (within strict (limit - 1)) false ts >>= (λ x. expect closing x.1 >>= λ c. Ok (x.0, c.1))
 
-unfoldable pub parameter_list : ℕ → Parser (List DeclarationTree)
-parameter_list limit ts =
-    if next_is class.LeftBracket ts then parameters_to limit class.RightBracket (after ts)
-    else (if next_is class.LeftParen ts then parameters_to limit class.RightParen (after ts)
+unfoldable pub parameter_list : Bool → ℕ → Parser (List DeclarationTree)
+parameter_list strict limit ts =
+    if next_is class.LeftBracket ts then parameters_to strict limit class.RightBracket (after ts)
+    else (if next_is class.LeftParen ts then parameters_to strict limit class.RightParen (after ts)
     else Ok ([], ts))
 
-unfoldable pub predicate_at : ℕ → Parser ParagraphTree
-predicate_at limit ts = do
+unfoldable pub predicate_at : Bool → ℕ → Parser ParagraphTree
+predicate_at strict limit ts = do
   name ← name_at ts
-  parameters ← parameter_list limit name.1
-  body ← own_block limit parameters.1
+  parameters ← parameter_list strict limit name.1
+  body ← own_block strict limit parameters.1
   Ok (predicate name.0 parameters.0 body.0, body.1)
 
 -- name [ parameters ] ":" [ mult ] sum "{" sum "}"
-unfoldable pub function_at : ℕ → Parser ParagraphTree
-function_at limit ts = do
+unfoldable pub function_at : Bool → ℕ → Parser ParagraphTree
+function_at strict limit ts = do
   name ← name_at ts
-  parameters ← parameter_list limit name.1
+  parameters ← parameter_list strict limit name.1
   colon ← expect class.Colon parameters.1
-  range ← sum_over (within limit) around.Parens (after_mark colon.1)
-  body ← braced_over (within limit) range.1
+  range ← sum_over (within strict limit) around.Parens (after_mark colon.1)
+  body ← braced_over (within strict limit) range.1
   Ok (function name.0 parameters.0 (mark_at colon.1) range.0 body.0, body.1)
 
-unfoldable pub assertion_at : ℕ → Parser ParagraphTree
-assertion_at limit ts = do
+unfoldable pub assertion_at : Bool → ℕ → Parser ParagraphTree
+assertion_at strict limit ts = do
   name ← name_at ts
-  body ← own_block limit name.1
+  body ← own_block strict limit name.1
   Ok (assertion name.0 body.0, body.1)
 
 -- ---- commands, behind their first word
@@ -157,29 +158,29 @@ unfoldable pub label_at : Parser (Option Name)
 label_at ts = if next_is class.Name ts then name_at ts >>= (λ x. Ok (Some x.0, x.1)) else Ok (None, ts)
 
 -- a name, or a block, which may have a label
-unfoldable pub target_at : ℕ → Parser TargetTree
-target_at limit ts =
+unfoldable pub target_at : Bool → ℕ → Parser TargetTree
+target_at strict limit ts =
     if next_is class.Name ts && not (next_is class.LeftBrace (after ts)) then name_at ts >>= (λ x. Ok (at_name x.0, x.1))
-    else label_at ts >>= (λ label. own_block limit label.1 >>= λ b. Ok (at_block label.0 b.0, b.1))
+    else label_at ts >>= (λ label. own_block strict limit label.1 >>= λ b. Ok (at_block label.0 b.0, b.1))
 
-unfoldable pub command_at : ℕ → CommandKind → Place → Parser ParagraphTree
-command_at limit k p ts = do
-  target ← target_at limit ts
+unfoldable pub command_at : Bool → ℕ → CommandKind → Place → Parser ParagraphTree
+command_at strict limit k p ts = do
+  target ← target_at strict limit ts
   scope ← scope_at target.1
   expected ← expected_at scope.1
   Ok (command k p target.0 scope.0 expected.0, expected.1)
 
 -- ---- a model
 
-unfoldable pub paragraph_at : ℕ → Parser ParagraphTree
-paragraph_at limit ts =
-    if next_is class.Fact ts then fact_at limit (after ts)
-    else (if next_is class.Pred ts then predicate_at limit (after ts)
-    else (if next_is class.Fun ts then function_at limit (after ts)
-    else (if next_is class.Assert ts then assertion_at limit (after ts)
-    else (if next_is class.Run ts then command_at limit kind.Run (place_at ts) (after ts)
-    else (if next_is class.Check ts then command_at limit kind.Check (place_at ts) (after ts)
-    else signatures_at limit ts)))))
+unfoldable pub paragraph_at : Bool → ℕ → Parser ParagraphTree
+paragraph_at strict limit ts =
+    if next_is class.Fact ts then fact_at strict limit (after ts)
+    else (if next_is class.Pred ts then predicate_at strict limit (after ts)
+    else (if next_is class.Fun ts then function_at strict limit (after ts)
+    else (if next_is class.Assert ts then assertion_at strict limit (after ts)
+    else (if next_is class.Run ts then command_at strict limit kind.Run (place_at ts) (after ts)
+    else (if next_is class.Check ts then command_at strict limit kind.Check (place_at ts) (after ts)
+    else signatures_at strict limit ts)))))
 
 unfoldable pub is_left : List Seen → Bool
 is_left [] = false
@@ -204,12 +205,12 @@ open_at ts = do
   alias ← name_at word.1
   Ok (record { signature = signature.0; alias = alias.0 }, alias.1)
 
--- the model that the tokens are, or where reading stops, if so many constructs may nest
-unfoldable pub model_at : ℕ → List Seen → Result ModelTree Stop
-model_at limit ts = do
+-- the model that the tokens are, or where reading stops, if so many constructs may nest, with forms refused or not
+unfoldable pub model_at : Bool → ℕ → List Seen → Result ModelTree Stop
+model_at strict limit ts = do
   heading ← heading_at ts
   opens ← many (next_is class.Open) open_at heading.1
-  paragraphs ← many is_left (paragraph_at limit) opens.1
+  paragraphs ← many is_left (paragraph_at strict limit) opens.1
   Ok (record { heading = heading.0; opens = opens.0; paragraphs = paragraphs.0 })
 
 -- so many constructs may nest in a model
@@ -217,4 +218,4 @@ abbrev pub depth_limit : ℕ
 depth_limit = 200
 
 abbrev pub model_of : List Seen → Result ModelTree Stop
-model_of = model_at depth_limit
+model_of = model_at true depth_limit

@@ -6,15 +6,15 @@ ghost use Rattle.alloy_syntax.specs.Gives.{Gives};
 use crate::halt::{Halt, Tokens};
 use crate::tree::{Mark, Multiplicity, Name, Number};
 use crate::{Class, is_class};
-use alloy_lex::Place;
+use alloy_lex::{Place, Text};
 use std::alloc::Global;
 
 /// Whether the next token is that terminal.
 #[tactic(auto, unfolding(crate::specs::Readers::next_is))]
 pub fn next_is(tokens: Tokens, class: Class) -> bool
-    ensures { result ≡ next_is class tokens.now }
+    ensures { result ≡ next_is class tokens.entry.left.now }
 {
-    match tokens {
+    match tokens.left {
         [] => false,
         [next, ..] => is_class(next.class, class),
     }
@@ -22,21 +22,21 @@ pub fn next_is(tokens: Tokens, class: Class) -> bool
 
 /// The tokens behind the next one.
 pub fn after<'a>(tokens: Tokens<'a>) -> Tokens<'a>
-    ensures value { result.now ≡ after tokens.now }
-    ensures shorter { length result.now ≤ length tokens.now }
-    ensures fewer { 0 < length tokens.now → length result.now < length tokens.now }
+    ensures value { result.left.now ≡ after tokens.entry.left.now }
+    ensures shorter { length result.left.now ≤ length tokens.entry.left.now }
+    ensures fewer { 0 < length tokens.entry.left.now → length result.left.now < length tokens.entry.left.now }
 {
-    match tokens {
+    match tokens.left {
         [] => tokens,
-        [_, rest @ ..] => rest,
+        [_, rest @ ..] => Tokens { left: rest },
     }
 }
 
 /// Where the next token stands.
 pub fn place_at(tokens: Tokens) -> Place
-    ensures { result ≡ place_at tokens.now }
+    ensures { result ≡ place_at tokens.entry.left.now }
 {
-    match tokens {
+    match tokens.left {
         [] => Place { line: 1, column: 1 },
         [next, ..] => next.place,
     }
@@ -45,14 +45,14 @@ pub fn place_at(tokens: Tokens) -> Place
 /// A token of that class, by its place.
 #[tactic(auto, unfolding(crate::specs::Readers::expect))]
 pub fn expect<'a>(tokens: Tokens<'a>, class: Class) -> Result<(Place, Tokens<'a>), Halt<'a>>
-    ensures value { Gives (λ x. (x.0, x.1.now)) result (expect class tokens.now) }
-    ensures shorter { IfOk result (λ x. length x.1.now < length tokens.now) }
+    ensures value { Gives (λ x. (x.0, x.1.left.now)) result (expect class tokens.entry.left.now) }
+    ensures shorter { IfOk result (λ x. length x.1.left.now < length tokens.entry.left.now) }
 {
-    match tokens {
+    match tokens.left {
         [] => Err(Halt::Refused(tokens)),
         [next, rest @ ..] => {
             if is_class(next.class, class) {
-                Ok((next.place, rest))
+                Ok((next.place, Tokens { left: rest }))
             } else {
                 Err(Halt::Refused(tokens))
             }
@@ -67,36 +67,36 @@ fn spelled<'a>(
     tokens: Tokens<'a>,
     class: Class,
 ) -> Result<(Name, Tokens<'a>), Halt<'a>>
-    ensures value { Gives (λ x. (x.0, x.1.now)) result (spelled_at class tokens.now) }
-    ensures shorter { IfOk result (λ x. length x.1.now < length tokens.now) }
+    ensures value { Gives (λ x. (x.0, x.1.left.now)) result (spelled_at class tokens.entry.left.now) }
+    ensures shorter { IfOk result (λ x. length x.1.left.now < length tokens.entry.left.now) }
 {
-    match tokens {
+    match tokens.left {
         [] => Err(Halt::Refused(tokens)),
         [next, rest @ ..] => {
             if !is_class(next.class, class) {
                 return Err(Halt::Refused(tokens));
             }
             let name = Name {
-                text: next.text.copy(alloc)?,
+                text: Text::of(alloc, next.text.text())?,
                 place: next.place,
             };
-            Ok((name, rest))
+            Ok((name, Tokens { left: rest }))
         }
     }
 }
 
 /// A name.
 pub fn name<'a>(alloc: Global, tokens: Tokens<'a>) -> Result<(Name, Tokens<'a>), Halt<'a>>
-    ensures value { Gives (λ x. (x.0, x.1.now)) result (name_at tokens.now) }
-    ensures shorter { IfOk result (λ x. length x.1.now < length tokens.now) }
+    ensures value { Gives (λ x. (x.0, x.1.left.now)) result (name_at tokens.entry.left.now) }
+    ensures shorter { IfOk result (λ x. length x.1.left.now < length tokens.entry.left.now) }
 {
     spelled(alloc, tokens, Class::Name)
 }
 
 /// A path, as a name with its slash.
 pub fn path<'a>(alloc: Global, tokens: Tokens<'a>) -> Result<(Name, Tokens<'a>), Halt<'a>>
-    ensures value { Gives (λ x. (x.0, x.1.now)) result (path_at tokens.now) }
-    ensures shorter { IfOk result (λ x. length x.1.now < length tokens.now) }
+    ensures value { Gives (λ x. (x.0, x.1.left.now)) result (path_at tokens.entry.left.now) }
+    ensures shorter { IfOk result (λ x. length x.1.left.now < length tokens.entry.left.now) }
 {
     spelled(alloc, tokens, Class::Path)
 }
@@ -104,10 +104,10 @@ pub fn path<'a>(alloc: Global, tokens: Tokens<'a>) -> Result<(Name, Tokens<'a>),
 /// A number.
 #[tactic(auto, unfolding(crate::specs::Readers::number_at))]
 pub fn number<'a>(tokens: Tokens<'a>) -> Result<(Number, Tokens<'a>), Halt<'a>>
-    ensures value { Gives (λ x. (x.0, x.1.now)) result (number_at tokens.now) }
-    ensures shorter { IfOk result (λ x. length x.1.now < length tokens.now) }
+    ensures value { Gives (λ x. (x.0, x.1.left.now)) result (number_at tokens.entry.left.now) }
+    ensures shorter { IfOk result (λ x. length x.1.left.now < length tokens.entry.left.now) }
 {
-    match tokens {
+    match tokens.left {
         [] => Err(Halt::Refused(tokens)),
         [next, rest @ ..] => {
             if !is_class(next.class, Class::Number) {
@@ -117,7 +117,7 @@ pub fn number<'a>(tokens: Tokens<'a>) -> Result<(Number, Tokens<'a>), Halt<'a>>
                 value: value_of(next.text.text().as_bytes()),
                 place: next.place,
             };
-            Ok((number, rest))
+            Ok((number, Tokens { left: rest }))
         }
     }
 }
@@ -146,7 +146,7 @@ fn with_digit(value: u16, digit: u8) -> u16
 /// Whether the next token is a multiplicity word.
 #[tactic(auto, unfolding(crate::specs::Readers::is_mark))]
 pub fn is_mark(tokens: Tokens) -> bool
-    ensures { result ≡ is_mark tokens.now }
+    ensures { result ≡ is_mark tokens.entry.left.now }
 {
     next_is(tokens, Class::Set)
         || next_is(tokens, Class::One)
@@ -155,7 +155,7 @@ pub fn is_mark(tokens: Tokens) -> bool
 }
 
 fn multiplicity_of(tokens: Tokens) -> Multiplicity
-    ensures { result ≡ multiplicity_of tokens.now }
+    ensures { result ≡ multiplicity_of tokens.entry.left.now }
 {
     if next_is(tokens, Class::Set) {
         Multiplicity::Set
@@ -171,7 +171,7 @@ fn multiplicity_of(tokens: Tokens) -> Multiplicity
 /// A multiplicity word, if the next token is one.
 #[tactic(auto, unfolding(crate::specs::Readers::mark_at))]
 pub fn mark_at(tokens: Tokens) -> Option<Mark>
-    ensures { result ≡ mark_at tokens.now }
+    ensures { result ≡ mark_at tokens.entry.left.now }
 {
     if is_mark(tokens) {
         Some(Mark {
@@ -186,8 +186,8 @@ pub fn mark_at(tokens: Tokens) -> Option<Mark>
 /// The tokens behind a multiplicity word, if the next token is one.
 #[tactic(auto, unfolding(crate::specs::Readers::after_mark))]
 pub fn after_mark<'a>(tokens: Tokens<'a>) -> Tokens<'a>
-    ensures value { result.now ≡ after_mark tokens.now }
-    ensures shorter { length result.now ≤ length tokens.now }
+    ensures value { result.left.now ≡ after_mark tokens.entry.left.now }
+    ensures shorter { length result.left.now ≤ length tokens.entry.left.now }
 {
     if is_mark(tokens) {
         after(tokens)
@@ -196,11 +196,20 @@ pub fn after_mark<'a>(tokens: Tokens<'a>) -> Tokens<'a>
     }
 }
 
+/// The same list, in no more memory than it fills.
+pub fn fitted<T: Drop>(list: Vec<T>) -> Vec<T>
+    ensures { result.items ≡ list.items }
+{
+    let mut list = list;
+    list.shrink_to_fit();
+    list
+}
+
 /// Names with commas between them.
 #[tactic(auto, unfolding(crate::specs::Readers::names_at, crate::specs::Readers::listed))]
 pub fn names<'a>(alloc: Global, tokens: Tokens<'a>) -> Result<(Vec<Name>, Tokens<'a>), Halt<'a>>
-    ensures value { Gives (λ x. (x.0.items, x.1.now)) result (names_at tokens.now) }
-    ensures shorter { IfOk result (λ x. length x.1.now < length tokens.now) }
+    ensures value { Gives (λ x. (x.0.items, x.1.left.now)) result (names_at tokens.entry.left.now) }
+    ensures shorter { IfOk result (λ x. length x.1.left.now < length tokens.entry.left.now) }
 {
     let (first, rest) = name(alloc, tokens)?;
     more_names(alloc, first, rest)
@@ -212,8 +221,8 @@ fn more_names<'a>(
     first: Name,
     tokens: Tokens<'a>,
 ) -> Result<(Vec<Name>, Tokens<'a>), Halt<'a>>
-    ensures value { Gives (λ x. (x.0.items, x.1.now)) result (others name_at first tokens.now) }
-    ensures shorter { IfOk result (λ x. length x.1.now ≤ length tokens.now) }
+    ensures value { Gives (λ x. (x.0.items, x.1.left.now)) result (others name_at first tokens.entry.left.now) }
+    ensures shorter { IfOk result (λ x. length x.1.left.now ≤ length tokens.entry.left.now) }
 {
     let mut all = Vec::new(alloc);
     all.push(first)?;
@@ -223,16 +232,16 @@ fn more_names<'a>(
         all.push(another)?;
         rest = behind;
     }
-    Ok((all, rest))
+    Ok((fitted(all), rest))
 }
 
 /// Whether names with commas and then a colon stand there.
 #[tactic(auto, unfolding(crate::specs::Readers::colon_after_names))]
 pub fn colon_after_names(tokens: Tokens) -> bool
-    ensures { result ≡ colon_after_names tokens.now }
+    ensures { result ≡ colon_after_names tokens.entry.left.now }
 {
     let mut rest = tokens;
-    'each: while let [name, mark, others @ ..] = rest {
+    'each: while let [name, mark, others @ ..] = rest.left {
         if !is_class(name.class, Class::Name) {
             return false;
         }
@@ -242,7 +251,7 @@ pub fn colon_after_names(tokens: Tokens) -> bool
         if !is_class(mark.class, Class::Comma) {
             return false;
         }
-        rest = others;
+        rest = Tokens { left: others };
     }
     false
 }

@@ -8,7 +8,10 @@ use alloy_lex::Token;
 use std::alloc::{AllocError, AllocFailed, Global};
 
 /// The tokens that are left.
-pub type Tokens<'a> = &'a [Seen];
+#[derive(Clone, Copy)]
+pub struct Tokens<'a> {
+    pub left: &'a [Seen<'a>],
+}
 
 /// Why no tree is answered.
 #[derive(Drop)]
@@ -43,22 +46,22 @@ impl<T: Drop> From<AllocFailed<T>> for Halt<'_> {
 }
 
 /// Each token as a reader sees it.
-pub fn seen_tokens(alloc: Global, tokens: &[Token]) -> Result<Vec<Seen>, AllocError>
+pub fn seen_tokens<'a>(alloc: Global, tokens: &[Token<'a>]) -> Result<Vec<Seen<'a>>, AllocError>
     ensures { IfOk result (λ found. found.items ≡ seen_all tokens.now) }
 {
-    let mut found = Vec::new(alloc);
+    let mut found = Vec::with_capacity(alloc, tokens.len())?;
     for token in tokens {
-        found.push(seen(alloc, token)?)?;
+        found.push(seen(token))?;
     }
     Ok(found)
 }
 
-fn seen(alloc: Global, token: &Token) -> Result<Seen, AllocError>
-    ensures { IfOk result (λ found. found ≡ seen token.now) }
+fn seen<'a>(token: &Token<'a>) -> Seen<'a>
+    ensures { result ≡ seen token.now }
 {
-    Ok(Seen {
+    Seen {
         class: class_of(token),
         place: token.place,
-        text: token.text.copy(alloc)?,
-    })
+        text: token.text.again(),
+    }
 }

@@ -1,11 +1,11 @@
 // What a reader sees of a token.
 use crate::class::Class;
-use alloy_lex::{Place, Text};
+use alloy_lex::{Place, Spelling};
 
 /// A token as a reader sees it: its terminal, its place, and what it spells.
 #[derive(Drop)]
-pub struct Seen {
+pub struct Seen<'a> {
     pub class: Class,
     pub place: Place,
-    pub text: Text,
+    pub text: Spelling<'a>,
 }

@@ -142,6 +142,30 @@ fn tells_the_first_fault_of_a_model(rt: HostRuntime) -> Result<(), Fail> {
     Ok(())
 }
 
+// 200 constructs nest, the braces of the block among them, and one more lies too deep.
+#[test]
+fn nests_200_deep(rt: HostRuntime) -> Result<(), Fail> {
+    let rows = [
+        (199, "fault model m not_yet\n"),
+        (200, "fault model m 1:216 too_deep\n"),
+    ];
+    for (brackets, expected) in rows {
+        let mut script = String::from_str(rt.alloc(), "== model m\nsig A {} run { ")?;
+        for _ in 0..brackets {
+            script.push_str("(")?;
+        }
+        script.push_str("some A")?;
+        for _ in 0..brackets {
+            script.push_str(")")?;
+        }
+        script.push_str(" }\n== session a m 1\nnext\n")?;
+        let (status, text) = run(rt.alloc(), &script)?;
+        assert_eq!(rt; text.as_str(), expected);
+        assert_eq!(rt; status, 4);
+    }
+    Ok(())
+}
+
 // Whether these scripts have this status and these outputs.
 fn answers(rt: &impl Abort, alloc: Global, status: u8, rows: &[(&str, &str)]) -> Result<(), Fail> {
     for (script, expected) in rows {

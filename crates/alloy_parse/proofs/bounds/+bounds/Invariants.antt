@@ -1,4 +1,4 @@
-use Rattle.std.proofs.Common.{◌+◌, ◌*◌, ◌≤◌, map, length}
+use Rattle.std.proofs.Common.{true, ◌+◌, ◌*◌, ◌≤◌, map, length}
 use Rattle.alloy_syntax.specs.View.{arrow_view}
 use Rattle.alloy_syntax.specs.Bounds.{begins_bound_arrow, bound_arrow_over, more_bound_arrows, bound_within}
 use Rattle.alloy_syntax.proofs.Loop.{Reads}
@@ -32,18 +32,18 @@ decreases-bound l = 64 * l.room + 7
 
 abbrev pub invariant-more_bound_arrows-each : goal.invariant-more_bound_arrows-each
 invariant-more_bound_arrows-each l = record {
-  reads : Reads begins_bound_arrow (bound_arrow_over (bound_within l.room) (standing_view l.before.standing) (word_view l.before.marked) l.before.has_arrow) (map arrow_view l.all.items) l.rest (more_bound_arrows (bound_within l.room) (standing_view l.fn.standing) (word_view l.fn.marked) (arrow_view l.fn.first) l.tokens);
-  shorter : length l.rest ≤ length l.tokens;
+  reads : Reads begins_bound_arrow (bound_arrow_over true (bound_within true l.room) (standing_view l.before.standing) (word_view l.before.marked) l.before.has_arrow) (map arrow_view l.all.items) l.rest.left.now (more_bound_arrows true (bound_within true l.room) (standing_view l.fn.standing) (word_view l.fn.marked) (arrow_view l.fn.first) l.tokens.left.now);
+  shorter : length l.rest.left.now ≤ length l.tokens.left.now;
 }
 
 abbrev pub decreases-more_bound_arrows-each : goal.decreases-more_bound_arrows-each
-decreases-more_bound_arrows-each l = length l.rest
+decreases-more_bound_arrows-each l = length l.rest.left.now
 
 abbrev pub invariant-operands-each : goal.invariant-operands-each
 invariant-operands-each l = record {
-  gathers : Gathers (bound_within l.room) (standing_view l.standing) (map operand_view l.all.items) l.has_arrow l.rest l.tokens;
-  shorter : length l.rest ≤ length l.tokens;
+  gathers : Gathers (bound_within true l.room) (standing_view l.standing) (map operand_view l.all.items) l.has_arrow l.rest.left.now l.tokens.left.now;
+  shorter : length l.rest.left.now ≤ length l.tokens.left.now;
 }
 
 abbrev pub decreases-operands-each : goal.decreases-operands-each
-decreases-operands-each l = length l.rest
+decreases-operands-each l = length l.rest.left.now

@@ -10,13 +10,13 @@ use Rattle.alloy_parse.proofs.paragraphs.more_fields.Goals as goal
 pub returns-in_err-another-clause-value : goal.returns-in_err-another-clause-value
 returns-in_err-another-clause-value c =
     let p = err_from_is_err_and c.from_residual-in_err-another.result c.from_residual-in_err-another.ensures.1 in
-    let going : next_is Comma c.each.rest.now ≡ true = cc in
+    let going : next_is Comma c.each.rest.left.now ≡ true = cc in
     rw (p.1, p.2) (loop_fails _ _ _ _ _ _ c.each.invariant.reads going (rw c.after.ensures.value at c.in_err-another.ensures.value))
 
 pub each-preserved : goal.each-preserved
 each-preserved c =
     let pushed : map field_view c.push-in-each.new.self.items ≡ map field_view c.each.all.items ++ field_view c.in_ok-another.another ∷ [] = rw c.in_ok-push-2.ensures.items (map_push _ c.each.all.items c.in_ok-another.another) in
-    let going : next_is Comma c.each.rest.now ≡ true = cc in
+    let going : next_is Comma c.each.rest.left.now ≡ true = cc in
     record {
       reads = rw pushed (reads_more _ _ _ _ _ _ _ c.each.invariant.reads going (rw c.after.ensures.value at c.in_ok-another.ensures.value) (omega (arith, c.in_ok-another.ensures.shorter)));
       shorter = omega (arith, c.in_ok-another.ensures.shorter);
@@ -24,5 +24,5 @@ each-preserved c =
 
 pub returns-clause-value : goal.returns-clause-value
 returns-clause-value c =
-    let stops : next_is Comma c.each.rest.now ≡ false = cc in
-    reads_ends _ _ _ _ _ c.each.invariant.reads stops
+    let stops : next_is Comma c.each.rest.left.now ≡ false = cc in
+    rw c.fitted.ensures (reads_ends _ _ _ _ _ c.each.invariant.reads stops)

@@ -6,7 +6,7 @@ use Rattle.alloy_syntax.proofs.Loop.{Reads}
 use Rattle.alloy_parse.proofs.paragraphs.opens.Given as goal
 
 abbrev pub invariant-each : goal.invariant-each
-invariant-each l = Reads (next_is Open) open_at l.all.items l.rest (many (next_is Open) open_at l.tokens)
+invariant-each l = Reads (next_is Open) open_at l.all.items l.rest.left.now (many (next_is Open) open_at l.tokens.left.now)
 
 abbrev pub decreases-each : goal.decreases-each
-decreases-each l = length l.rest
+decreases-each l = length l.rest.left.now

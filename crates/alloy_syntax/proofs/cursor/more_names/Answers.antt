@@ -9,19 +9,19 @@ pub returns-in_err-another-clause-value : goal.returns-in_err-another-clause-val
 returns-in_err-another-clause-value c =
     let p = err_from_is_err_and c.from_residual-in_err-another.result c.from_residual-in_err-another.ensures.1 in
     let read = rw c.after.ensures.value at c.in_err-another.ensures.value in
-    let going : next_is Comma c.each.rest.now ≡ true = cc in
-    rw (p.1, p.2) (loop_fails _ (next_is Comma) (behind name_at) c.each.all.items c.each.rest.now _ c.each.invariant.reads going read)
+    let going : next_is Comma c.each.rest.left.now ≡ true = cc in
+    rw (p.1, p.2) (loop_fails _ (next_is Comma) (behind name_at) c.each.all.items c.each.rest.left.now _ c.each.invariant.reads going read)
 
 pub each-preserved : goal.each-preserved
 each-preserved c =
     let read = rw c.after.ensures.value at c.in_ok-another.ensures.value in
-    let going : next_is Comma c.each.rest.now ≡ true = cc in
+    let going : next_is Comma c.each.rest.left.now ≡ true = cc in
     record {
-      reads = rw c.in_ok-push-2.ensures.items (reads_more (next_is Comma) (behind name_at) c.each.all.items c.each.rest.now c.in_ok-another.behind.now c.in_ok-another.another _ c.each.invariant.reads going read (omega (arith, c.in_ok-another.ensures.shorter)));
+      reads = rw c.in_ok-push-2.ensures.items (reads_more (next_is Comma) (behind name_at) c.each.all.items c.each.rest.left.now c.in_ok-another.behind.left.now c.in_ok-another.another _ c.each.invariant.reads going read (omega (arith, c.in_ok-another.ensures.shorter)));
       shorter = omega (arith, c.in_ok-another.ensures.shorter);
     }
 
 pub returns-clause-value : goal.returns-clause-value
 returns-clause-value c =
-    let stops : next_is Comma c.each.rest.now ≡ false = cc in
-    reads_ends (next_is Comma) (behind name_at) c.each.all.items c.each.rest.now _ c.each.invariant.reads stops
+    let stops : next_is Comma c.each.rest.left.now ≡ false = cc in
+    rw c.fitted.ensures (reads_ends (next_is Comma) (behind name_at) c.each.all.items c.each.rest.left.now _ c.each.invariant.reads stops)

@@ -6,9 +6,9 @@ use Rattle.alloy_syntax.proofs.cursor.more_names.Given as goal
 
 abbrev pub invariant-each : goal.invariant-each
 invariant-each l = record {
-  reads : Reads (next_is Comma) (behind name_at) l.all.items l.rest (others name_at l.fn.first l.tokens);
-  shorter : length l.rest ≤ length l.tokens;
+  reads : Reads (next_is Comma) (behind name_at) l.all.items l.rest.left.now (others name_at l.fn.first l.tokens.left.now);
+  shorter : length l.rest.left.now ≤ length l.tokens.left.now;
 }
 
 abbrev pub decreases-each : goal.decreases-each
-decreases-each l = length l.rest
+decreases-each l = length l.rest.left.now
