@@ -57,7 +57,8 @@ def edits(log):
             alive = alive and text.count(old) == 1 and not old.startswith(" ")
             texts[path] = text.replace(old, new)
         yield f"the edit {edit} applies", bool(texts) and alive
-    yield "no edit is a bad one", "BAD EDIT" not in log
+    bad = [line.strip() for line in log.splitlines() if "BAD EDIT" in line]
+    yield f"no edit is a bad one {bad or ''}".strip(), not bad
 
 
 def main():

@@ -3,7 +3,5 @@
 
 mod heap;
 mod order;
-#[cfg(test)]
-mod tests;
 
 pub use order::ActivityOrder;

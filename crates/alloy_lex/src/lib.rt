@@ -5,8 +5,6 @@ mod front;
 pub mod laws;
 mod lexing;
 mod spelling;
-#[cfg(test)]
-mod tests;
 mod token;
 
 pub use crate::lexing::lex;

@@ -3,8 +3,6 @@
 
 mod assigned;
 mod assignment;
-#[cfg(test)]
-mod tests;
 
 pub use assigned::Assigned;
 pub use assignment::Assignment;

@@ -5,8 +5,6 @@ mod answer;
 mod cells;
 mod offering;
 mod search;
-#[cfg(test)]
-mod tests;
 
 pub use crate::answer::Offers;
 pub use crate::offering::offers;

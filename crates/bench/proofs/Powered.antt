@@ -13,7 +13,7 @@ use Rattle.rel_formula.proofs.Images.{map_undone}
 use Rattle.rel_formula.proofs.Open.{cons_cases, cons_first}
 use Rattle.rel_formula.proofs.Single.{only_one}
 use Rattle.rel_formula.specs.Shape.{IsProper}
-use Rattle.rel_translate.proofs.Two.{two_problem}
+use Rattle.rel_formula.proofs.Two.{two_problem}
 use Rattle.bench.specs.Powers.{AreAtoms, IsPower}
 
 single : (t : List Atom) → length t ≡ 1 → (a : Atom) × (t ≡ a ∷ [])

@@ -7,8 +7,6 @@ mod kept;
 pub mod operators;
 mod products;
 mod rows;
-#[cfg(test)]
-mod tests;
 mod work;
 
 pub use crate::kept::{BoundingType, MOST_LISTS};

@@ -9,6 +9,3 @@ mod marks;
 
 pub use clauses::{MOST_SIZE, clauses_of};
 pub use std::alloc::AllocError as NoMemory;
-
-#[cfg(test)]
-mod tests;

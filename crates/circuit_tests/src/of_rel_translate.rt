@@ -1,95 +1,16 @@
 // That the node has the truth that the evaluator finds, in every scenario of small problems of a set and a relation.
-ghost use Rattle.std.specs.Prelude.{◌≡◌, ◌<◌, ◌∷◌, [], ℕ, All, IfOk, IsTrue, length};
+ghost use Rattle.std.specs.Prelude.{◌≡◌, ◌∷◌, [], All, IfOk};
 ghost use Rattle.rel_formula.specs.Instance.{AreCells};
-ghost use Rattle.rel_formula.specs.Kernel.{rel, var, iden, product, join, within};
+ghost use Rattle.rel_formula.specs.Kernel.{rel, var, product, within};
 ghost use Rattle.rel_formula.specs.Shape.{IsProper};
-ghost use Rattle.rel_formula.specs.View.{expression_tree, formula_tree};
-ghost use Rattle.rel_terms.specs.Terms.{IsTranslatable};
+ghost use Rattle.rel_formula.specs.View.{formula_tree};
 
-use rel_formula::{Expression, Formula, Problem, Relation, Scenario, holds};
-use rel_terms::terms;
+use rel_formula::{Expression, Formula, Problem, Scenario, holds};
 use rel_translate::{ProblemCircuit, circuit_of};
+use sample_problems::{arrows, is_translatable, two};
 use std::alloc::{AllocError, Global};
 use std::process::Abort;
 use std::test::Fail;
-use tuple_core::{Atom, Name, Tuple, TupleSet};
-
-// The atom at this place of the first signature.
-fn at(place: u16) -> Atom
-    ensures { result.top ≡ 0 }
-{
-    Atom { top: 0, place }
-}
-
-// The atoms at these places.
-fn atoms(alloc: Global, places: &[u16]) -> Result<TupleSet, AllocError>
-    ensures arity { IfOk result (λ s. s.arity ≡ 1) }
-    ensures tops { IfOk result (λ s. All (All (λ a. a.top < 1)) s.rows) }
-{
-    let mut set = TupleSet::new(alloc, 1);
-    for place in places {
-        set.insert(Tuple::single(at(*place)))?;
-    }
-    Ok(set)
-}
-
-// All pairs of the atoms at these places.
-fn pairs(alloc: Global, places: &[u16]) -> Result<TupleSet, AllocError>
-    ensures arity { IfOk result (λ s. s.arity ≡ 2) }
-    ensures tops { IfOk result (λ s. All (All (λ a. a.top < 1)) s.rows) }
-{
-    let set = atoms(alloc, places)?;
-    let all = set.product(alloc, &set)?;
-    Ok(all)
-}
-
-// A set with at least and at most these atoms, any arrows among them, and a formula about both.
-fn arrows(
-    rt: &impl Abort,
-    alloc: Global,
-    fixed: &[u16],
-    places: &[u16],
-    formula: Formula,
-) -> Result<Problem, AllocError>
-    requires { IsProper (1 ∷ 2 ∷ []) 0 (formula_tree formula) }
-    ensures { IfOk result (λ p. p.tops ≡ 0 ∷ []) }
-{
-    let lower = atoms(alloc, fixed)?;
-    let upper = atoms(alloc, places)?;
-    let none = TupleSet::new(alloc, 2);
-    let all = pairs(alloc, places)?;
-    assert!(rt; lower.is_subset(&upper));
-    assert!(rt; lower.rows().len() <= upper.rows().len());
-    assert!(rt; none.rows().len() <= all.rows().len());
-    assert!(rt; upper.len() <= 64);
-    assert!(rt; all.len() <= 4032);
-    let set = Relation {
-        name: Name::of(alloc, "A")?,
-        lower,
-        upper,
-    };
-    let relation = Relation {
-        name: Name::of(alloc, "next")?,
-        lower: none,
-        upper: all,
-    };
-    let relations = vec![in alloc; set, relation]?;
-    let tops = vec![in alloc; 0]?;
-    let problem = Problem::of(alloc, relations, tops, formula)?;
-    Ok(problem)
-}
-
-// Whether a problem with one top-level signature can be translated.
-fn is_translatable(alloc: Global, problem: &Problem) -> Result<bool, AllocError>
-    requires { problem.now.tops ≡ 0 ∷ [] }
-    ensures { IfOk result (λ is. IsTrue is → IsTranslatable problem.now) }
-{
-    if problem.atoms().rows().len() > 64 {
-        return Ok(false);
-    }
-    let count = terms(alloc, problem)?;
-    Ok(count.is_some())
-}
 
 // The values of so many inputs that the bits of a number say.
 fn inputs_of(alloc: Global, bits: u32, count: u32) -> Result<Vec<bool>, AllocError> {
@@ -141,10 +62,10 @@ fn agrees(
     fixed: &[u16],
     places: &[u16],
     formula: Formula,
-) -> Result<(), AllocError>
+) -> Result<(), Fail>
     requires { IsProper (1 ∷ 2 ∷ []) 0 (formula_tree formula) }
 {
-    let problem = arrows(rt, alloc, fixed, places, formula)?;
+    let problem = arrows(alloc, fixed, places, formula)?;
     assert!(rt; is_translatable(alloc, &problem)?);
     assert!(rt; problem.cells() <= 9);
     let made = circuit_of(alloc, &problem)?;
@@ -152,17 +73,6 @@ fn agrees(
         agrees_at(rt, alloc, &problem, &made, bits)?;
     }
     Ok(())
-}
-
-// Two operands.
-fn two(
-    alloc: Global,
-    a: Expression,
-    b: Expression,
-) -> Result<(Box<Expression>, Box<Expression>), AllocError>
-    ensures { IfOk result (λ p. (expression_tree p.0.value ≡ expression_tree a) × (expression_tree p.1.value ≡ expression_tree b)) }
-{
-    Ok((Box::new(alloc, a)?, Box::new(alloc, b)?))
 }
 
 // There are 0, 1, all, and more than all of the pairs, or so many of the atoms.

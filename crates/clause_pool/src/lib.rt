@@ -7,8 +7,6 @@ mod laws;
 mod pool;
 mod renumbering;
 mod steps;
-#[cfg(test)]
-mod tests;
 
 pub use free::free_of;
 pub use laws::{accepted_hints_name_members, one_length_is_longest};

@@ -3,8 +3,6 @@
 
 mod code;
 mod store;
-#[cfg(test)]
-mod tests;
 
 pub use code::{code_of, literal_of};
 pub use store::Store;

@@ -5,8 +5,6 @@
 mod serving;
 mod showing;
 mod steps;
-#[cfg(test)]
-mod tests;
 
 pub use crate::serving::{answer, serve};
 pub use std::alloc::AllocError as NoMemory;

@@ -11,8 +11,6 @@ mod lock;
 mod opening;
 mod order;
 mod pass;
-#[cfg(test)]
-mod tests;
 mod view;
 
 pub use gate::{Gate, OpenGate};

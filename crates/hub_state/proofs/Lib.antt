@@ -1,10 +1,5 @@
 pub mod Crosses
 mod Journals
-mod Growing
+pub mod Growing
 mod Sharing
-mod Appending
-mod Bottom
-mod Ended
-mod Sessions
-mod Restating
-mod Turned
+pub mod Appending

@@ -4,8 +4,6 @@
 
 mod hub;
 mod kept;
-#[cfg(test)]
-mod tests;
 
 pub use crate::hub::Hub;
 pub use crate::kept::SeenEntry;

@@ -3,7 +3,5 @@
 
 mod event;
 pub mod laws;
-#[cfg(test)]
-mod tests;
 
 pub use crate::event::{Entry, Event};

@@ -3,8 +3,6 @@
 
 mod clauses;
 mod descent;
-#[cfg(test)]
-mod tests;
 
 pub use crate::clauses::{absence_in, units_of};
 pub use crate::descent::descent_locals;

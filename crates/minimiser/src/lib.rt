@@ -2,8 +2,6 @@
 #![tactic(auto)]
 
 mod descent;
-#[cfg(test)]
-mod tests;
 
 pub use crate::descent::{Down, minimise};
 pub use std::alloc::AllocError as NoMemory;

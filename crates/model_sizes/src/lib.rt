@@ -5,7 +5,5 @@ pub mod laws;
 mod size;
 pub mod sizes;
 mod tables;
-#[cfg(test)]
-mod tests;
 
 pub use crate::size::{Size, Sizes};

@@ -3,8 +3,6 @@
 
 pub mod laws;
 mod reading;
-#[cfg(test)]
-mod tests;
 mod words;
 
 pub use crate::reading::{ModelText, read_model};

@@ -5,3 +5,5 @@ pub mod Leveled
 pub mod Numbered
 pub mod Standings
 pub mod Meetings
+pub mod Telling
+pub mod Reaching

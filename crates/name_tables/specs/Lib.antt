@@ -1,3 +1,4 @@
 pub mod Occurrence
 pub mod Levels
 pub mod InForce
+pub mod Told

@@ -6,8 +6,6 @@ mod cover;
 mod firsts;
 mod locals;
 mod names;
-#[cfg(test)]
-mod tests;
 mod words;
 
 pub use crate::names::{Header, Names};

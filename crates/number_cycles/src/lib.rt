@@ -5,8 +5,6 @@
 mod components;
 mod first;
 mod heights;
-#[cfg(test)]
-mod tests;
 mod walk;
 
 pub use crate::first::first_cyclic;

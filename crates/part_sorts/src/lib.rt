@@ -8,8 +8,6 @@ pub mod comparisons;
 pub mod kinds;
 pub mod places;
 pub mod tables;
-#[cfg(test)]
-mod tests;
 
 pub use crate::kinds::Kind;
 pub use std::alloc::AllocError as NoMemory;

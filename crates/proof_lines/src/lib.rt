@@ -7,8 +7,6 @@ pub mod laws;
 mod local;
 mod proof;
 mod steps;
-#[cfg(test)]
-mod tests;
 
 pub use crate::proof::{ProofText, proof_of, text_of_proof};
 pub use std::alloc::AllocError as NoMemory;

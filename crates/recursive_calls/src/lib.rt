@@ -3,8 +3,6 @@
 
 mod calls;
 mod recursion;
-#[cfg(test)]
-mod tests;
 
 pub use crate::recursion::first_recursive;
 pub use std::alloc::AllocError as NoMemory;

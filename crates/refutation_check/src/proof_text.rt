@@ -2,8 +2,6 @@
 mod fault;
 mod line;
 mod reading;
-#[cfg(test)]
-mod tests;
 mod word;
 mod writing;
 

@@ -19,3 +19,4 @@ pub mod Renamed
 pub mod Single
 pub mod Unary
 pub mod Copies
+pub mod Two

@@ -10,3 +10,4 @@ pub mod Counted
 pub mod Leaves
 pub mod Parted
 pub mod Compared
+pub mod Translatable

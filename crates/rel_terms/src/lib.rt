@@ -7,8 +7,6 @@ pub mod laws;
 mod operators;
 mod pairs;
 mod tally;
-#[cfg(test)]
-mod tests;
 
 pub use crate::formula::terms;
 pub use crate::tally::MOST_TERMS;

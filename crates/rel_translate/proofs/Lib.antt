@@ -11,5 +11,3 @@ pub mod Whole
 pub mod Gated
 pub mod Compared
 pub mod Grounded
-pub mod Two
-pub mod Translatable

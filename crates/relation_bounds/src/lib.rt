@@ -4,5 +4,3 @@
 pub mod names;
 pub mod places;
 pub mod signatures;
-#[cfg(test)]
-mod tests;

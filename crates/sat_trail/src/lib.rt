@@ -8,8 +8,6 @@ mod learning;
 mod levels;
 mod rounds;
 mod settling;
-#[cfg(test)]
-mod tests;
 mod trail;
 
 pub use assignment_trail::Assigned;

@@ -13,8 +13,6 @@ mod numbers;
 mod reader;
 mod script;
 mod sessions;
-#[cfg(test)]
-mod tests;
 mod tuples;
 mod words;
 

@@ -9,8 +9,6 @@ mod next;
 mod novel;
 mod round;
 mod search;
-#[cfg(test)]
-mod tests;
 
 pub use crate::locals::locals_of;
 pub use crate::next::{Found, NextAt, next_at};

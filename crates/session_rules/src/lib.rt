@@ -7,8 +7,6 @@ mod end_proof;
 pub mod laws;
 mod lists;
 mod script;
-#[cfg(test)]
-mod tests;
 
 pub use crate::answers::{Refusal, Reply, WorkDone};
 pub use crate::end_proof::{EndProof, ProofKind};

@@ -8,8 +8,6 @@ mod listing;
 mod offering;
 mod plain;
 mod session;
-#[cfg(test)]
-mod tests;
 
 pub use crate::answer::Proposal;
 pub use crate::session::Session;

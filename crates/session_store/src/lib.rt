@@ -4,8 +4,6 @@
 
 mod floors;
 mod store;
-#[cfg(test)]
-mod tests;
 
 pub use crate::store::SessionStore;
 pub use std::alloc::AllocError as NoMemory;

@@ -4,8 +4,6 @@
 mod atom_names;
 mod commands;
 mod steps;
-#[cfg(test)]
-mod tests;
 
 pub use crate::atom_names::{AtomName, AtomNames};
 pub use crate::commands::{Command, Commands};

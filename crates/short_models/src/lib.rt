@@ -6,8 +6,6 @@ mod kernel;
 pub mod laws;
 mod model;
 mod problem;
-#[cfg(test)]
-mod tests;
 
 pub use crate::model::{Count, Multiplicity, ShortModel, is_short};
 pub use crate::problem::problem_of;

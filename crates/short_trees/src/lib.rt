@@ -5,7 +5,5 @@ mod command;
 mod formula;
 mod model;
 mod signature;
-#[cfg(test)]
-mod tests;
 
 pub use crate::model::short_model;

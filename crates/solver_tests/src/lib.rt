@@ -1,7 +1,8 @@
-//! Tests of `sat_core` and of the checker in `refutation_check`, in a crate of their own: so these aren't proved a second time
-//! for them.
+//! Tests of `sat_core` and `refutation_check`, in a crate of their own: so these aren't proved a second time for their tests.
 #![tactic(auto)]
 
+#[cfg(test)]
+mod of_proof_text;
 #[cfg(test)]
 mod of_refutation_check;
 #[cfg(test)]

@@ -4,8 +4,6 @@
 mod cells;
 mod comparison;
 mod swaps;
-#[cfg(test)]
-mod tests;
 
 pub use crate::swaps::{swap_clauses, swap_clauses_of};
 pub use std::alloc::AllocError as NoMemory;

@@ -9,4 +9,3 @@ pub mod Stands
 pub mod Beside
 pub mod Descent
 pub mod SoFar
-pub mod Two

@@ -6,8 +6,6 @@ mod order;
 mod pairs;
 mod settled;
 mod settling;
-#[cfg(test)]
-mod tests;
 
 pub use crate::order::earlier;
 pub use crate::pairs::neighbours;

@@ -2,8 +2,6 @@
 #![tactic(auto)]
 
 mod swaps;
-#[cfg(test)]
-mod tests;
 mod translation;
 
 pub use crate::translation::Translation;

@@ -2,8 +2,6 @@
 #![tactic(auto)]
 
 mod cache;
-#[cfg(test)]
-mod tests;
 
 pub use crate::cache::Cache;
 pub use std::alloc::AllocError as NoMemory;

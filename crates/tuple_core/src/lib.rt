@@ -4,8 +4,6 @@
 mod atom;
 pub mod laws;
 mod name;
-#[cfg(test)]
-mod tests;
 mod tuple;
 mod tuple_set;
 

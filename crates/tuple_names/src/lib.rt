@@ -3,7 +3,5 @@
 
 mod names;
 mod naming;
-#[cfg(test)]
-mod tests;
 
 pub use crate::naming::{Named, what_is_named};

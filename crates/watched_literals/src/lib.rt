@@ -3,8 +3,6 @@
 
 mod back;
 mod pending;
-#[cfg(test)]
-mod tests;
 mod walk;
 
 pub use back::back_to;

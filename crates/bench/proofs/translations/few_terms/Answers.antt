@@ -3,7 +3,7 @@ use Rattle.std.specs.Prelude.{IfSome}
 use Rattle.tuple_core.specs.Rows.{Rows, IsSetOf}
 use Rattle.rel_formula.specs.Bounds.{Bounded, InAtoms}
 use Rattle.rel_terms.specs.Terms.{HasTerms, IsTranslatable}
-use Rattle.rel_translate.proofs.Translatable.{one_top}
+use Rattle.rel_terms.proofs.Translatable.{one_top}
 use Rattle.bench.proofs.translations.few_terms.Goals as goal
 
 told : (p : Bounded) (atoms : Rows) (answer : Option ℕ) → p.tops ≡ 0 ∷ [] → IsSetOf atoms 1 (InAtoms p) → length atoms.rows ≤ 64 → IfSome answer (λ n. HasTerms p n × (n ≤ 2 ^ 18)) → IfSome answer (λ n. HasTerms p n × IsTranslatable p)

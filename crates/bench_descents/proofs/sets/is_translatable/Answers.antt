@@ -3,7 +3,7 @@ use Rattle.std.specs.Prelude.{IfSome}
 use Rattle.std.specs.Option.{is_some}
 use Rattle.rel_formula.specs.Bounds.{Bounded}
 use Rattle.rel_terms.specs.Terms.{HasTerms}
-use Rattle.rel_translate.proofs.Translatable.{one_top}
+use Rattle.rel_terms.proofs.Translatable.{one_top}
 use Rattle.bench_descents.proofs.sets.is_translatable.Goals as goal
 
 told : (p : Bounded) (answer : Option ℕ) → IfSome answer (λ n. HasTerms p n × (n ≤ 2 ^ 18)) → is_some answer ≡ true → (n : ℕ) × HasTerms p n × (n ≤ 2 ^ 18)

@@ -1,0 +1,5 @@
+use Rattle.alloy_grammar.proofs.Whole.{one_tree}
+use Rattle.alloy_grammar.proofs.laws.a_text_has_one_tree.Goals as goal
+
+pub returns : goal.returns
+returns c ts m n s t = one_tree ts m n s t

@@ -1,0 +1,4 @@
+//! What is known of predicates and functions, by those that they call.
+#![tactic(auto)]
+
+pub mod laws;

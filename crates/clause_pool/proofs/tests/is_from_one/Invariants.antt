@@ -1,5 +1,0 @@
-use Rattle.std.proofs.Common.{◌≤◌, All, take}
-use Rattle.clause_pool.proofs.tests.is_from_one.Given as goal
-
-abbrev pub invariant-loop-hint : goal.invariant-loop-hint
-invariant-loop-hint l = All (λ hint. 1 ≤ hint) (take l.hint-index l.hints)

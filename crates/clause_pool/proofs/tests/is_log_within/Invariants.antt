@@ -1,6 +1,0 @@
-use Rattle.std.proofs.Common.{All, take}
-use Rattle.cnf_core.specs.Literal.{HasVarsUpTo}
-use Rattle.clause_pool.proofs.tests.is_log_within.Given as goal
-
-abbrev pub invariant-loop-step : goal.invariant-loop-step
-invariant-loop-step l = All (λ s. HasVarsUpTo l.vars s.clause) (take l.step-index l.steps)

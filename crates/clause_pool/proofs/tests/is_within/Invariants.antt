@@ -1,6 +1,0 @@
-use Rattle.std.proofs.Common.{take}
-use Rattle.cnf_core.specs.Literal.{HasVarsUpTo}
-use Rattle.clause_pool.proofs.tests.is_within.Given as goal
-
-abbrev pub invariant-loop-lit : goal.invariant-loop-lit
-invariant-loop-lit l = HasVarsUpTo l.vars (take l.lit-index l.lits)

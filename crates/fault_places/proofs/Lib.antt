@@ -1,0 +1,5 @@
+pub mod Follows
+pub mod Nodes
+pub mod Rooms
+pub mod Bounds
+pub mod Models

@@ -1,5 +1,0 @@
-use Rattle.hub_state.proofs.Restating.{accepted}
-use Rattle.hub_state.proofs.tests.restated.Goals as goal
-
-pub returns : goal.returns
-returns c = accepted c.args.cnf.now.clauses c.clause-first.result.now c.loop-made.log c.clause-first.ensures.clause c.loop-made.invariant.all

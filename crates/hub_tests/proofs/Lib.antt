@@ -1,0 +1,5 @@
+mod Bottom
+mod Ended
+mod Sessions
+mod Restating
+mod Turned

@@ -1,0 +1,515 @@
+// What no clause says: that calls succeed with ample memory; and that the tuples of the results are those that the
+// operators on sets give, at every value of the inputs.
+ghost use Rattle.std.specs.Prelude.{◌+◌, ◌*◌, ◌<◌, length, IsTrue};
+ghost use Rattle.bool_circuit.specs.Network.{size};
+ghost use Rattle.bool_matrix.specs.Cells.{IsOf, ThereIn};
+ghost use Rattle.bool_matrix.specs.Closure.{HasFewAtoms, HasRoom};
+ghost use Rattle.bool_matrix.specs.Terms.{tuples, joins};
+ghost use Rattle.tuple_core.specs.Operators.{Closed};
+
+use bool_circuit::{Circuit, MOST_NODES, Node};
+use bool_matrix::{Matrix, NoMemory};
+use std::alloc::Global;
+use std::process::Abort;
+use tuple_core::{Atom, Tuple, TupleSet};
+
+// An operator on two matrices or sets.
+#[derive(Clone, Copy)]
+enum Operator {
+    Union,
+    Minus,
+    Meet,
+    Product,
+    Join,
+    Over,
+    Dom,
+    Ran,
+}
+
+// The tuple of the first `arity` of these places.
+fn tuple(arity: u8, places: [u16; 3]) -> Tuple {
+    let [x, y, z] = places;
+    match arity {
+        1 => Tuple::single(at(x)),
+        2 => Tuple::of(&[at(x), at(y)]),
+        _ => Tuple::of(&[at(x), at(y), at(z)]),
+    }
+}
+
+// The atom at this place of the first signature.
+fn at(place: u16) -> Atom {
+    Atom { top: 0, place }
+}
+
+// Whether this is a matrix of at most 1,000 tuples, of nodes of a circuit of less than a million.
+fn is_small(circuit: &Circuit, matrix: &Matrix) -> bool
+    ensures of { IsTrue result → IsOf circuit.now matrix.now }
+    ensures few { IsTrue result → length matrix.now.entries < 1000 }
+    ensures nodes { IsTrue result → size circuit.now < 1000010 }
+{
+    matrix.is_of(circuit) && circuit.len() < 1_000_000 && matrix.entries().len() < 1000
+}
+
+// Whether these are two of them.
+fn are_small(circuit: &Circuit, left: &Matrix, right: &Matrix) -> bool
+    ensures left { IsTrue result → IsOf circuit.now left.now }
+    ensures right { IsTrue result → IsOf circuit.now right.now }
+    ensures sum { IsTrue result → size circuit.now + 16 * (length left.now.entries + 2 * length right.now.entries) < MOST_NODES }
+    ensures product { IsTrue result → size circuit.now + 16 * (length left.now.entries * length right.now.entries) < MOST_NODES }
+    ensures joins { IsTrue result → size circuit.now + 16 * joins (tuples left.now) (tuples right.now) < MOST_NODES }
+{
+    is_small(circuit, left) && is_small(circuit, right)
+}
+
+// Whether this is one of them, and the number is small too.
+fn may_count(circuit: &Circuit, matrix: &Matrix, n: u32) -> bool
+    ensures of { IsTrue result → IsOf circuit.now matrix.now }
+    ensures room { IsTrue result → size circuit.now + 16 * (length matrix.now.entries * (n + 1)) < MOST_NODES }
+{
+    is_small(circuit, matrix) && n < 1000
+}
+
+// Whether this is one of them, and has at most 8 pairs.
+fn may_close(circuit: &Circuit, pairs: &Matrix) -> bool
+    ensures of { IsTrue result → IsOf circuit.now pairs.now }
+    ensures atoms { IsTrue result → HasFewAtoms 64 (ThereIn pairs.now) }
+    ensures room { IsTrue result → HasRoom (size circuit.now) MOST_NODES (Closed (ThereIn pairs.now)) }
+{
+    if pairs.entries().len() > 8 {
+        return false;
+    }
+    is_small(circuit, pairs)
+}
+
+// Adds the tuple of the first of these places, with the node of this input.
+fn put(rt: &impl Abort, circuit: &mut Circuit, out: &mut Matrix, places: [u16; 3], input: u32) {
+    assert!(rt; input < circuit.inputs() && !circuit.is_full());
+    let node = circuit.input(input).expect(rt, "memory");
+    let tuple = tuple(out.arity(), places);
+    assert!(rt; tuple.atoms().len() == out.arity() as usize && !out.has(&tuple));
+    out.put(tuple, node).expect(rt, "memory");
+}
+
+// A matrix of these tuples, whose nodes are inputs from `first` on.
+fn matrix(
+    rt: &impl Abort,
+    alloc: Global,
+    circuit: &mut Circuit,
+    arity: u8,
+    rows: &[[u16; 3]],
+    first: u32,
+) -> Matrix {
+    assert!(rt; 1 <= arity && arity <= 3 && first < 1000);
+    let mut out = Matrix::new(alloc, arity);
+    let mut input = first;
+    for row in rows {
+        put(rt, circuit, &mut out, *row, input);
+        input = input.saturating_add(1);
+    }
+    out
+}
+
+// The value of a node at these inputs.
+fn value(rt: &impl Abort, alloc: Global, circuit: &Circuit, node: Node, inputs: &[bool]) -> bool {
+    assert!(rt; node.place() < circuit.len());
+    assert!(rt; inputs.len() == circuit.inputs() as usize);
+    circuit.eval(alloc, node, inputs).expect(rt, "memory")
+}
+
+// Adds a tuple.
+fn insert(rt: &impl Abort, out: &mut TupleSet, tuple: &Tuple) {
+    assert!(rt; tuple.atoms().len() == out.arity() as usize);
+    out.insert(tuple.copy()).expect(rt, "memory");
+}
+
+// The tuples whose nodes are true at these inputs.
+fn true_tuples(
+    rt: &impl Abort,
+    alloc: Global,
+    circuit: &Circuit,
+    matrix: &Matrix,
+    inputs: &[bool],
+) -> TupleSet {
+    let mut out = TupleSet::new(alloc, matrix.arity());
+    for entry in matrix.entries() {
+        if value(rt, alloc, circuit, entry.node, inputs) {
+            insert(rt, &mut out, &entry.tuple);
+        }
+    }
+    out
+}
+
+// What the operator makes of two matrices.
+fn of_matrices(
+    rt: &impl Abort,
+    alloc: Global,
+    circuit: &mut Circuit,
+    operator: Operator,
+    a: &Matrix,
+    b: &Matrix,
+) -> Result<Matrix, NoMemory> {
+    let (m, n) = (a.arity(), b.arity());
+    assert!(rt; are_small(circuit, a, b));
+    match operator {
+        Operator::Union => {
+            assert!(rt; m == n);
+            a.union(alloc, circuit, b)
+        }
+        Operator::Minus => {
+            assert!(rt; m == n);
+            a.minus(alloc, circuit, b)
+        }
+        Operator::Meet => {
+            assert!(rt; m == n);
+            a.meet(alloc, circuit, b)
+        }
+        Operator::Product => {
+            assert!(rt; m + n <= 3);
+            a.product(alloc, circuit, b)
+        }
+        Operator::Join => {
+            assert!(rt; 3 <= m + n && m + n <= 5);
+            a.join(alloc, circuit, b)
+        }
+        Operator::Over => {
+            assert!(rt; m == 2 && n == 2);
+            a.over(alloc, circuit, b)
+        }
+        Operator::Dom => {
+            assert!(rt; n == 1);
+            a.dom(alloc, circuit, b)
+        }
+        Operator::Ran => {
+            assert!(rt; n == 1);
+            a.ran(alloc, circuit, b)
+        }
+    }
+}
+
+// What the operator makes of two sets.
+fn of_sets(
+    rt: &impl Abort,
+    alloc: Global,
+    operator: Operator,
+    a: &TupleSet,
+    b: &TupleSet,
+) -> Result<TupleSet, NoMemory> {
+    let (m, n) = (a.arity(), b.arity());
+    match operator {
+        Operator::Union => {
+            assert!(rt; m == n);
+            a.union(alloc, b)
+        }
+        Operator::Minus => {
+            assert!(rt; m == n);
+            a.minus(alloc, b)
+        }
+        Operator::Meet => {
+            assert!(rt; m == n);
+            a.meet(alloc, b)
+        }
+        Operator::Product => {
+            assert!(rt; m + n <= 3);
+            a.product(alloc, b)
+        }
+        Operator::Join => {
+            assert!(rt; 3 <= m + n && m + n <= 5);
+            a.join(alloc, b)
+        }
+        Operator::Over => {
+            assert!(rt; m == 2 && n == 2);
+            a.over(alloc, b)
+        }
+        Operator::Dom => {
+            assert!(rt; n == 1);
+            a.dom(alloc, b)
+        }
+        Operator::Ran => {
+            assert!(rt; n == 1);
+            a.ran(alloc, b)
+        }
+    }
+}
+
+// The inputs that the bits of a number say.
+fn inputs_of(rt: &impl Abort, alloc: Global, bits: u32, count: usize) -> Vec<bool> {
+    let mut inputs = Vec::new(alloc);
+    let mut rest = bits;
+    for _ in 0..count {
+        inputs.push(rest % 2 == 1).expect(rt, "memory");
+        rest /= 2;
+    }
+    inputs
+}
+
+// That the operator makes of the two matrices what it makes of sets, at every value of the inputs.
+fn agrees(
+    rt: &impl Abort,
+    alloc: Global,
+    operator: Operator,
+    (m, lefts): (u8, &[[u16; 3]]),
+    (n, rights): (u8, &[[u16; 3]]),
+) {
+    assert!(rt; lefts.len() <= 4 && rights.len() <= 4);
+    let count = lefts.len() + rights.len();
+    let mut circuit = Circuit::new(alloc, count as u32);
+    let a = matrix(rt, alloc, &mut circuit, m, lefts, 0);
+    let b = matrix(rt, alloc, &mut circuit, n, rights, lefts.len() as u32);
+    let made = of_matrices(rt, alloc, &mut circuit, operator, &a, &b).expect(rt, "memory");
+    for bits in 0..1u32 << count {
+        let inputs = inputs_of(rt, alloc, bits, count);
+        agrees_at(rt, alloc, &circuit, operator, (&a, &b, &made), &inputs);
+    }
+}
+
+// That the result's true tuples are what the operator makes of the operands', at these inputs.
+fn agrees_at(
+    rt: &impl Abort,
+    alloc: Global,
+    circuit: &Circuit,
+    operator: Operator,
+    (a, b, made): (&Matrix, &Matrix, &Matrix),
+    inputs: &[bool],
+) {
+    let left = true_tuples(rt, alloc, circuit, a, inputs);
+    let right = true_tuples(rt, alloc, circuit, b, inputs);
+    let expected = of_sets(rt, alloc, operator, &left, &right).expect(rt, "memory");
+    let found = true_tuples(rt, alloc, circuit, made, inputs);
+    assert!(rt; found == expected);
+}
+
+// That the closure and the transposition of pairs are those of sets, at every value of the inputs.
+fn closure_agrees(rt: &impl Abort, alloc: Global, rows: &[[u16; 3]]) {
+    assert!(rt; rows.len() <= 8);
+    let mut circuit = Circuit::new(alloc, rows.len() as u32);
+    let a = matrix(rt, alloc, &mut circuit, 2, rows, 0);
+    assert!(rt; a.arity() == 2 && may_close(&circuit, &a));
+    let closed = a.closure(alloc, &mut circuit).expect(rt, "memory");
+    let turned = a.transpose(alloc).expect(rt, "memory");
+    for bits in 0..1u32 << rows.len() {
+        let inputs = inputs_of(rt, alloc, bits, rows.len());
+        closure_agrees_at(rt, alloc, &circuit, (&a, &closed, &turned), &inputs);
+    }
+}
+
+// That they are those of sets at these inputs.
+fn closure_agrees_at(
+    rt: &impl Abort,
+    alloc: Global,
+    circuit: &Circuit,
+    (a, closed, turned): (&Matrix, &Matrix, &Matrix),
+    inputs: &[bool],
+) {
+    let set = true_tuples(rt, alloc, circuit, a, inputs);
+    assert!(rt; set.arity() == 2);
+    let closure = set.closure(alloc).expect(rt, "memory");
+    assert!(rt; true_tuples(rt, alloc, circuit, closed, inputs) == closure);
+    let transposed = set.transpose(alloc).expect(rt, "memory");
+    assert!(rt; true_tuples(rt, alloc, circuit, turned, inputs) == transposed);
+}
+
+// Whether the first matrix of pairs is a part of the second, or equal to it.
+fn compared(rt: &impl Abort, circuit: &mut Circuit, a: &Matrix, b: &Matrix, equal: bool) -> Node {
+    assert!(rt; a.arity() == b.arity() && are_small(circuit, a, b));
+    if equal {
+        a.equal(circuit, b).expect(rt, "memory")
+    } else {
+        a.subset(circuit, b).expect(rt, "memory")
+    }
+}
+
+// That the nodes for subset and equality have the truth of these facts of sets, at every value of the inputs.
+fn comparison_agrees(rt: &impl Abort, alloc: Global, lefts: &[[u16; 3]], rights: &[[u16; 3]]) {
+    assert!(rt; lefts.len() <= 4 && rights.len() <= 4);
+    let count = lefts.len() + rights.len();
+    let mut circuit = Circuit::new(alloc, count as u32);
+    let a = matrix(rt, alloc, &mut circuit, 2, lefts, 0);
+    let b = matrix(rt, alloc, &mut circuit, 2, rights, lefts.len() as u32);
+    let within = compared(rt, &mut circuit, &a, &b, false);
+    let equal = compared(rt, &mut circuit, &a, &b, true);
+    for bits in 0..1u32 << count {
+        let inputs = inputs_of(rt, alloc, bits, count);
+        comparison_agrees_at(rt, alloc, &circuit, (&a, &b), (within, equal), &inputs);
+    }
+}
+
+// That they have it at these inputs.
+fn comparison_agrees_at(
+    rt: &impl Abort,
+    alloc: Global,
+    circuit: &Circuit,
+    (a, b): (&Matrix, &Matrix),
+    (within, equal): (Node, Node),
+    inputs: &[bool],
+) {
+    let left = true_tuples(rt, alloc, circuit, a, inputs);
+    let right = true_tuples(rt, alloc, circuit, b, inputs);
+    assert!(rt; value(rt, alloc, circuit, within, inputs) == left.is_subset(&right));
+    assert!(rt; value(rt, alloc, circuit, equal, inputs) == (left == right));
+}
+
+// That the counter has the truth of the count, for numbers up to one above the length.
+fn count_agrees(rt: &impl Abort, alloc: Global, rows: &[[u16; 3]]) {
+    assert!(rt; rows.len() <= 4);
+    for n in 0..rows.len() as u32 + 2 {
+        count_agrees_for(rt, alloc, rows, n);
+    }
+}
+
+// That it has for this number, at every value of the inputs.
+fn count_agrees_for(rt: &impl Abort, alloc: Global, rows: &[[u16; 3]], n: u32) {
+    assert!(rt; rows.len() <= 4);
+    let mut circuit = Circuit::new(alloc, rows.len() as u32);
+    let a = matrix(rt, alloc, &mut circuit, 3, rows, 0);
+    assert!(rt; may_count(&circuit, &a, n));
+    let node = a.at_least(alloc, &mut circuit, n).expect(rt, "memory");
+    for bits in 0..1u32 << rows.len() {
+        let inputs = inputs_of(rt, alloc, bits, rows.len());
+        let set = true_tuples(rt, alloc, &circuit, &a, &inputs);
+        assert!(rt; value(rt, alloc, &circuit, node, &inputs) == (set.len() >= n as usize));
+    }
+}
+
+// Places for tuples of any arity.
+const A: [[u16; 3]; 3] = [[2, 0, 1], [0, 1, 2], [1, 2, 0]];
+
+const B: [[u16; 3]; 3] = [[1, 0, 0], [0, 1, 2], [3, 3, 3]];
+
+const C: [[u16; 3]; 4] = [[1, 2, 2], [1, 0, 3], [0, 1, 1], [2, 1, 0]];
+
+const CYCLE: [[u16; 3]; 6] = [
+    [0, 1, 0],
+    [1, 2, 0],
+    [2, 3, 0],
+    [3, 4, 0],
+    [4, 0, 0],
+    [2, 2, 0],
+];
+
+const PATH: [[u16; 3]; 4] = [[3, 2, 0], [2, 1, 0], [1, 0, 0], [0, 4, 0]];
+
+const ONE: [[u16; 3]; 1] = [[1, 1, 1]];
+
+const NONE: [[u16; 3]; 0] = [];
+
+#[test]
+fn union_minus_and_meet_are_those_of_sets(rt: HostRuntime) {
+    for operator in [Operator::Union, Operator::Minus, Operator::Meet] {
+        for arity in 1..4u8 {
+            agrees(&rt, rt.alloc(), operator, (arity, &A), (arity, &B));
+            agrees(&rt, rt.alloc(), operator, (arity, &NONE), (arity, &A));
+            agrees(&rt, rt.alloc(), operator, (arity, &A), (arity, &NONE));
+        }
+    }
+}
+
+#[test]
+fn products_are_those_of_sets(rt: HostRuntime) {
+    for (m, n) in [(1, 1), (1, 2), (2, 1)] {
+        agrees(&rt, rt.alloc(), Operator::Product, (m, &A), (n, &B));
+        agrees(&rt, rt.alloc(), Operator::Product, (m, &NONE), (n, &B));
+    }
+}
+
+#[test]
+fn joins_are_those_of_sets(rt: HostRuntime) {
+    for (m, n) in [(1, 2), (2, 1), (1, 3), (3, 1), (2, 2), (2, 3), (3, 2)] {
+        agrees(&rt, rt.alloc(), Operator::Join, (m, &A), (n, &B));
+        agrees(&rt, rt.alloc(), Operator::Join, (m, &B), (n, &A));
+        agrees(&rt, rt.alloc(), Operator::Join, (m, &A), (n, &NONE));
+    }
+    agrees(&rt, rt.alloc(), Operator::Join, (2, &C), (2, &C));
+}
+
+#[test]
+fn overrides_are_those_of_sets(rt: HostRuntime) {
+    agrees(&rt, rt.alloc(), Operator::Over, (2, &A), (2, &B));
+    agrees(&rt, rt.alloc(), Operator::Over, (2, &C), (2, &A));
+    agrees(&rt, rt.alloc(), Operator::Over, (2, &C), (2, &NONE));
+    agrees(&rt, rt.alloc(), Operator::Over, (2, &NONE), (2, &C));
+}
+
+#[test]
+fn restrictions_are_those_of_sets(rt: HostRuntime) {
+    for arity in 1..4u8 {
+        agrees(&rt, rt.alloc(), Operator::Dom, (arity, &A), (1, &B));
+        agrees(&rt, rt.alloc(), Operator::Ran, (arity, &B), (1, &A));
+        agrees(&rt, rt.alloc(), Operator::Ran, (arity, &A), (1, &ONE));
+    }
+}
+
+#[test]
+fn closure_and_transposition_are_those_of_sets(rt: HostRuntime) {
+    closure_agrees(&rt, rt.alloc(), &CYCLE);
+    closure_agrees(&rt, rt.alloc(), &PATH);
+    closure_agrees(&rt, rt.alloc(), &ONE);
+    closure_agrees(&rt, rt.alloc(), &NONE);
+}
+
+#[test]
+fn subset_and_equality_are_those_of_sets(rt: HostRuntime) {
+    comparison_agrees(&rt, rt.alloc(), &A, &B);
+    comparison_agrees(&rt, rt.alloc(), &B, &A);
+    comparison_agrees(&rt, rt.alloc(), &NONE, &B);
+    comparison_agrees(&rt, rt.alloc(), &A, &NONE);
+    comparison_agrees(&rt, rt.alloc(), &ONE, &ONE);
+}
+
+#[test]
+fn counts_are_those_of_sets(rt: HostRuntime) {
+    count_agrees(&rt, rt.alloc(), &C);
+    count_agrees(&rt, rt.alloc(), &ONE);
+    count_agrees(&rt, rt.alloc(), &NONE);
+}
+
+// The node for a tuple of the first three pairs, or of none.
+fn cell(rt: &impl Abort, circuit: &mut Circuit, a: &Matrix, places: [u16; 3]) -> Node {
+    assert!(rt; a.is_of(circuit) && !circuit.is_full());
+    a.cell(circuit, &tuple(2, places)).expect(rt, "memory")
+}
+
+#[test]
+fn a_tuple_that_is_not_there_is_false(rt: HostRuntime) {
+    let mut circuit = Circuit::new(rt.alloc(), 3);
+    let a = matrix(&rt, rt.alloc(), &mut circuit, 2, &A, 0);
+    let there = cell(&rt, &mut circuit, &a, A[0]);
+    let absent = cell(&rt, &mut circuit, &a, [2, 2, 0]);
+    assert!(rt; value(&rt, rt.alloc(), &circuit, there, &[true, false, false]));
+    assert!(rt; !value(&rt, rt.alloc(), &circuit, absent, &[true, true, true]));
+}
+
+#[test]
+fn tuples_that_are_there_have_nodes(rt: HostRuntime) {
+    let mut circuit = Circuit::new(rt.alloc(), 3);
+    let a = matrix(&rt, rt.alloc(), &mut circuit, 2, &A, 0);
+    assert!(rt; a.node(&tuple(2, A[1])).is_some());
+    assert!(rt; a.node(&tuple(2, [2, 2, 0])).is_none());
+    let copy = a.copy(rt.alloc()).expect(&rt, "memory");
+    assert_eq!(rt; copy.entries().len(), 3);
+}
+
+// A matrix of 900 atoms from this place on, all with the first input's node.
+fn atoms_from(rt: &impl Abort, alloc: Global, circuit: &mut Circuit, first: u16) -> Matrix {
+    let mut out = Matrix::new(alloc, 1);
+    for place in 0..900u16 {
+        put(
+            rt,
+            circuit,
+            &mut out,
+            [place.saturating_add(first), 0, 0],
+            0,
+        );
+    }
+    out
+}
+
+#[test]
+fn a_union_in_the_other_order_is_quick(rt: HostRuntime) {
+    let mut circuit = Circuit::new(rt.alloc(), 1);
+    let low = atoms_from(&rt, rt.alloc(), &mut circuit, 0);
+    let high = atoms_from(&rt, rt.alloc(), &mut circuit, 1000);
+    let all = of_matrices(&rt, rt.alloc(), &mut circuit, Operator::Union, &high, &low);
+    let all = all.expect(&rt, "memory");
+    assert_eq!(rt; all.entries().len(), 1800);
+    assert_eq!(rt; circuit.len(), 1);
+}

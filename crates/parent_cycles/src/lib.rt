@@ -1,0 +1,8 @@
+//! Signatures that are their own parents over one or more steps.
+#![tactic(auto)]
+
+mod cycles;
+mod graph;
+
+pub use crate::cycles::first_cycle;
+pub use std::alloc::AllocError as NoMemory;

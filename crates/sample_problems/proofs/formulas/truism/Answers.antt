@@ -1,0 +1,7 @@
+use Rattle.std.proofs.Common.{sym, subst}
+use Rattle.rel_formula.specs.Shape.{IsProper}
+use Rattle.rel_formula.proofs.Parts.{are_proper}
+use Rattle.sample_problems.proofs.formulas.truism.Goals as goal
+
+pub returns : goal.returns
+returns c ns = subst (IsProper ns 0) (sym c.all_of.ensures) ((are_proper ns 0 c.no_formulas.result.items).1 (c.no_formulas.ensures ns))

@@ -1,9 +1,0 @@
-use Rattle.std.proofs.Common.{◌≤◌, length}
-use Rattle.session_search.specs.Fits.{FitsProblem}
-use Rattle.session_search.proofs.tests.answers.Given as goal
-
-abbrev pub invariant-loop-ask : goal.invariant-loop-ask
-invariant-loop-ask g l = record {
-  fits : FitsProblem l.made.problem l.session.kept;
-  few : length l.session.kept.state.shown ≤ l.ask-index;
-}

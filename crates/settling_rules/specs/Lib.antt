@@ -1,0 +1,5 @@
+pub mod Inside
+pub mod Same
+pub mod Single
+pub mod Told
+pub mod Laws

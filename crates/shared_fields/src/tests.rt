@@ -1,0 +1,73 @@
+// Which field is chosen where memory is ample.
+use crate::fields::Fields;
+use crate::tops::{ends_of, tops_behind};
+use alloy_lex::Place;
+use alloy_syntax::tree::Operator;
+use bounding_types::BoundingType;
+use model_types::TypeFault;
+use std::alloc::{AllocError, Global};
+use std::test::Fail;
+
+// Two fields of one name, of the top-level signatures 0 and 1, and another one between them.
+fn fields(alloc: Global) -> Result<Fields, AllocError> {
+    let mut fields = Fields::new(alloc);
+    for (name, top) in [("f", 0), ("g", 0), ("f", 1)] {
+        fields.push(alloc, name, top, 2)?;
+    }
+    Ok(fields)
+}
+
+// A type of one list.
+fn of(alloc: Global, list: &[usize]) -> Result<BoundingType, AllocError> {
+    let mut lists = BoundingType::new(alloc);
+    lists.put(Vec::from_slice(alloc, list)?)?;
+    Ok(lists)
+}
+
+fn place() -> Place {
+    Place { line: 1, column: 1 }
+}
+
+fn ambiguous() -> Result<usize, TypeFault> {
+    Err(TypeFault::Ambiguous { place: place() })
+}
+
+// Which field is chosen that belongs to the end of a list.
+fn at_the_end(alloc: Global, list: &[usize]) -> Result<Result<usize, TypeFault>, AllocError> {
+    let tops = ends_of(alloc, &of(alloc, list)?)?;
+    Ok(fields(alloc)?.chosen(&tops, place(), 0))
+}
+
+// Which field is chosen behind an operator.
+fn behind(
+    alloc: Global,
+    operator: Operator,
+    list: &[usize],
+) -> Result<Result<usize, TypeFault>, AllocError> {
+    let tops = tops_behind(alloc, operator, &of(alloc, list)?)?;
+    Ok(fields(alloc)?.chosen(&tops, place(), 2))
+}
+
+#[test]
+fn the_last_signature_tells_the_field(rt: HostRuntime) -> Result<(), Fail> {
+    assert_eq!(rt; at_the_end(rt.alloc(), &[0, 1])?, Ok(2));
+    assert_eq!(rt; at_the_end(rt.alloc(), &[1, 0])?, Ok(0));
+    assert_eq!(rt; at_the_end(rt.alloc(), &[2])?, ambiguous());
+    Ok(())
+}
+
+#[test]
+fn a_single_signature_tells_the_field_behind_a_restriction(rt: HostRuntime) -> Result<(), Fail> {
+    assert_eq!(rt; behind(rt.alloc(), Operator::Domain, &[1])?, Ok(2));
+    assert_eq!(rt; behind(rt.alloc(), Operator::Domain, &[0, 1])?, ambiguous());
+    assert_eq!(rt; behind(rt.alloc(), Operator::Range, &[1])?, ambiguous());
+    Ok(())
+}
+
+#[test]
+fn fields_have_arities(rt: HostRuntime) -> Result<(), Fail> {
+    let fields = fields(rt.alloc())?;
+    assert_eq!(rt; fields.arity(1), Some(2));
+    assert_eq!(rt; fields.arity(3), None);
+    Ok(())
+}
