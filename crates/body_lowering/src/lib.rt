@@ -1,0 +1,14 @@
+//! Bodies of a model lowered to the kernel: each part with its names, variables, calls and values as kernel expressions and
+//! formulas.
+#![tactic(auto)]
+
+pub mod bodies;
+mod charges;
+mod locals;
+mod names;
+pub mod parts;
+mod quantifiers;
+mod room;
+
+pub use crate::locals::Local;
+pub use crate::room::{Depth, Room};

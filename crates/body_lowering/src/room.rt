@@ -1,0 +1,42 @@
+// What may still be built.
+ghost use Rattle.std.specs.Prelude.{◌≡◌, ◌+◌, IfOk, OnOk, OnErr};
+
+use std::alloc::AllocError;
+
+/// How many kernel nodes may still be built.
+#[derive(Clone, Copy)]
+pub struct Room {
+    pub nodes: u32,
+}
+
+impl Room {
+    /// As much as the formula of a problem has: 4,194,304 nodes.
+    pub fn new() -> Room
+        ensures { result.nodes ≡ 4194304 }
+    {
+        Room { nodes: 4_194_304 }
+    }
+
+    /// Takes so many nodes, before they are built. Where fewer are left, it is answered as want of memory.
+    pub fn take(&mut self, nodes: u32) -> Result<(), AllocError>
+        ensures ok { OnOk result (self.new.nodes + nodes ≡ self.old.nodes) }
+        ensures err { OnErr result (self.new.nodes ≡ self.old.nodes) }
+    {
+        match self.nodes.checked_sub(nodes) {
+            Some(left) => {
+                self.nodes = left;
+                Ok(())
+            }
+            None => Err(AllocError),
+        }
+    }
+}
+
+/// Where a part stands: under so many binders, with calls that may be so deep, and so many levels of kernel nodes below it,
+/// where a part inside of another one counts as eight. Where levels are wanting, it is answered as want of memory.
+#[derive(Clone, Copy)]
+pub struct Depth {
+    pub binders: u32,
+    pub calls: usize,
+    pub levels: u32,
+}

@@ -1,0 +1,3 @@
+pub mod Anywhere
+pub mod Runs
+pub mod Commands

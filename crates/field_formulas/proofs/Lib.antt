@@ -1,0 +1,2 @@
+mod FieldByField
+mod Linking

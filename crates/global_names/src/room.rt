@@ -1,0 +1,31 @@
+// How many fields a model may have.
+use alloy_syntax::tree::{Field, Paragraph};
+
+// The fields of n signatures with m names in one paragraph are n * m, so a short text can have very many.
+const MOST_FIELDS: usize = 1_048_576;
+
+// Whether the fields of all paragraphs are not too many to be put into tables.
+pub fn has_room(paragraphs: &[Paragraph]) -> bool {
+    let mut total: usize = 0;
+    for paragraph in paragraphs {
+        total = total.saturating_add(count(paragraph));
+    }
+    total <= MOST_FIELDS
+}
+
+fn count(paragraph: &Paragraph) -> usize {
+    match paragraph {
+        Paragraph::Signatures(signatures) => {
+            names_in(&signatures.fields).saturating_mul(signatures.names.len())
+        }
+        _ => 0,
+    }
+}
+
+fn names_in(fields: &[Field]) -> usize {
+    let mut total: usize = 0;
+    for field in fields {
+        total = total.saturating_add(field.names.len());
+    }
+    total
+}

@@ -1,0 +1,8 @@
+pub mod Taking
+pub mod Numbers
+pub mod Parents
+pub mod Tables
+pub mod Coding
+pub mod Loops
+pub mod Repeating
+pub mod Marking

@@ -1,0 +1,6 @@
+pub mod Lists
+pub mod Operands
+pub mod Entered
+pub mod Heads
+pub mod Arms
+pub mod Wholes

@@ -1,0 +1,3 @@
+pub mod Zipped
+pub mod Standing
+pub mod Insides

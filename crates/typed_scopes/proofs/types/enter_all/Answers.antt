@@ -1,0 +1,28 @@
+use Rattle.std.proofs.Common.{◌≡◌, ◌+◌, List, [], ◌∷◌, refl, sym, ap, subst, ◌∙◌}
+use Rattle.named_model.specs.View.{phrase_view}
+use Rattle.model_types.specs.Typing.{Local, type_in, onto}
+use Rattle.settling_rules.specs.Inside.{AreAlikeWhere}
+use Rattle.settling_rules.proofs.Asked.{alike_refl}
+use Rattle.typed_scopes.specs.Declaring.{declared_by}
+use Rattle.typed_scopes.specs.Zipped.{IsInside}
+use Rattle.typed_scopes.proofs.Insides.{inside_more, alike_more}
+use Rattle.typed_scopes.proofs.types.enter_all.Goals as goal
+
+pub loop-init : goal.loop-init
+loop-init c = record {
+  alike = subst (λ (ls : List Local). AreAlikeWhere c.args.asked ls c.args.scope.now.locals) (sym c.type_where.ensures.locals) (alike_refl c.args.asked c.args.scope.now.locals);
+  inside = ([], c.type_where.ensures.locals);
+}
+
+pub loop-preserved : goal.loop-preserved
+loop-preserved c =
+    let outer = c.args.scope.now.locals in
+    let l : Local = record { arity = c.args.arity; type = c.in_ok-copy.copy } in
+    let m : Local = record { arity = c.args.arity; type = type_in (declared_by c.args.setting.now) outer (phrase_view c.args.phrase.now) } in
+    let entered : c.enter.new.self ≡ l ∷ c.loop.scope.locals = c.in_ok-enter.ensures.ok ∙ ap (λ (ls : List Local). l ∷ ls) c.in_ok-copy.ensures.locals in
+    record {
+      alike =
+          subst (λ (ls : List Local). AreAlikeWhere c.args.asked ls (onto (c.loop.counter + 1) m outer)) (sym entered)
+          (alike_more c.args.asked c.loop.counter l m c.loop.scope.locals outer refl (λ a t. c.in_ok-copy.ensures.value t ∙ c.in_ok-of.ensures.value a t) c.loop.invariant.alike);
+      inside = subst (λ (ls : List Local). IsInside ls outer) (sym entered) (inside_more l c.loop.scope.locals outer c.loop.invariant.inside);
+    }

@@ -1,0 +1,3 @@
+pub mod Zipped
+pub mod Declaring
+pub mod Given
