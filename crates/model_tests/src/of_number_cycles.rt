@@ -1,5 +1,5 @@
 // Cycles of numbers, where memory is ample.
-use number_cycles::first_cyclic;
+use number_cycles::{first_cyclic, order_of};
 use std::alloc::{AllocError, Global};
 use std::test::Fail;
 
@@ -67,5 +67,22 @@ fn a_chain_of_30_000_before_a_cycle_is_walked_at_once(rt: HostRuntime) -> Result
     last.push(29_999)?;
     rows.push(last)?;
     assert_eq!(rt; first_cyclic(alloc, &rows)?, Some(29_999));
+    Ok(())
+}
+
+#[test]
+fn a_row_stands_before_its_number(rt: HostRuntime) -> Result<(), Fail> {
+    let alloc = rt.alloc();
+    let steps = [(0, 3), (3, 1), (2, 4), (1, 4)];
+    let order = order_of(alloc, &rows_of(alloc, &steps)?)?;
+    assert_eq!(rt; order.as_slice(), [4, 1, 3, 0, 2].as_slice());
+    Ok(())
+}
+
+#[test]
+fn there_is_no_order_round_a_cycle(rt: HostRuntime) -> Result<(), Fail> {
+    let alloc = rt.alloc();
+    assert!(rt; order_of(alloc, &rows_of(alloc, &[(0, 3), (3, 0)])?).is_err());
+    assert!(rt; order_of(alloc, &rows_of(alloc, &[(0, 7)])?).is_err());
     Ok(())
 }

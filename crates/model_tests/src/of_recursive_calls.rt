@@ -3,7 +3,7 @@ use alloy_lex::Place;
 use named_model::NameFault;
 use named_model::named::{Callee, Meaning};
 use named_model::phrase::Phrase;
-use recursive_calls::first_recursive;
+use recursive_calls::{first_recursive, rows};
 use std::alloc::{AllocError, Global};
 use std::test::Fail;
 
@@ -56,5 +56,20 @@ fn a_chain_is_no_cycle(rt: HostRuntime) -> Result<(), Fail> {
     let alloc = rt.alloc();
     assert_eq!(rt; told(alloc, &[1, 2, 3])?, 99);
     assert_eq!(rt; told(alloc, &[])?, 99);
+    Ok(())
+}
+
+fn row_of(rows: &[Vec<usize>], number: usize) -> &[usize] {
+    match rows.get(number) {
+        Some(row) => row.as_slice(),
+        None => &[],
+    }
+}
+
+#[test]
+fn each_call_stands_in_its_row(rt: HostRuntime) -> Result<(), Fail> {
+    let rows = rows(rt.alloc(), &callees(rt.alloc(), &[1, 0])?)?;
+    assert_eq!(rt; row_of(&rows, 0), [1].as_slice());
+    assert_eq!(rt; row_of(&rows, 1), [0].as_slice());
     Ok(())
 }

@@ -91,7 +91,7 @@ struct Tour {
 }
 
 // The numbers in the order in which a walk in depth leaves them.
-fn order(alloc: Global, rows: &[Vec<usize>]) -> Result<Vec<usize>, AllocError> {
+pub fn order(alloc: Global, rows: &[Vec<usize>]) -> Result<Vec<usize>, AllocError> {
     let mut tour = Tour {
         way: Vec::new(alloc),
         met: vec![in alloc; false; rows.len()]?,

@@ -1,11 +1,13 @@
-//! Numbers that lead back to themselves, where each number leads to those of its row: predicates that call themselves,
-//! signatures that are their own parents.
+//! Numbers that lead back to themselves, where each number leads to those of its row (predicates that call themselves,
+//! signatures that are their own parents), and orders in which the row of each number stands before it.
 #![tactic(auto)]
 
 mod components;
 mod first;
 mod heights;
+mod ordered;
 mod walk;
 
 pub use crate::first::first_cyclic;
+pub use crate::ordered::order_of;
 pub use std::alloc::AllocError as NoMemory;

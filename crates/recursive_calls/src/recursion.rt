@@ -36,8 +36,8 @@ fn fault_of(callees: &[Callee], number: usize) -> Option<NameFault>
     }
 }
 
-// The numbers that each callee calls.
-fn rows(alloc: Global, callees: &[Callee]) -> Result<Vec<Vec<usize>>, AllocError>
+/// The numbers that each predicate and function calls, wherever in its paragraph, in the order of the text.
+pub fn rows(alloc: Global, callees: &[Callee]) -> Result<Vec<Vec<usize>>, AllocError>
     ensures { IfOk result (λ rows. rows_of rows.items ≡ map callees_of (map callee_view callees.now)) }
 {
     let mut rows = Vec::new(alloc);

@@ -1,5 +1,5 @@
 -- The small models have types: each is what a tree without faults says.
-use Rattle.std.proofs.Common.{◌≡◌, sym, subst, ◌∙◌, ℕ, List, [], ◌∷◌, Bool, false, true, Option, Some, None, option_map, refl, codes}
+use Rattle.std.proofs.Common.{◌≡◌, sym, subst, ◌∙◌, ℕ, List, [], ◌∷◌, Bool, false, true, Option, Some, None, option_map, map, refl, codes}
 use Rattle.alloy_syntax.specs.declared.tree.Name.{Name}
 use Rattle.alloy_syntax.specs.declared.tree.Manner.{Manner}
 use Rattle.alloy_syntax.specs.declared.tree.Multiplicity.{Multiplicity}
@@ -173,3 +173,11 @@ with_function = model (
 
 pub function_typed : IsTyped small.with_function
 function_typed = record { tree = with_function; names = refl; types = refl; settled = refl }
+
+-- ---- many signatures
+
+abbrev with_many : ModelTree
+with_many = model (tree.signatures false None (map (λ s. name s.name) (small.lettered 129)) None [] ∷ run (scope (Some 0) None) ∷ [])
+
+pub many_typed : IsTyped small.with_many
+many_typed = record { tree = with_many; names = refl; types = refl; settled = refl }

@@ -1,5 +1,5 @@
 -- Parts of small models, all at one place.
-use Rattle.std.specs.Prelude.{ℕ, List, [], ◌∷◌, Bool, true, false, Option, Some, None, option_map, codes}
+use Rattle.std.specs.Prelude.{ℕ, zero, suc, List, [], ◌∷◌, ◌++◌, Bool, true, false, Option, Some, None, option_map, codes}
 use Rattle.alloy_lex.specs.declared.token.Place.{Place}
 use Rattle.alloy_syntax.specs.declared.tree.Number.{Number}
 use Rattle.alloy_syntax.specs.declared.tree.Manner.{Manner}
@@ -179,3 +179,18 @@ with_function = record {
   commands = leading;
   parts = part.Fields 0 1 ∷ part.Fields 1 1 ∷ part.Callee 0 ∷ part.Command 0 ∷ [];
 }
+
+-- ---- a model with many signatures
+
+-- so many letters
+abbrev pub letters : ℕ → List ℕ
+letters zero = []
+letters (suc n) = letters n ++ codes "A"
+
+-- so many signatures, each of which has a name longer by a letter
+abbrev pub lettered : ℕ → List Signature
+lettered zero = []
+lettered (suc n) = lettered n ++ signature (letters (suc n)) false None None ∷ []
+
+abbrev pub with_many : NamedTree
+with_many = record { signatures = lettered 129; fields = []; callees = []; facts = []; assertions = []; commands = run (scope (Some 0) None) ∷ []; parts = part.Fields 0 0 ∷ part.Command 0 ∷ [] }

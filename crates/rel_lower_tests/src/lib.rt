@@ -10,6 +10,8 @@ mod fields;
 #[cfg(test)]
 mod instances;
 #[cfg(test)]
+mod many;
+#[cfg(test)]
 mod of_calls;
 #[cfg(test)]
 mod of_commands;

@@ -1,10 +1,11 @@
 // That signatures mean what their words and sizes say: the instances of small models, counted.
 use crate::instances::instances;
+use crate::many;
 use crate::samples::{Sample, model};
 use alloy_syntax::tree::{Manner, Multiplicity};
 use lowering_rules::LowerFault;
 use named_model::NameFault;
-use rel_lower::lower_with;
+use rel_lower::{lower, lower_with};
 use std::alloc::Global;
 use std::test::Fail;
 
@@ -163,6 +164,17 @@ fn no_scope(rt: HostRuntime) -> Result<(), Fail> {
     assert_eq!(rt;
         counted(rt.alloc(), sample),
         Err(LowerFault::Scope(NameFault::NoScope))
+    );
+    Ok(())
+}
+
+// `sig A, AA, AAA, .. {}`, 129 of them without atoms
+#[test]
+fn too_many_relations(rt: HostRuntime) -> Result<(), Fail> {
+    let model = many::model(rt.alloc())?;
+    assert_eq!(rt;
+        lower(rt.alloc(), &model, 1).err(),
+        Some(LowerFault::TooManyRelations)
     );
     Ok(())
 }

@@ -106,7 +106,3 @@ module _ (asked : Bool) (d : Declared) (s : AreSameTypes (types_in d) (types_in 
 -- inside what is inside
 pub inside_then : (new middle now outer : List Local) → IsInside new middle → middle ≡ now → IsInside now outer → IsInside new outer
 inside_then new middle now outer a same b = (a.0 ++ b.0, a.1 ∙ ap (λ ls. a.0 ++ ls) (same ∙ b.1) ∙ sym (append_assoc a.0 b.0 outer))
-
--- the local names that are left are those outside
-pub outside_left : (new now ls : List Local) (depth : ℕ) → IsInside now ls → depth ≡ length ls → ((inner outer : List Local) → now ≡ inner ++ outer → length outer ≡ depth → new ≡ outer) → new ≡ ls
-outside_left new now ls depth inside is left = left inside.0 ls inside.1 (sym is)

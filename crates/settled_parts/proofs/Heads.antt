@@ -1,7 +1,6 @@
 -- Heads of paths, behind the first argument that they ask for; and parts that stand inside local names.
 use Rattle.std.proofs.Common.{◌≡◌, ℕ, Bool, true, false, ◌||◌, List, [], ◌∷◌, map, drop, Option, Some, None, Result, Ok, Err, refl, sym, ap, subst, ◌∙◌, if◌then◌else◌, Vec, Global}
 use Rattle.std.specs.List.{slice_get}
-use Rattle.std.specs.Option.{option_map}
 use Rattle.alloy_lex.specs.declared.token.Place.{Place}
 use Rattle.alloy_syntax.specs.declared.tree.Quantifier.{Quantifier}
 use Rattle.named_model.specs.Answers.{◌>>=◌}
@@ -20,13 +19,12 @@ use Rattle.shared_names.specs.Shared.{shared_in, shared_among, shared_in_domains
 use Rattle.part_sorts.specs.declared.kinds.Kind.{Kind}
 use Rattle.settling_rules.specs.Inside.{AreAlikeWhere}
 use Rattle.settling_rules.specs.Same.{AreSameTypes, Asks}
-use Rattle.settling_rules.specs.Single.{argument_first, argument_before, argument_asked, tops_of}
+use Rattle.settling_rules.specs.Single.{argument_before, argument_asked, tops_of}
 use Rattle.settling_rules.specs.Told.{IsTold}
 use Rattle.settling_rules.proofs.Alike.{settled_alike}
 use Rattle.settling_rules.proofs.Asked.{asks_right}
 use Rattle.settling_rules.proofs.Asking.{tops_alike}
 use Rattle.settling_rules.proofs.Reaching.{told_then}
-use Rattle.typed_scopes.specs.Given.{settled_view}
 use Rattle.settled_parts.specs.Given.{IsGivenFirst, IsGivenBefore}
 
 -- a part behind signatures that are alike
@@ -56,17 +54,9 @@ module _ (d : Declared) (ls : List Local) where
   path_apart tops x steps = head_apart (is_shared x) steps (behind_head x steps)
 
   module _ (tops : List ℕ) (x : PhraseTree) (steps : StepTrees) where
-    pub path_argument_fault : (e : TypeFault) → IsTold e (argument_asked d ls x steps) → IsTold e (settled d ls tops (path x steps))
-    path_argument_fault e told = told_then e (argument_asked d ls x steps) (λ o. behind_head x steps (tops_of d ls o)) (settled d ls tops (path x steps)) (path_apart tops x steps) told
-
     module _ (given : Option Settled) (asked : argument_asked d ls x steps ≡ Ok given) where
       path_given : settled d ls tops (path x steps) ≡ behind_head x steps (tops_of d ls given)
       path_given = path_apart tops x steps ∙ ap (λ r. r >>= λ o. behind_head x steps (tops_of d ls o)) asked
-
-      pub path_head_fault : (e : TypeFault) → IsTold e (settled d ls (tops_of d ls given) x) → IsTold e (settled d ls tops (path x steps))
-      path_head_fault e told =
-          told_then e (settled d ls (tops_of d ls given) x) (λ y. steps_settled d ls (first_place x) y.kind (type_in d ls y.tree) steps >>= λ zs. Ok (record { tree = path y.tree zs.0; kind = zs.1 }))
-          (settled d ls tops (path x steps)) path_given told
 
       module _ (y : Settled) (head : settled d ls (tops_of d ls given) x ≡ Ok y) where
         path_head : settled d ls tops (path x steps) ≡ (steps_settled d ls (first_place x) y.kind (type_in d ls y.tree) steps >>= λ zs. Ok (record { tree = path y.tree zs.0; kind = zs.1 }))
@@ -78,24 +68,6 @@ module _ (d : Declared) (ls : List Local) where
 
         pub path_is : (zs : StepTrees) (k : sorts.Kind) → steps_settled d ls (first_place x) y.kind (type_in d ls y.tree) steps ≡ Ok (zs, k) → settled d ls tops (path x steps) ≡ Ok (record { tree = path y.tree zs; kind = k })
         path_is zs k is = path_head ∙ ap (λ r. r >>= λ (zs : StepTrees × sorts.Kind). Ok (record { tree = path y.tree zs.0; kind = zs.1 })) is
-
-  -- ---- the argument that was asked for
-
-  given_by : (r : Result Settled TypeFault) (g : Settled) → (r >>= λ y. Ok (Some y)) ≡ Ok (Some g) → r ≡ Ok g
-  given_by (Ok y) g e = let same : y ≡ g = cc in ap Ok same
-  given_by (Err f) g e = absurd cc
-
-  given_among : (g : Settled) (xs : PhraseTrees) (x : PhraseTree) (rest : PhraseTrees) → xs ≡ more_phrases x rest → argument_first d ls xs ≡ Ok (Some g) → settled d ls [] x ≡ Ok g
-  given_among g xs x rest is e = given_by (settled d ls [] x) g (subst (λ (ys : PhraseTrees). argument_first d ls ys ≡ Ok (Some g)) is e)
-
-  given_at : (b : Bool) (g : Settled) (steps : StepTrees) (p : Place) (xs : PhraseTrees) (rest : StepTrees) → steps ≡ brackets_first p xs rest
-      → (if b then argument_before d ls steps else Ok None) ≡ Ok (Some g) → argument_first d ls xs ≡ Ok (Some g)
-  given_at true g steps p xs rest is e = subst (λ (ss : StepTrees). argument_before d ls ss ≡ Ok (Some g)) is e
-  given_at false g steps p xs rest is e = absurd cc
-
-  pub given_before : (given : Option (Phrase × Kind)) (x : PhraseTree) (steps : StepTrees) → argument_asked d ls x steps ≡ Ok (option_map settled_view given) → IsGivenBefore d ls given steps
-  given_before None x steps e = λ p xs rest is y more are. tt
-  given_before (Some g) x steps e = λ p xs rest is y more are. given_among (settled_view g) xs y more are (given_at (is_shared x) (settled_view g) steps p xs rest is e)
 
   -- ---- inside local names
 
@@ -129,16 +101,6 @@ module _ (d : Declared) (ls : List Local) where
 
       pub let_is : (y : PhraseTree) → formula_from x (settled d new [] x) ≡ Ok y → settled d ls tops (bound_by_let p xs x) ≡ Ok (record { tree = bound_by_let p ys y; kind = formula })
       let_is y is = let_inside ∙ ap (λ r. r >>= λ y. Ok (record { tree = bound_by_let p ys y; kind = formula })) is
-
-  pub domains_told : (tops : List ℕ) (q : Quantifier) (p : Place) (ds : DomainTrees) (x : PhraseTree) (e : TypeFault) → IsTold e (domains_settled true d ls ds) → IsTold e (settled d ls tops (quantified q p ds x))
-  domains_told tops q p ds x e told =
-      told_then e (domains_settled true d ls ds) (λ (es : DomainTrees × List Local). formula_from x (settled d es.1 [] x) >>= λ y. Ok (record { tree = quantified q p es.0 y; kind = formula }))
-      (settled d ls tops (quantified q p ds x)) refl told
-
-  pub values_told : (tops : List ℕ) (p : Place) (xs : PhraseTrees) (x : PhraseTree) (e : TypeFault) → IsTold e (values_settled d ls xs) → IsTold e (settled d ls tops (bound_by_let p xs x))
-  values_told tops p xs x e told =
-      told_then e (values_settled d ls xs) (λ (ys : PhraseTrees × List Local). formula_from x (settled d ys.1 [] x) >>= λ y. Ok (record { tree = bound_by_let p ys.0 y; kind = formula }))
-      (settled d ls tops (bound_by_let p xs x)) refl told
 
 -- ---- the first step
 

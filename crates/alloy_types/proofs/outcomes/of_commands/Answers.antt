@@ -1,0 +1,20 @@
+use Rattle.std.proofs.Common.{map}
+use Rattle.named_model.specs.Model.{CommandTree}
+use Rattle.named_model.specs.View.{target_view, command_view}
+use Rattle.model_types.specs.Models.{target_settled}
+use Rattle.typed_scopes.specs.Declaring.{declared_by}
+use Rattle.alloy_types.specs.Outcomes.{outcome_view}
+use Rattle.alloy_types.proofs.Found.{seen_more, outcome_is, found_all}
+use Rattle.alloy_types.proofs.outcomes.of_commands.Goals as goal
+
+pub loop-command-preserved : goal.loop-command-preserved
+loop-command-preserved c = λ m are.
+    let d = declared_by c.args.setting.now in
+    seen_more command_view (λ (x : CommandTree). target_settled m d x.target) (outcome_view target_view) c.args.commands.now c.loop-command.command-index c.command-item.result c.loop-command.found.items c.push.new.self.items c.in_ok-outcome.outcome
+    c.loop-command-test.true c.command-item.is (c.loop-command.invariant m are) c.in_ok-push.ensures.items
+    (outcome_is target_view c.target_settled.result c.in_ok-outcome.outcome (target_settled m d (target_view c.command-item.result.target)) c.in_ok-outcome.ensures (c.target_settled.ensures m are))
+
+pub returns : goal.returns
+returns c = λ m are.
+    found_all command_view (λ (x : CommandTree). target_settled m (declared_by c.args.setting.now) x.target) c.args.commands.now c.loop-command.command-index (map (outcome_view target_view) c.loop-command.found.items)
+    c.loop-command-test.false (c.loop-command.invariant m are)

@@ -1,0 +1,15 @@
+//! The sorts and arities of a resolved model: the first fault in the order of its paragraphs, or the model in which every shared
+//! name is settled.
+#![tactic(auto)]
+
+mod callees;
+mod check;
+mod commands;
+mod fields;
+mod outcomes;
+mod parts;
+mod places;
+mod settled;
+
+pub use crate::check::check_types;
+pub use std::alloc::AllocError as NoMemory;

@@ -1,0 +1,9 @@
+pub mod CallsIn
+pub mod Bodies
+pub mod Known
+pub mod Grouped
+pub mod Orders
+pub mod Bounds
+pub mod Ready
+pub mod Callees
+pub mod Moved

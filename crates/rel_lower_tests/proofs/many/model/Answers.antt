@@ -1,0 +1,16 @@
+use Rattle.std.proofs.Common.{◌∷◌, [], map, ap, ◌∙◌}
+use Rattle.named_model.specs.View.{callee_view, command_view, field_view, formulas_view}
+use Rattle.rel_lower_tests.specs.Samples as small
+use Rattle.rel_lower_tests.proofs.Typed.{of_parts, many_typed}
+use Rattle.rel_lower_tests.proofs.many.model.Goals as goal
+
+pub returns : goal.returns
+returns c = of_parts small.with_many many_typed
+    c.in_ok-signatures.signatures.items c.in_ok-signatures.ensures
+    (map field_view c.new.result.items) (ap (map field_view) c.new.ensures.items)
+    (map callee_view c.new-2.result.items) (ap (map callee_view) c.new-2.ensures.items)
+    (map formulas_view c.new-3.result.items) (ap (map formulas_view) c.new-3.ensures.items)
+    (map formulas_view c.new-4.result.items) (ap (map formulas_view) c.new-4.ensures.items)
+    (map command_view c.in_ok-commands.commands.items)
+    (ap (map command_view) c.in_ok-commands.ensures.items ∙ ap (λ x. x ∷ []) (c.run.ensures ∙ ap small.run c.in_ok-scope.ensures))
+    c.in_ok-parts.parts.items c.in_ok-parts.ensures.items
