@@ -1,7 +1,6 @@
 -- Declarations that say the same, but for the order of the lists in their types, check things alike.
-use Rattle.std.proofs.Common.{◌≡◌, ◌==◌, ℕ, List, [], map, Bool, true, ◌||◌, if◌then◌else◌, Option, Some, None, is_some, Result, Ok, Err, refl, ap, ◌∙◌}
+use Rattle.std.proofs.Common.{◌≡◌, ◌==◌, List, [], map, true, ◌||◌, if◌then◌else◌, Option, Some, None, is_some, Result, Ok, refl, ap}
 use Rattle.std.specs.Prelude.{nat_le}
-use Rattle.alloy_lex.specs.declared.token.Place.{Place}
 use Rattle.named_model.specs.Phrase.{PhraseTree, PhraseTrees}
 use Rattle.named_model.specs.Model.{FieldTree, CalleeTree, TargetTree, at_predicate, at_assertion, at_block, CommandTree, NamedTree}
 use Rattle.named_model.specs.Answers.{◌>>=◌}
@@ -9,7 +8,7 @@ use Rattle.model_types.specs.declared.fault.TypeFault.{TypeFault}
 use Rattle.model_types.specs.declared.fault.TypeFault.TheVariants as fault
 use Rattle.model_types.specs.Sorts.{Checked, unless, first_place, as_relation}
 use Rattle.model_types.specs.Typing.{Declared, Settled, settled, formulas_settled}
-use Rattle.model_types.specs.Models.{sides_of, unary, sides_unary, arrow_checked, wants_unary, field_checked, callee_settled, target_settled, run_checked}
+use Rattle.model_types.specs.Models.{sides_of, unary, sides_unary, arrow_checked, wants_unary, field_checked, callee_settled, target_settled}
 use Rattle.same_declarations.specs.Same.{AreSameDeclared}
 use Rattle.same_declarations.proofs.Settling.{parts_same, all_formulas_same}
 use Rattle.same_callees.proofs.Callees.{callees_same, runs_same}

@@ -1,19 +1,18 @@
 -- Fields, predicates and functions, by their relations.
-use Rattle.std.proofs.Common.{◌≡◌, ℕ, ◌≤◌, length, arith, false, ◌==◌, List, [], ◌∷◌, map, drop, Bool, true, if◌then◌else◌, Option, Some, None, Result, Ok, Err, refl, sym, ap, subst, ◌∙◌, inl, inr}
+use Rattle.std.proofs.Common.{◌≡◌, ℕ, ◌≤◌, length, arith, false, ◌==◌, List, [], ◌∷◌, map, Bool, true, if◌then◌else◌, Option, Result, Ok, Err, refl, sym, ap, ◌∙◌, inr}
 use Rattle.std.specs.Prelude.{nat_le}
-use Rattle.std.specs.Option.{option_map}
 use Rattle.alloy_lex.specs.declared.token.Place.{Place}
-use Rattle.named_model.specs.Phrase.{PhraseTree, DomainTree, DomainTrees, no_domains, more_domains, domains_of, links_of}
+use Rattle.named_model.specs.Phrase.{PhraseTree, DomainTree, DomainTrees, domains_of, links_of}
 use Rattle.named_model.specs.declared.phrase.Link.{Link}
 use Rattle.named_model.specs.View.{link_view}
 use Rattle.named_model.specs.Model.{FieldTree, MeaningTree, formulas, value, CalleeTree}
 use Rattle.named_model.specs.Answers.{◌>>=◌}
 use Rattle.model_types.specs.declared.fault.TypeFault.{TypeFault}
 use Rattle.model_types.specs.declared.fault.TypeFault.TheVariants as fault
-use Rattle.model_types.specs.Sorts.{Kind, Checked, unless, first_place, as_relation}
-use Rattle.model_types.specs.Typing.{Declared, Local, Settled, settled, types_in, formulas_settled, domains_settled, onto, fits}
-use Rattle.model_types.specs.Models.{local_of, or_unknown, domains_known, domains_unary, only_link, sides_unary, unary, arrow_checked, wants_unary, field_checked, meaning_settled, callee_settled}
-use Rattle.shared_names.specs.Shared.{shared_in, shared_among}
+use Rattle.model_types.specs.Sorts.{Checked, unless, first_place, as_relation}
+use Rattle.model_types.specs.Typing.{Declared, Local, Settled, settled, types_in, domains_settled, onto, fits}
+use Rattle.model_types.specs.Models.{or_unknown, domains_known, domains_unary, only_link, sides_unary, unary, arrow_checked, wants_unary, field_checked, meaning_settled, callee_settled}
+use Rattle.shared_names.specs.Shared.{shared_in}
 use Rattle.settling_rules.specs.Inside.{AreAlikeWhere}
 use Rattle.settling_rules.specs.Same.{AreSameTypes, Asks}
 use Rattle.settling_rules.specs.Single.{relation_settled}
@@ -21,7 +20,7 @@ use Rattle.settling_rules.specs.Told.{IsTold, Gives}
 use Rattle.settling_rules.proofs.Alike.{settled_alike, formulas_alike}
 use Rattle.settling_rules.proofs.Asked.{asks_left, asks_right}
 use Rattle.settling_rules.proofs.Reaching.{told_then}
-use Rattle.known_callees.specs.Groups.{GroupTree, relation_of, local_with, entered, group_in, groups_in}
+use Rattle.known_callees.specs.Groups.{GroupTree, entered, group_in, groups_in}
 use Rattle.known_callees.proofs.Grouped.{local_is, arity_is, local_arity}
 use Rattle.alloy_types.specs.Meanings.{shared_in_meaning, value_settled, groups_unary}
 
@@ -98,6 +97,11 @@ module _ (d : Declared) (s : AreSameTypes (types_in d) (types_in d)) (c : Callee
     callee_is x is = callee_now ∙ ap settled_then is
 
 -- ---- parameters that have to be sets
+
+-- what is answered as it stands
+pub gives_same : {X : Type 0} (r read : Result X TypeFault) → read ≡ r → Gives (λ x. x) r read
+gives_same (Ok x) read same = same
+gives_same (Err e) read same = inr same
 
 abbrev first_local : Option Local → PhraseTree → Checked → Checked
 first_local l x rest = unless (fits (local_arity l) 1) (fault.NotUnary (first_place x)) >>= λ one. rest

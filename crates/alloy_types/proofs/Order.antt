@@ -6,7 +6,6 @@ use Rattle.std.specs.Option.{option_map}
 use Rattle.std.proofs.lemmas.Option.{slice_get-map}
 use Rattle.std.proofs.lemmas.List.{take-map, drop-map, drop_more, drop_all}
 use Rattle.named_model.specs.Phrase.{DomainTree}
-use Rattle.named_model.specs.declared.named.Part.{Part}
 use Rattle.named_model.specs.declared.named.Part.TheVariants as part
 use Rattle.named_model.specs.Model.{FieldTree, TargetTree, CommandTree, NamedTree}
 use Rattle.named_model.specs.View.{callee_view, formulas_view, target_view}
@@ -14,7 +13,7 @@ use Rattle.named_model.specs.Answers.{◌>>=◌}
 use Rattle.model_types.specs.declared.fault.TypeFault.{TypeFault}
 use Rattle.model_types.specs.Sorts.{Checked}
 use Rattle.model_types.specs.Typing.{Declared, formulas_settled}
-use Rattle.model_types.specs.Models.{field_checked, fields_checked, callee_settled, target_settled, command_settled, checked, checked_at, part_checked, parts_checked}
+use Rattle.model_types.specs.Models.{field_checked, fields_checked, callee_settled, target_settled, command_settled, checked, checked_at, part_checked}
 use Rattle.alloy_types.specs.declared.outcomes.Outcomes.{Outcomes}
 use Rattle.named_model.specs.declared.phrase.Domain.{Domain}
 use Rattle.named_model.specs.View.{domain_view}

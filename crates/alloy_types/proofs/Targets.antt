@@ -1,14 +1,14 @@
 -- Commands with what they run or check put into them.
-use Rattle.std.proofs.Common.{◌≡◌, ◌<◌, ◌≤◌, ℕ, List, [], ◌∷◌, ◌++◌, map, length, slice_index_or, slice_set, slice_get, Some, None, Result, Ok, Err, option_map, refl, sym, ap, subst, ◌∙◌, arith}
-use Rattle.std.proofs.lemmas.List.{map-set, map_push, length-map, nil_from_length}
+use Rattle.std.proofs.Common.{◌≡◌, ◌<◌, ◌≤◌, ℕ, List, [], ◌∷◌, ◌++◌, map, length, slice_index_or, slice_set, slice_get, Some, Result, Ok, Err, option_map, sym, ap, subst, ◌∙◌, arith}
+use Rattle.std.proofs.lemmas.List.{map-set, map_push, length-map}
 use Rattle.std.proofs.lemmas.Option.{slice_get-map, slice_get-get_or}
 use Rattle.named_model.specs.declared.named.Target.{Target}
 use Rattle.named_model.specs.declared.named.Command.{Command}
-use Rattle.named_model.specs.Model.{TargetTree, CommandTree}
+use Rattle.named_model.specs.Model.{CommandTree}
 use Rattle.named_model.specs.View.{target_view, command_view}
 use Rattle.model_types.specs.declared.fault.TypeFault.{TypeFault}
 use Rattle.alloy_types.specs.Outcomes.{outcome_view, with_target}
-use Rattle.alloy_types.proofs.WithOutcomes.{AreSettled, settled_thing, settled_fault, settled_end, inside_now}
+use Rattle.alloy_types.proofs.WithOutcomes.{AreSettled, settled_thing, settled_fault, inside_now}
 
 seen_short : (all : List (Result Target TypeFault)) (old : List Command) → length all ≤ length old → length (map (outcome_view target_view) all) ≤ length (map command_view old)
 seen_short all old l = let a = length-map all (outcome_view target_view) in let b = length-map old command_view in omega (arith, l)

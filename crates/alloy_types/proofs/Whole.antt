@@ -1,16 +1,11 @@
 -- What is settled is the model in which no name is shared.
-use Rattle.std.proofs.Common.{◌≡◌, ◌≤◌, List, [], map, length, Result, Ok, Err, sym, ap, ◌∙◌, arith}
+use Rattle.std.proofs.Common.{◌≡◌, ◌≤◌, List, map, length, Result, Ok, Err, sym, ap, ◌∙◌, arith}
 use Rattle.std.proofs.lemmas.List.{length-map}
-use Rattle.named_model.specs.declared.named.Callee.{Callee}
-use Rattle.named_model.specs.declared.named.Formulas.{Formulas}
-use Rattle.named_model.specs.declared.named.Command.{Command}
-use Rattle.named_model.specs.declared.named.Named.{Named}
 use Rattle.named_model.specs.Model.{CommandTree, NamedTree}
-use Rattle.named_model.specs.View.{callee_view, formulas_view, target_view, command_view, named_view}
+use Rattle.named_model.specs.View.{target_view}
 use Rattle.named_model.specs.Answers.{◌>>=◌}
 use Rattle.model_types.specs.declared.fault.TypeFault.{TypeFault}
-use Rattle.model_types.specs.Typing.{Declared, formulas_settled}
-use Rattle.model_types.specs.Models.{callee_settled, target_settled, command_settled, or_same, declared_in, types_checked, settled_in}
+use Rattle.model_types.specs.Models.{target_settled, command_settled, or_same, declared_in, types_checked, settled_in}
 use Rattle.alloy_types.specs.declared.outcomes.Outcomes.{Outcomes}
 use Rattle.alloy_types.specs.Outcomes.{AreOutcomes, outcome_view, with_outcomes, the_other, with_target}
 use Rattle.alloy_types.specs.Typed.{typed}

@@ -28,6 +28,7 @@ value_settled d locals range body = do
 abbrev pub group_unary : GroupTree → DomainTree → Checked
 group_unary g x = unless (fits (option_map (λ (r : PhraseTree × ℕ). r.1) g.relation) 1) (fault.NotUnary (first_place x.domain))
 
+-- the parameters of groups have to be sets, each as far as its domain has an arity
 abbrev pub groups_unary : List GroupTree → List DomainTree → Checked
 groups_unary [] xs = Ok tt
 groups_unary (g ∷ gs) [] = Ok tt

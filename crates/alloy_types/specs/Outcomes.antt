@@ -1,5 +1,5 @@
 -- What checking gives of each thing that a model declares: the thing with its shared names settled, or its fault.
-use Rattle.std.specs.Prelude.{◌≡◌, ◌≢◌, ℕ, List, [], ◌∷◌, map, slice_get, Option, Some, None, Result, Ok, Err}
+use Rattle.std.specs.Prelude.{◌≡◌, ◌≢◌, ℕ, List, [], ◌∷◌, map, slice_get, Some, None, Result, Ok, Err}
 use Rattle.named_model.specs.Model.{TargetTree, CommandTree, NamedTree}
 use Rattle.named_model.specs.View.{callee_view, formulas_view, target_view}
 use Rattle.named_model.specs.Answers.{◌>>=◌}
@@ -43,8 +43,10 @@ with_outcomes put (x ∷ xs) [] = x ∷ xs
 with_outcomes put (x ∷ xs) (Ok y ∷ rs) = put x y ∷ with_outcomes put xs rs
 with_outcomes put (x ∷ xs) (Err e ∷ rs) = x ∷ with_outcomes put xs rs
 
+-- the second of two, in the place of the first
 abbrev pub the_other : {X : Type 0} → X → X → X
 the_other x y = y
 
+-- a command that runs or checks this
 abbrev pub with_target : CommandTree → TargetTree → CommandTree
 with_target c t = record c { target = t }

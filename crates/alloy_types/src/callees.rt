@@ -1,8 +1,7 @@
 // Predicates and functions.
-ghost use Rattle.std.specs.Prelude.{◌≡◌, true, ◌||◌};
+ghost use Rattle.std.specs.Prelude.{◌≡◌};
 ghost use Rattle.named_model.specs.View.{phrase_view, meaning_view, callee_view};
 ghost use Rattle.model_types.specs.Models.{meaning_settled, callee_settled};
-ghost use Rattle.shared_names.specs.Shared.{shared_in};
 ghost use Rattle.settling_rules.specs.Told.{Gives};
 ghost use Rattle.typed_scopes.specs.Declaring.{declared_by, AreTables};
 ghost use Rattle.alloy_types.specs.Meanings.{shared_in_meaning, value_settled};

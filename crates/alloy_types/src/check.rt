@@ -4,7 +4,7 @@ ghost use Rattle.settling_rules.specs.Told.{Gives};
 ghost use Rattle.alloy_types.specs.Typed.{typed};
 
 use crate::outcomes::outcomes_of;
-use crate::places::parts_checked;
+use crate::paragraphs::parts_checked;
 use crate::settled::{settle, settle_targets};
 use model_types::TypeFault;
 use named_model::Named;

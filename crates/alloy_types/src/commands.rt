@@ -43,7 +43,7 @@ pub fn target_settled(
     }
 }
 
-// Whether the parameters of the predicate of a number are sets, as far as their domains have an arity.
+// The same of the predicate of a number; where there is none, nothing has to be a set.
 fn run_checked(
     alloc: Global,
     setting: &Setting,
@@ -60,6 +60,7 @@ fn run_checked(
     }
 }
 
+// Whether the parameters of a predicate are sets, as far as their domains have an arity.
 fn parameters_unary(
     alloc: Global,
     setting: &Setting,
@@ -71,10 +72,10 @@ fn parameters_unary(
 {
     let asked = is_in_domains(parameters);
     let groups = groups_in(alloc, setting, scope, asked, parameters)?;
-    Ok(groups_unary(&groups, parameters)?)
+    groups_unary(&groups, parameters)
 }
 
-// Whether the parameters of domains are sets, as far as these have an arity.
+// Whether the parameters of groups are sets, as far as these have an arity.
 fn groups_unary(groups: &[Group], parameters: &[Domain]) -> Result<(), TypeFault>
     ensures { result ≡ groups_unary (map group_view groups.now) (map domain_view parameters.now) }
 {
@@ -86,6 +87,7 @@ fn groups_unary(groups: &[Group], parameters: &[Domain]) -> Result<(), TypeFault
     Ok(())
 }
 
+// Whether the parameters of one group are sets.
 fn group_unary(group: &Group, parameter: &Domain) -> Result<(), TypeFault>
     ensures { result ≡ group_unary (group_view group.now) (domain_view parameter.now) }
 {

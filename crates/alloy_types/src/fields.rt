@@ -83,6 +83,7 @@ fn sides_unary(
     }
 }
 
+// Whether the two sides of a bound that is one link are sets.
 fn both_unary(
     alloc: Global,
     setting: &Setting,

@@ -7,8 +7,8 @@ mod check;
 mod commands;
 mod fields;
 mod outcomes;
+mod paragraphs;
 mod parts;
-mod places;
 mod settled;
 
 pub use crate::check::check_types;

@@ -48,6 +48,7 @@ pub fn outcomes_of(alloc: Global, model: &Named) -> Result<Outcomes, AllocError>
     })
 }
 
+// The outcome of each field.
 fn of_fields(
     alloc: Global,
     setting: &Setting,

@@ -1,10 +1,8 @@
-pub mod Atoms
 pub mod Commands
 pub mod Fronts
-pub mod Refusals
+pub mod Problems
 pub mod Replied
 pub mod Served
 pub mod Shows
 pub mod Statuses
-pub mod Translations
 pub mod Usables

@@ -1,6 +1,7 @@
 -- The output of sessions, one session more; and on the problems of models.
-use Rattle.std.proofs.Common.{◌≡◌, ℕ, ◌+◌, ◌<◌, List, [], ◌∷◌, ◌++◌, length, take, get_or, Option, Some, All, refl, sym, ap, subst, ◌∙◌}
+use Rattle.std.proofs.Common.{◌≡◌, ℕ, ◌+◌, ◌<◌, List, [], ◌∷◌, ◌++◌, length, take, get_or, All, refl, sym, ap, subst, ◌∙◌}
 use Rattle.std.specs.Prelude.{slice_get}
+use Rattle.std.specs.Global.{Vec}
 use Rattle.std.specs.List.{AllZip}
 use Rattle.std.proofs.lemmas.List.{take_more}
 use Rattle.std.proofs.lemmas.List.Elements.{All-nil, All-cons}
@@ -19,21 +20,22 @@ use Rattle.script_format.specs.declared.entries.SessionEntry.{SessionEntry}
 use Rattle.script_text.specs.Printed.{all_printed}
 use Rattle.script_text.specs.Replies.{PrintedSession, NamesCellsOf, PrintsRightProof, PrintsCheckableProof, IsSessionText, IsOutput}
 use Rattle.explorer_run.specs.Serving.{IsPrintable, AreBacked}
-use Rattle.short_models.specs.Problem.{Short}
-use Rattle.explorer_cli.specs.Models.{AreUsable, AreReady, AreUsed}
-use Rattle.explorer_cli.specs.Runs.{IsRunOn, IsRunAmong, AreRunsOf, IsRunOver, AreRunsOver}
-use Rattle.explorer_cli.proofs.Usables.{ready_at}
+use Rattle.named_model.specs.Model.{NamedTree}
+use Rattle.served_models.specs.declared.commands.ServedCommand.{ServedCommand}
+use Rattle.served_models.specs.Served.{AreUsable, AreAllMade, AreUsed}
+use Rattle.explorer_cli.specs.Runs.{IsRunOn, IsProblemAt, IsRunAmong, AreRunsOf, IsServedAt, IsRunOver, AreRunsOver}
+use Rattle.explorer_cli.proofs.Usables.{problem_at}
 
 -- outputs go on with the text of the next session
 abbrev pub OutputsGoOn : Type 0
 OutputsGoOn = (ss : List PrintedSession) (text : List ℕ) (next : PrintedSession) (lines : List ℕ) → IsOutput ss text → IsSessionText next.problem next.name next.replies lines → IsOutput (ss ++ next ∷ []) (text ++ lines)
 
 -- what the run of one session gives
-abbrev pub IsServed : ℕ → SessionEntry → Bounded → List ℕ → Type 0
-IsServed budget x p lines = (s : PrintedSession) × IsRunOn p budget x s × IsSessionText s.problem s.name s.replies lines
+abbrev pub IsRunText : ℕ → SessionEntry → Bounded → List ℕ → Type 0
+IsRunText budget x p lines = (s : PrintedSession) × IsRunOn p budget x s × IsSessionText s.problem s.name s.replies lines
 
-runs_push : OutputsGoOn → (budget : ℕ) (sessions : List SessionEntry) (ts : List (Option Translated)) (x : SessionEntry) (t : Translated) (text lines : List ℕ)
-    → AreRunsOver budget sessions ts text → slice_get ts x.model ≡ Some (Some t) → IsServed budget x t.problem lines → AreRunsOver budget (sessions ++ x ∷ []) ts (text ++ lines)
+runs_push : OutputsGoOn → (budget : ℕ) (sessions : List SessionEntry) (ts : List (Vec ServedCommand)) (x : SessionEntry) (t : Translated) (text lines : List ℕ)
+    → AreRunsOver budget sessions ts text → IsServedAt ts x t → IsRunText budget x t.problem lines → AreRunsOver budget (sessions ++ x ∷ []) ts (text ++ lines)
 runs_push go_on budget sessions ts x t text lines are at served = (
   are.0 ++ served.0 ∷ [],
   zip_push (IsRunOver budget ts) sessions are.0 x served.0 are.1 (t, at, served.1),
@@ -41,9 +43,9 @@ runs_push go_on budget sessions ts x t text lines are at served = (
 )
 
 -- the turn of the loop that serves sessions
-pub runs_more : OutputsGoOn → (budget : ℕ) (sessions : List SessionEntry) (ts : List (Option Translated)) (i : ℕ) (x : SessionEntry) (t : Translated) (old new lines : List ℕ)
-    → i < length sessions → x ≡ get_or sessions i x → slice_get ts x.model ≡ Some (Some t) → new ≡ old ++ lines
-    → AreRunsOver budget (take i sessions) ts old → IsServed budget x t.problem lines → AreRunsOver budget (take (i + 1) sessions) ts new
+pub runs_more : OutputsGoOn → (budget : ℕ) (sessions : List SessionEntry) (ts : List (Vec ServedCommand)) (i : ℕ) (x : SessionEntry) (t : Translated) (old new lines : List ℕ)
+    → i < length sessions → x ≡ get_or sessions i x → IsServedAt ts x t → new ≡ old ++ lines
+    → AreRunsOver budget (take i sessions) ts old → IsRunText budget x t.problem lines → AreRunsOver budget (take (i + 1) sessions) ts new
 runs_more go_on budget sessions ts i x t old new lines l item at added are served =
     let more : take (i + 1) sessions ≡ take i sessions ++ x ∷ [] = take_more sessions i x l ∙ ap (λ (y : SessionEntry). take i sessions ++ y ∷ []) (sym item) in
     subst (λ (ys : List SessionEntry). AreRunsOver budget ys ts new) (sym more)
@@ -55,29 +57,27 @@ zip_on R S f [] (y ∷ ys) zip = absurd zip
 zip_on R S f (x ∷ xs) [] zip = absurd zip
 zip_on R S f (x ∷ xs) (y ∷ ys) zip = (f x y zip.0, zip_on R S f xs ys zip.1)
 
--- runs over the translations of models are runs on the models' problems
-pub runs_on_models : (budget : ℕ) (sessions : List SessionEntry) (entries : List ModelEntry) (ms : List Short) (ts : List (Option Translated)) (text : List ℕ)
-    → AreUsable sessions 0 entries ms → AreReady sessions 0 ms ts → AreRunsOver budget sessions ts text → AreRunsOf budget sessions ms text
-runs_on_models budget sessions entries ms ts text usable ready are =
+-- runs over the translations of commands are runs on the commands' problems
+pub runs_on_models : (budget : ℕ) (sessions : List SessionEntry) (ms : List NamedTree) (ts : List (Vec ServedCommand)) (text : List ℕ)
+    → AreAllMade sessions 0 ms ts → AreRunsOver budget sessions ts text → AreRunsOf budget sessions ms text
+runs_on_models budget sessions ms ts text made are =
     let among : (x : SessionEntry) (s : PrintedSession) → IsRunOver budget ts x s → IsRunAmong budget ms x s =
-    λ x s over.
-    let h = ready_at sessions 0 entries ms ts x.model over.0 usable ready over.1 in
-    (h.0, h.1, h.2, subst (λ (p : Bounded). IsRunOn p budget x s) h.3 over.2) in
+    λ x s over. (over.0.problem, problem_at sessions ms ts x over.0 made over.1, over.2) in
     (are.0, zip_on (IsRunOver budget ts) (IsRunAmong budget ms) among sessions are.0 are.1, are.2)
 
 -- what was found of the models of a script, and the runs of its sessions over that, make its answer
-pub run_answer_of : (budget : ℕ) (s : Script) (sessions : List SessionEntry) (entries : List ModelEntry) (ts us : List (Option Translated)) (text : List ℕ) → sessions ≡ s.sessions → entries ≡ s.models → us ≡ ts
-    → AreUsed sessions entries ts → AreRunsOver budget sessions us text → (ms : List Short) × AreUsable s.sessions 0 s.models ms × AreRunsOf budget s.sessions ms text
+pub run_answer_of : (budget : ℕ) (s : Script) (sessions : List SessionEntry) (entries : List ModelEntry) (ts us : List (Vec ServedCommand)) (text : List ℕ) → sessions ≡ s.sessions → entries ≡ s.models → us ≡ ts
+    → AreUsed sessions entries ts → AreRunsOver budget sessions us text → (ms : List NamedTree) × AreUsable s.sessions 0 s.models ms × AreRunsOf budget s.sessions ms text
 run_answer_of budget s sessions entries ts us text e f g used runs =
     let u = subst (λ (es : List ModelEntry). AreUsed s.sessions es ts) f (subst (λ (xs : List SessionEntry). AreUsed xs entries ts) e used) in
-    let r = subst (λ (vs : List (Option Translated)). AreRunsOver budget s.sessions vs text) g (subst (λ (xs : List SessionEntry). AreRunsOver budget xs us text) e runs) in
-    (u.0, u.1, runs_on_models budget s.sessions s.models u.0 ts text u.1 u.2 r)
+    let r = subst (λ (vs : List (Vec ServedCommand)). AreRunsOver budget s.sessions vs text) g (subst (λ (xs : List SessionEntry). AreRunsOver budget xs us text) e runs) in
+    (u.0, u.1, runs_on_models budget s.sessions u.0 ts text u.2 r)
 
 -- ---- one session
 
 -- a transcript over a translation, and its text
 pub is_served : (budget : ℕ) (x : SessionEntry) (t : Translated) (commands : List Command) (name : List ℕ) (replies : List Reply) (floors : List (List ℕ)) (text : List ℕ) → IsTranslation t → commands ≡ x.commands → name ≡ x.name
-    → (xs : List Exchange) × IsTranscript t.problem (Start budget) commands replies floors xs × AreBacked t [] (Start budget) xs → AllZip (PrintsCheckableProof t) floors replies → IsSessionText t.problem name (all_printed t floors replies) text → IsServed budget x t.problem text
+    → (xs : List Exchange) × IsTranscript t.problem (Start budget) commands replies floors xs × AreBacked t [] (Start budget) xs → AllZip (PrintsCheckableProof t) floors replies → IsSessionText t.problem name (all_printed t floors replies) text → IsRunText budget x t.problem text
 is_served budget x t commands name replies floors text well e f run checkable is = (
   record { problem = t.problem; name = x.name; replies = all_printed t floors replies },
   record {

@@ -7,8 +7,8 @@ use Rattle.script_format.specs.declared.entries.Script.{Script}
 use Rattle.script_format.specs.declared.fault.ScriptFault.{ScriptFault}
 use Rattle.script_format.specs.Script.{IsScript, HasFault}
 use Rattle.script_text.specs.Faults.{script_line, fault_words}
-use Rattle.short_models.specs.Problem.{Short}
-use Rattle.explorer_cli.specs.Models.{AreUsable, IsFirstRefused, model_line}
+use Rattle.named_model.specs.Model.{NamedTree}
+use Rattle.served_models.specs.Served.{AreUsable, IsFirstRefused, model_line}
 use Rattle.explorer_cli.specs.Runs.{AreRunsOf}
 
 -- the line that names refused words
@@ -27,7 +27,7 @@ IsModelAnswer s status text =
 -- the models can be used, and under 0 the text is that of runs of the sessions on them, in order, from this budget
 abbrev pub IsRunAnswer : ℕ → Script → ℕ → List ℕ → Type 0
 IsRunAnswer budget s status text =
-    (status ≡ 0) × ((models : List Short) × AreUsable s.sessions 0 s.models models × AreRunsOf budget s.sessions models text)
+    (status ≡ 0) × ((models : List NamedTree) × AreUsable s.sessions 0 s.models models × AreRunsOf budget s.sessions models text)
 
 -- a status and a text answer a script whose sessions begin with this budget
 abbrev pub IsAnswerToScript : ℕ → Script → ℕ → List ℕ → Type 0

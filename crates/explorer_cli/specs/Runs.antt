@@ -1,5 +1,6 @@
 -- Runs of sessions: what is printed of them, and what their replies show.
-use Rattle.std.specs.Prelude.{◌≡◌, ◌≢◌, ◌<◌, ℕ, List, [], ◌∷◌, ◌++◌, length, Option, Some, slice_get, All, AllPairs, Contains}
+use Rattle.std.specs.Prelude.{◌≡◌, ◌≢◌, ◌<◌, ℕ, List, [], ◌∷◌, ◌++◌, length, Some, slice_get, All, AllPairs, Contains}
+use Rattle.std.specs.Global.{Vec}
 use Rattle.std.specs.List.{AllZip}
 use Rattle.rel_formula.specs.Bounds.{Bounded}
 use Rattle.swap_symmetry.specs.Due.{IsDue}
@@ -15,7 +16,9 @@ use Rattle.explorer_run.specs.Serving.{AreBacked}
 use Rattle.script_text.specs.Printed.{all_printed}
 use Rattle.script_text.specs.Replies.{PrintedSession, PrintsCheckableProof, IsOutput}
 use Rattle.script_format.specs.declared.entries.SessionEntry.{SessionEntry}
-use Rattle.short_models.specs.Problem.{Short, IsShort, problem_of}
+use Rattle.named_model.specs.Model.{NamedTree}
+use Rattle.served_models.specs.declared.commands.ServedCommand.{ServedCommand}
+use Rattle.served_models.specs.Served.{IsProblemOf}
 
 -- the replies, each at the top floor before it, are a transcript of these commands: a run of the session machine over the
 -- problem, from the start with this budget
@@ -36,12 +39,16 @@ pub record IsRunOn (p : Bounded) (budget : ℕ) (x : SessionEntry) (s : PrintedS
   pub checkable : AllZip (PrintsCheckableProof translation) floors replies
   pub is : s ≡ record { problem = p; name = x.name; replies = all_printed translation floors replies }
 
--- the session runs on the problem of that of the models on which it is
-abbrev pub IsRunAmong : ℕ → List Short → SessionEntry → PrintedSession → Type 0
-IsRunAmong budget models x s = (m : Short) × (slice_get models x.model ≡ Some m) × IsShort m × IsRunOn (problem_of m) budget x s
+-- the session is on a command of one of the models, and this is the command's problem
+abbrev pub IsProblemAt : List NamedTree → SessionEntry → Bounded → Type 0
+IsProblemAt models x p = (m : NamedTree) × (slice_get models x.model ≡ Some m) × IsProblemOf m x.number p
+
+-- the session runs on the problem of the command on which it is
+abbrev pub IsRunAmong : ℕ → List NamedTree → SessionEntry → PrintedSession → Type 0
+IsRunAmong budget models x s = (p : Bounded) × IsProblemAt models x p × IsRunOn p budget x s
 
 -- the text is the output of runs of the sessions, in order
-abbrev pub AreRunsOf : ℕ → List SessionEntry → List Short → List ℕ → Type 0
+abbrev pub AreRunsOf : ℕ → List SessionEntry → List NamedTree → List ℕ → Type 0
 AreRunsOf budget sessions models text = (runs : List PrintedSession) × AllZip (IsRunAmong budget models) sessions runs × IsOutput runs text
 
 -- the reply at a place, and the top floor before it
@@ -82,10 +89,19 @@ pub record OffersAt (p : Bounded) (replies : List Reply) (floors : List (List �
 
 -- ---- what the code has served
 
--- the session runs on the problem of the translation at the place of its model
-abbrev pub IsRunOver : ℕ → List (Option Translated) → SessionEntry → PrintedSession → Type 0
-IsRunOver budget translations x s = (t : Translated) × (slice_get translations x.model ≡ Some (Some t)) × IsRunOn t.problem budget x s
+-- at the place of the session's model, the command on which it is has this translation
+abbrev pub IsServedAt : List (Vec ServedCommand) → SessionEntry → Translated → Type 0
+IsServedAt models x t =
+    (made : Vec ServedCommand) × (slice_get models x.model ≡ Some made) × ((c : ServedCommand) × Contains made.items c × (c.number ≡ x.number) × (t ≡ c.translation))
+
+-- it has one
+abbrev pub IsServed : List (Vec ServedCommand) → SessionEntry → Type 0
+IsServed models x = (t : Translated) × IsServedAt models x t
+
+-- the session runs on the problem of that translation
+abbrev pub IsRunOver : ℕ → List (Vec ServedCommand) → SessionEntry → PrintedSession → Type 0
+IsRunOver budget models x s = (t : Translated) × IsServedAt models x t × IsRunOn t.problem budget x s
 
 -- the text is the output of runs of the sessions over these translations, in order
-abbrev pub AreRunsOver : ℕ → List SessionEntry → List (Option Translated) → List ℕ → Type 0
-AreRunsOver budget sessions translations text = (runs : List PrintedSession) × AllZip (IsRunOver budget translations) sessions runs × IsOutput runs text
+abbrev pub AreRunsOver : ℕ → List SessionEntry → List (Vec ServedCommand) → List ℕ → Type 0
+AreRunsOver budget sessions models text = (runs : List PrintedSession) × AllZip (IsRunOver budget models) sessions runs × IsOutput runs text

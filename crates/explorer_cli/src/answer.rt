@@ -3,11 +3,11 @@ ghost use Rattle.std.specs.Prelude.{◌≡◌, ◌≤◌, ◌<◌, length, All, 
 ghost use Rattle.script_format.specs.Limits.{IsAllowed, asked_in};
 ghost use Rattle.explorer_cli.specs.Outcome.{IsAnswerTo, IsAnswerToScript};
 
-use crate::models::{Models, read_models};
 use crate::sessions::text_of_sessions;
 use script_format::laws::scripts_keep_to_limits;
 use script_format::{Script, read_script};
 use script_text::fault_line;
+use served_models::{Models, read_models};
 use std::alloc::{AllocError, Global};
 
 /// A status, and the text that is written under it.

@@ -4,7 +4,6 @@
 
 mod answer;
 pub mod laws;
-mod models;
 mod run_command;
 mod sessions;
 mod top_call;

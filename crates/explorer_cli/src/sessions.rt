@@ -1,28 +1,29 @@
 // The sessions of a script.
-ghost use Rattle.std.specs.Prelude.{◌≡◌, ◌≤◌, ◌<◌, List, length, slice_get, Some as Is, All, IfOk};
+ghost use Rattle.std.specs.Prelude.{◌≡◌, ◌≤◌, ◌==◌, List, All, IfOk, option_copied, find};
 ghost use Rattle.script_format.specs.Limits.{IsAllowed, asked_by};
 ghost use Rattle.script_text.specs.Replies.{PrintedSession, IsSessionText};
-ghost use Rattle.explorer_cli.specs.Models.{IsTranslated};
-ghost use Rattle.explorer_cli.specs.Runs.{IsRunOn, AreRunsOver};
+ghost use Rattle.explorer_cli.specs.Runs.{IsServedAt, IsServed, IsRunOn, AreRunsOver};
 
 use explorer_run::serve;
 use refutation_check::Log;
 use script_format::SessionEntry;
 use script_text::laws::texts_go_on;
 use script_text::session_text;
+use served_models::ServedCommand;
 use std::alloc::{AllocError, Global};
 use translation::Translation;
 
 /// The texts of sessions, one after the other, each served from the start with this budget over the translation of
-/// the model of its place. The budgets are at most 100,000, and each session asks for at most 20,000 scenarios.
+/// its command's problem, among those of the model of its place. The budgets are at most 100,000, and each session asks for at
+/// most 20,000 scenarios.
 pub fn text_of_sessions(
     alloc: Global,
     budget: u32,
     sessions: &[SessionEntry],
-    models: &[Option<Translation>],
+    models: &[Vec<ServedCommand>],
 ) -> Result<Vec<u8>, AllocError>
     requires budget { budget ≤ 100000 }
-    requires translated { All (IsTranslated models.now) sessions.now }
+    requires served { All (IsServed models.now) sessions.now }
     requires allowed { All (λ x. All IsAllowed x.commands) sessions.now }
     requires asked { All (λ x. asked_by x.commands ≤ 20000) sessions.now }
     ensures { IfOk result (λ text. AreRunsOver budget sessions.now models.now text.items) }
@@ -37,15 +38,22 @@ pub fn text_of_sessions(
     Ok(text)
 }
 
-// The translation of a session's model.
-fn translation_of<'a>(models: &'a [Option<Translation>], session: &SessionEntry) -> &'a Translation
-    requires { IsTranslated models.now session.now }
-    ensures { slice_get models.now session.now.model ≡ Is (Is result.now) }
+// The translation of the problem of a session's command.
+fn translation_of<'a>(models: &'a [Vec<ServedCommand>], session: &SessionEntry) -> &'a Translation
+    requires { IsServed models.now session.now }
+    ensures { IsServedAt models.now session.now result.now }
 {
-    match &models[session.model as usize] {
-        Some(translation) => translation,
+    match command_of(&models[session.model as usize], session.number) {
+        Some(command) => &command.translation,
         None => unreachable!(),
     }
+}
+
+// Of a model's commands that are served, the one of this number.
+fn command_of(commands: &[ServedCommand], number: u32) -> Option<&ServedCommand>
+    ensures { option_copied result ≡ find (λ c. c.number == number) commands.now }
+{
+    commands.iter().find(|command| command.number == number)
 }
 
 // The text of a session that is served over the translation of its problem, with nothing imported.

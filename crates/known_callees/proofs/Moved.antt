@@ -1,6 +1,5 @@
 -- What functions answer, moved to where it is wanted.
-use Rattle.std.proofs.Common.{◌≡◌, ℕ, zero, suc, ◌+◌, ◌<◌, List, [], ◌∷◌, ◌++◌, map, length, take, get_or, refl, sym, ap, ◌∙◌, subst, Bool, Option, None}
-use Rattle.std.specs.List.{slice_set}
+use Rattle.std.proofs.Common.{◌≡◌, ℕ, ◌+◌, ◌<◌, List, [], ◌∷◌, ◌++◌, map, length, take, get_or, sym, ap, ◌∙◌, subst, Bool, Option, None}
 use Rattle.std.proofs.lemmas.List.{map-append, take_more}
 use Rattle.alloy_syntax.specs.declared.tree.Operator.TheVariants as operator
 use Rattle.named_model.specs.Phrase.{PhraseTree}
@@ -18,11 +17,6 @@ use Rattle.settling_rules.proofs.Asked.{alike_refl}
 use Rattle.known_callees.specs.Groups.{GroupTree, local_with, entered}
 use Rattle.known_callees.specs.Fields.{field_type}
 use Rattle.known_callees.proofs.Bounds.{each_more}
-
-pub map_set : {X Y : Type 0} (f : X → Y) (xs : List X) (i : ℕ) (x : X) → map f (slice_set xs i x) ≡ slice_set (map f xs) i (f x)
-map_set f [] i x = refl
-map_set f (y ∷ ys) zero x = refl
-map_set f (y ∷ ys) (suc i) x = ap (λ zs. f y ∷ zs) (map_set f ys i x)
 
 -- parameters of an unknown domain
 pub unknown_entered : (asked : Bool) (d : Declared) (new now : List Local) (g : GroupTree) → g.relation ≡ None → new ≡ onto g.count (record { arity = 1; type = [] }) now → AreAlikeWhere asked new (entered d now g)

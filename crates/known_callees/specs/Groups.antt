@@ -1,12 +1,11 @@
 -- Parameters of one domain, as far as that is known.
 use Rattle.std.specs.Prelude.{ℕ, List, [], ◌∷◌, replicate, flat_map, Option, Some, None, option_map, Result, Ok, Err}
-use Rattle.named_model.specs.declared.phrase.Phrase.{Phrase}
 use Rattle.named_model.specs.Phrase.{PhraseTree, DomainTree, DomainTrees, no_domains, more_domains}
-use Rattle.named_model.specs.View.{phrase_view}
 use Rattle.model_types.specs.declared.fault.TypeFault.{TypeFault}
 use Rattle.model_types.specs.Sorts.{relation}
 use Rattle.model_types.specs.Typing.{Declared, Local, Settled, settled, type_in, onto}
 use Rattle.model_types.specs.Models.{or_unknown}
+use Rattle.settled_parts.specs.Given.{relation_view}
 use Rattle.known_callees.specs.declared.groups.Group.{Group}
 
 -- so many parameters, and their domain with its arity, where that has no fault
@@ -52,8 +51,5 @@ abbrev pub arities_of : List GroupTree → List (Option ℕ)
 arities_of = flat_map (λ (g : GroupTree). replicate g.count (option_map (λ (r : PhraseTree × ℕ). r.1) g.relation))
 
 -- what contracts see
-abbrev pub relation_view : Phrase × ℕ → PhraseTree × ℕ
-relation_view r = (phrase_view r.0, r.1)
-
 abbrev pub group_view : Group → GroupTree
 group_view g = record { count = g.count; relation = option_map relation_view g.relation }

@@ -9,7 +9,8 @@ ghost use Rattle.shared_names.specs.Shared.{shared_in};
 ghost use Rattle.settling_rules.specs.Inside.{AreAlikeWhere};
 ghost use Rattle.typed_scopes.specs.Declaring.{declared_by, AreTables};
 ghost use Rattle.callee_headers.specs.Bodies.{tree_of, body_in, body_of};
-ghost use Rattle.known_callees.specs.Groups.{behind, arities_of, group_view, relation_view};
+ghost use Rattle.known_callees.specs.Groups.{behind, arities_of, group_view};
+ghost use Rattle.settled_parts.specs.Given.{relation_view};
 ghost use Rattle.known_callees.specs.Meanings.{shared_in_meaning, kind_in, kind_with};
 
 use crate::groups::{Group, groups_in, relation_behind, unless_memory};

@@ -8,7 +8,8 @@ ghost use Rattle.shared_names.specs.Shared.{shared_in, shared_in_domains};
 ghost use Rattle.settling_rules.specs.Inside.{AreAlikeWhere};
 ghost use Rattle.typed_scopes.specs.Given.{settled_view};
 ghost use Rattle.typed_scopes.specs.Declaring.{declared_by, AreTables};
-ghost use Rattle.known_callees.specs.Groups.{relation_in, relation_of, entered, group_in, groups_in, behind, relation_view, group_view};
+ghost use Rattle.known_callees.specs.Groups.{relation_in, relation_of, entered, group_in, groups_in, behind, group_view};
+ghost use Rattle.settled_parts.specs.Given.{relation_view};
 
 use bounding_types::BoundingType;
 use model_types::TypeFault;

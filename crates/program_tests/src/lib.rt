@@ -3,3 +3,5 @@
 
 #[cfg(test)]
 mod explorer;
+#[cfg(test)]
+mod of_models;

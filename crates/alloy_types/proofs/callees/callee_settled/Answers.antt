@@ -1,7 +1,7 @@
-use Rattle.std.proofs.Common.{◌≡◌, ◌||◌, true, false, Bool, List, [], map, Ok, ap, sym, subst, ◌∙◌}
+use Rattle.std.proofs.Common.{false, List, map, ap, sym, ◌∙◌}
 use Rattle.std.proofs.lemmas.Result.{err_from_is_err_and}
 use Rattle.named_model.specs.declared.phrase.Domain.{Domain}
-use Rattle.named_model.specs.Phrase.{DomainTrees, domains_of}
+use Rattle.named_model.specs.Phrase.{domains_of}
 use Rattle.named_model.specs.View.{domain_view, meaning_view, callee_view}
 use Rattle.model_types.specs.Typing.{Local, domains_settled}
 use Rattle.settling_rules.specs.Same.{Asks}

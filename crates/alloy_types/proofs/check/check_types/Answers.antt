@@ -1,10 +1,8 @@
-use Rattle.std.proofs.Common.{◌≡◌, List, [], map, Ok, sym, ap, ◌∙◌}
+use Rattle.std.proofs.Common.{List, [], map, Ok, sym, ap, ◌∙◌}
 use Rattle.named_model.specs.declared.named.Part.{Part}
-use Rattle.named_model.specs.Model.{CalleeTree, CommandTree, NamedTree}
-use Rattle.named_model.specs.Phrase.{PhraseTrees}
 use Rattle.named_model.specs.View.{callee_view, formulas_view, command_view, named_view}
 use Rattle.model_types.specs.Typing.{formulas_settled}
-use Rattle.model_types.specs.Models.{callee_settled, declared_in, parts_checked, settled_in}
+use Rattle.model_types.specs.Models.{callee_settled, declared_in, parts_checked}
 use Rattle.alloy_types.specs.Outcomes.{outcome_view}
 use Rattle.alloy_types.proofs.Whole.{as_many, things_settled, targets_settled, typed_is}
 use Rattle.alloy_types.proofs.check.check_types.Goals as goal

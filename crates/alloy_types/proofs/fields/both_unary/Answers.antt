@@ -1,5 +1,4 @@
-use Rattle.std.proofs.Common.{◌≡◌, ap}
-use Rattle.named_model.specs.View.{phrase_view, link_view}
+use Rattle.named_model.specs.View.{phrase_view}
 use Rattle.typed_scopes.specs.Declaring.{declared_by}
 use Rattle.alloy_types.proofs.Meant.{no_only_link}
 use Rattle.alloy_types.proofs.fields.both_unary.Goals as goal

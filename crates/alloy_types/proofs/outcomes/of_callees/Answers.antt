@@ -1,4 +1,4 @@
-use Rattle.std.proofs.Common.{[], map}
+use Rattle.std.proofs.Common.{map}
 use Rattle.named_model.specs.View.{callee_view}
 use Rattle.model_types.specs.Models.{callee_settled}
 use Rattle.typed_scopes.specs.Declaring.{declared_by}

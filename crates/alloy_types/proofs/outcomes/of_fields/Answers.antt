@@ -1,4 +1,3 @@
-use Rattle.std.proofs.Common.{[], map}
 use Rattle.named_model.specs.View.{field_view}
 use Rattle.model_types.specs.Models.{field_checked}
 use Rattle.typed_scopes.specs.Declaring.{declared_by}

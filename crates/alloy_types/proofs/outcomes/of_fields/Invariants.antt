@@ -1,4 +1,4 @@
-use Rattle.std.proofs.Common.{◌≡◌, [], map, take}
+use Rattle.std.proofs.Common.{◌≡◌, map, take}
 use Rattle.named_model.specs.View.{field_view}
 use Rattle.model_types.specs.Models.{field_checked}
 use Rattle.typed_scopes.specs.Declaring.{declared_by}

@@ -1,4 +1,4 @@
-use Rattle.std.proofs.Common.{◌≡◌, List, [], map, ap, sym, refl, ◌∙◌}
+use Rattle.std.proofs.Common.{List, [], map, ap, sym, ◌∙◌}
 use Rattle.named_model.specs.declared.named.Field.{Field}
 use Rattle.named_model.specs.declared.named.Callee.{Callee}
 use Rattle.named_model.specs.declared.named.Formulas.{Formulas}

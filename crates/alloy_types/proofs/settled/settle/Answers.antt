@@ -1,4 +1,4 @@
-use Rattle.std.proofs.Common.{◌≡◌, ◌<◌, List, length, refl, ap, sym, subst, ◌∙◌, arith, slice_set}
+use Rattle.std.proofs.Common.{refl, ap, sym, ◌∙◌, arith, slice_set}
 use Rattle.std.proofs.lemmas.List.{nil_from_length}
 use Rattle.alloy_types.specs.Outcomes.{the_other}
 use Rattle.alloy_types.proofs.WithOutcomes.{settled_start, settled_thing, settled_fault, settled_end, inside_now}

@@ -1,23 +1,25 @@
-use Rattle.std.proofs.Common.{◌≤◌, ◌<◌, inr, List, Option, All, length, refl, sym, subst}
-use Rattle.translation_rules.specs.Translation.{Translated}
+use Rattle.std.proofs.Common.{◌≤◌, ◌<◌, inr, List, All, length, refl, sym, subst}
+use Rattle.std.specs.Global.{Vec}
 use Rattle.script_format.specs.Limits.{asked_by}
 use Rattle.script_format.specs.declared.entries.SessionEntry.{SessionEntry}
 use Rattle.script_format.specs.declared.entries.ModelEntry.{ModelEntry}
-use Rattle.explorer_cli.specs.declared.models.Models.{Models}
-use Rattle.explorer_cli.specs.Models.{AreUsed, AreFound, IsTranslated}
+use Rattle.served_models.specs.declared.commands.ServedCommand.{ServedCommand}
+use Rattle.served_models.specs.declared.models.Models.{Models}
+use Rattle.served_models.specs.Served.{AreUsed, AreFound}
+use Rattle.explorer_cli.specs.Runs.{IsServed}
 use Rattle.explorer_cli.proofs.Served.{run_answer_of}
-use Rattle.explorer_cli.proofs.Usables.{all_translated, asked_each}
+use Rattle.explorer_cli.proofs.Usables.{all_served, asked_each}
 use Rattle.explorer_cli.proofs.answer.answer_script.Goals as goal
 
-pub text_of_sessions-requires-clause-translated : goal.text_of_sessions-requires-clause-translated
-text_of_sessions-requires-clause-translated c =
+pub text_of_sessions-requires-clause-served : goal.text_of_sessions-requires-clause-served
+text_of_sessions-requires-clause-served c =
     let sessions = c.entries-sessions.result.now in
     let entries = c.entries.result.now in
     let used : AreUsed sessions entries c.in-Ready.models.items = subst (λ (m : Models). AreFound sessions entries m) c.in-Ready.is c.in_ok-models.ensures in
     let named : All (λ (x : SessionEntry). x.model < length entries) sessions =
     subst (λ (es : List ModelEntry). All (λ (x : SessionEntry). x.model < length es) sessions) (sym c.entries.ensures)
     (subst (λ (xs : List SessionEntry). All (λ (x : SessionEntry). x.model < length c.args.script.now.models) xs) (sym c.entries-sessions.ensures) c.requires.named) in
-    subst (λ (ts : List (Option Translated)). All (IsTranslated ts) sessions) (sym c.deref.ensures.value) (all_translated sessions entries c.in-Ready.models.items used named)
+    subst (λ (ts : List (Vec ServedCommand)). All (IsServed ts) sessions) (sym c.deref.ensures.value) (all_served sessions entries c.in-Ready.models.items used named)
 
 pub text_of_sessions-requires-clause-asked : goal.text_of_sessions-requires-clause-asked
 text_of_sessions-requires-clause-asked c =

@@ -2,12 +2,12 @@ use Rattle.std.proofs.Common.{◌≤◌, ◌∙◌, ◌++◌, All, List, ℕ, ap
 use Rattle.tuple_core.proofs.Steps.{all_at}
 use Rattle.script_format.specs.declared.entries.SessionEntry.{SessionEntry}
 use Rattle.script_format.specs.Limits.{IsAllowed, asked_by}
-use Rattle.explorer_cli.specs.Models.{IsTranslated}
+use Rattle.explorer_cli.specs.Runs.{IsServed}
 use Rattle.explorer_cli.proofs.Served.{runs_more}
 use Rattle.explorer_cli.proofs.sessions.text_of_sessions.Goals as goal
 
 pub translation_of-translation-requires : goal.translation_of-translation-requires
-translation_of-translation-requires c = all_at (IsTranslated c.args.models.now) c.args.sessions.now c.loop-session.session-index c.session-item.result c.requires.translated c.loop-session-test.true c.session-item.is
+translation_of-translation-requires c = all_at (IsServed c.args.models.now) c.args.sessions.now c.loop-session.session-index c.session-item.result c.requires.served c.loop-session-test.true c.session-item.is
 
 pub run-requires-clause-allowed : goal.run-requires-clause-allowed
 run-requires-clause-allowed c = all_at (λ (x : SessionEntry). All IsAllowed x.commands) c.args.sessions.now c.loop-session.session-index c.session-item.result c.requires.allowed c.loop-session-test.true c.session-item.is

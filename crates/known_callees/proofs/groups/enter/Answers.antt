@@ -1,7 +1,8 @@
 use Rattle.std.proofs.Common.{ap}
 use Rattle.std.specs.Option.{option_map}
 use Rattle.typed_scopes.specs.Declaring.{declared_by}
-use Rattle.known_callees.specs.Groups.{relation_view, group_view}
+use Rattle.known_callees.specs.Groups.{group_view}
+use Rattle.settled_parts.specs.Given.{relation_view}
 use Rattle.known_callees.proofs.Moved.{unknown_entered}
 use Rattle.known_callees.proofs.groups.enter.Goals as goal
 

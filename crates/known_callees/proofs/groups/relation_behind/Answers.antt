@@ -3,7 +3,8 @@ use Rattle.std.specs.Option.{option_map}
 use Rattle.named_model.specs.View.{phrase_view}
 use Rattle.typed_scopes.specs.Declaring.{declared_by}
 use Rattle.typed_scopes.proofs.Standing.{same_types}
-use Rattle.known_callees.specs.Groups.{relation_of, behind, relation_view, group_view}
+use Rattle.known_callees.specs.Groups.{relation_of, behind, group_view}
+use Rattle.settled_parts.specs.Given.{relation_view}
 use Rattle.known_callees.proofs.Grouped.{settled_behind}
 use Rattle.known_callees.proofs.groups.relation_behind.Goals as goal
 

@@ -1,0 +1,139 @@
+-- Which models and commands sessions can run on, and how the others are refused.
+use Rattle.std.specs.Prelude.{◌≡◌, ◌≢◌, ◌⊎◌, ◌+◌, ◌<◌, ◌≤◌, ℕ, List, [], ◌∷◌, ◌++◌, length, codes, Contains, All, Option, MatchOption, Vec}
+use Rattle.std.specs.declared.alloc.Global.{Global}
+use Rattle.rel_formula.specs.Bounds.{Bounded, IsProblem}
+use Rattle.named_model.specs.declared.fault.NameFault.TheVariants as name
+use Rattle.named_model.specs.Model.{NamedTree}
+use Rattle.lowering_rules.specs.declared.fault.LowerFault.{LowerFault}
+use Rattle.lowering_rules.specs.declared.fault.LowerFault.TheVariants as lower
+use Rattle.lowering_rules.specs.Formula.{all_facts}
+use Rattle.lowering_rules.specs.Problem.{IsRefusal}
+use Rattle.rel_lower.specs.Lowered.{IsLowered}
+use Rattle.fault_words.specs.Words.{command_words}
+use Rattle.typed_texts.specs.ModelText.{SaysModel, OpensOther, IsFaulty}
+use Rattle.script_format.specs.declared.entries.ModelEntry.{ModelEntry}
+use Rattle.script_format.specs.declared.entries.SessionEntry.{SessionEntry}
+use Rattle.served_models.specs.declared.commands.ServedCommand.{ServedCommand}
+use Rattle.served_models.specs.declared.commands.Commands.{Commands}
+use Rattle.served_models.specs.declared.commands.Commands.TheVariants as commands
+use Rattle.served_models.specs.declared.models.Models.{Models}
+use Rattle.served_models.specs.declared.models.Models.TheVariants as models
+
+-- a session is on the command of this number of the model at this place
+abbrev pub IsAsked : List SessionEntry → ℕ → ℕ → Type 0
+IsAsked sessions place number = (x : SessionEntry) × Contains sessions x × (x.model ≡ place) × (x.number ≡ number)
+
+-- the problem of a model's command, with all facts
+pub record IsProblemOf (m : NamedTree) (number : ℕ) (p : Bounded) : Type 0 where
+  pub problem : IsProblem p
+  pub lowered : IsLowered m number (all_facts m) p
+
+abbrev pub HasProblem : NamedTree → ℕ → Type 0
+HasProblem m number = (p : Bounded) × IsProblemOf m number p
+
+-- the text says this model, and each of its commands on which a session is has a problem
+pub record IsUsable (sessions : List SessionEntry) (place : ℕ) (text : List ℕ) (m : NamedTree) : Type 0 where
+  pub says : SaysModel text m
+  pub served : (number : ℕ) → IsAsked sessions place number → HasProblem m number
+
+-- a fault is no want of memory
+abbrev pub IsToldOf : LowerFault → Type 0
+IsToldOf f = (f ≢ lower.Memory) × (f ≢ lower.Scope name.Memory)
+
+-- a command has no problem, and these words tell why
+pub record LacksProblem (m : NamedTree) (number : ℕ) (words : List ℕ) : Type 0 where
+  pub fault : LowerFault
+  pub refused : IsRefusal m number (all_facts m) fault
+  pub told : IsToldOf fault
+  pub words_are : words ≡ command_words number fault
+
+-- of the commands on which sessions are, the first that has no problem; these words tell why
+pub record HasBadCommand (sessions : List SessionEntry) (place : ℕ) (m : NamedTree) (words : List ℕ) : Type 0 where
+  pub number : ℕ
+  pub asked : IsAsked sessions place number
+  pub earlier : (n : ℕ) → IsAsked sessions place n → n < number → HasProblem m n
+  pub lacks : LacksProblem m number words
+
+abbrev pub SaysBadCommand : List SessionEntry → ℕ → List ℕ → List ℕ → Type 0
+SaysBadCommand sessions place text words = (m : NamedTree) × SaysModel text m × HasBadCommand sessions place m words
+
+-- the text is no model, or one that opens another, or a session is on a command that has no problem; these words tell it
+abbrev pub IsRefused : List SessionEntry → ℕ → List ℕ → List ℕ → Type 0
+IsRefused sessions place text words = IsFaulty text words ⊎ (OpensOther text × (words ≡ codes "not_yet")) ⊎ SaysBadCommand sessions place text words
+
+-- the entries from this place on say these models, and can be used
+abbrev pub AreUsable : List SessionEntry → ℕ → List ModelEntry → List NamedTree → Type 0
+AreUsable sessions place [] [] = Unit {0}
+AreUsable sessions place [] (m ∷ ms) = ⊥
+AreUsable sessions place (entry ∷ entries) [] = ⊥
+AreUsable sessions place (entry ∷ entries) (m ∷ ms) = IsUsable sessions place entry.text m × AreUsable sessions (place + 1) entries ms
+
+-- the first model that can't be used has this name, and these words tell why
+pub record IsFirstRefused (sessions : List SessionEntry) (entries : List ModelEntry) (name words : List ℕ) : Type 0 where
+  pub before : List ModelEntry
+  pub entry : ModelEntry
+  pub others : List ModelEntry
+  pub entries_are : entries ≡ before ++ entry ∷ others
+  pub models : List NamedTree
+  pub usable : AreUsable sessions 0 before models
+  pub refused : IsRefused sessions (length before) entry.text words
+  pub name_is : name ≡ entry.name
+
+-- the line that refuses the model of this name, with what is wrong with it
+abbrev pub model_line : List ℕ → List ℕ → List ℕ
+model_line name words = codes "fault model " ++ name ++ codes " " ++ words ++ codes "\n"
+
+-- ---- what is made for sessions
+
+-- of the numbers, from this one on, of commands on which sessions are, this is the least
+pub record IsLeastAsked (sessions : List SessionEntry) (place from number : ℕ) : Type 0 where
+  pub asked : IsAsked sessions place number
+  pub behind : from ≤ number
+  pub least : (n : ℕ) → IsAsked sessions place n → from ≤ n → number ≤ n
+
+-- the least such number, where there is one
+abbrev pub IsNext : List SessionEntry → ℕ → ℕ → Option ℕ → Type 0
+IsNext sessions place from found = MatchOption found ((n : ℕ) → IsAsked sessions place n → n < from) (IsLeastAsked sessions place from)
+
+-- this is the translation of the problem of the command of this number
+abbrev pub IsServedFor : NamedTree → ℕ → ServedCommand → Type 0
+IsServedFor m number x = (x.number ≡ number) × IsProblemOf m number x.translation.problem
+
+-- each of these is the translation of a command's problem
+abbrev pub AreOf : NamedTree → List ServedCommand → Type 0
+AreOf m made = All (λ (x : ServedCommand). IsProblemOf m x.number x.translation.problem) made
+
+-- one of these is that of the command of this number
+abbrev pub HasMade : List ServedCommand → ℕ → Type 0
+HasMade made number = (x : ServedCommand) × Contains made x × (x.number ≡ number)
+
+-- these are translations of the problems of a model's commands, for all those on which sessions are
+pub record AreMade (sessions : List SessionEntry) (place : ℕ) (m : NamedTree) (made : List ServedCommand) : Type 0 where
+  pub each : AreOf m made
+  pub all : (number : ℕ) → IsAsked sessions place number → HasMade made number
+
+-- what was found of the commands of a model
+abbrev pub AreServed : List SessionEntry → ℕ → NamedTree → Commands → Type 0
+AreServed sessions place m (commands.Ready made) = AreMade sessions place m made.items
+AreServed sessions place m (commands.Refused words) = HasBadCommand sessions place m words.items
+
+-- what was found of the model at this place
+abbrev pub IsFound : List SessionEntry → ℕ → List ℕ → Commands → Type 0
+IsFound sessions place text (commands.Ready made) = (m : NamedTree) × IsUsable sessions place text m × AreMade sessions place m made.items
+IsFound sessions place text (commands.Refused words) = IsRefused sessions place text words.items
+
+-- what was made for the models from this place on
+abbrev pub AreAllMade : List SessionEntry → ℕ → List NamedTree → List (Vec ServedCommand Global) → Type 0
+AreAllMade sessions place [] [] = Unit {0}
+AreAllMade sessions place [] (x ∷ xs) = ⊥
+AreAllMade sessions place (m ∷ ms) [] = ⊥
+AreAllMade sessions place (m ∷ ms) (x ∷ xs) = AreMade sessions place m x.items × AreAllMade sessions (place + 1) ms xs
+
+-- the models can be used, and this was made for them
+abbrev pub AreUsed : List SessionEntry → List ModelEntry → List (Vec ServedCommand Global) → Type 0
+AreUsed sessions entries found = (ms : List NamedTree) × AreUsable sessions 0 entries ms × AreAllMade sessions 0 ms found
+
+-- the models are what was found
+abbrev pub AreFound : List SessionEntry → List ModelEntry → Models → Type 0
+AreFound sessions entries (models.Ready found) = AreUsed sessions entries found.items
+AreFound sessions entries (models.Refused line) = (name : List ℕ) × (words : List ℕ) × IsFirstRefused sessions entries name words × (line.items ≡ model_line name words)

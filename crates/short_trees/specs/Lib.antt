@@ -1,2 +1,0 @@
-pub mod ShortTree
-pub mod Read
