@@ -5,3 +5,5 @@
 mod explorer;
 #[cfg(test)]
 mod of_models;
+#[cfg(test)]
+mod of_sessions;
