@@ -22,13 +22,13 @@ fn explored(
         4,
         Vec::from_slice(alloc, failing_reads)?,
     );
-    let mut sink = MemSink::new(alloc, 10000, 10, Vec::from_slice(alloc, failing_writes)?)?;
+    let mut sink = MemSink::new(alloc, 50000, 10, Vec::from_slice(alloc, failing_writes)?)?;
     let status = explore(alloc, &owned, &mut source, &mut sink);
     Ok((status, String::from_utf8_lossy(alloc, sink.bytes())?))
 }
 
 // The status and the output for the word `run` and this script.
-fn run(alloc: Global, script: &str) -> Result<(u8, String), AllocError> {
+pub fn run(alloc: Global, script: &str) -> Result<(u8, String), AllocError> {
     explored(alloc, &["run"], script.as_bytes(), &[], &[])
 }
 

@@ -1,5 +1,6 @@
 // Sessions whose searches take more than a step: the expected lines were worked out by hand from what models mean.
-use crate::explorer::serves;
+use crate::explorer::{run, serves};
+use std::alloc::{AllocError, Global};
 use std::test::Fail;
 
 #[test]
@@ -98,4 +99,64 @@ fn grows_a_file_system(rt: HostRuntime) -> Result<(), Fail> {
             "scenario 1\nFSObject = {FSObject$0}\nDir = {FSObject$0}\nFile = {}\nRoot = {FSObject$0}\nparent = {}\ncontents = {}\naugmented\nlisted 1\nFSObject = {FSObject$0, FSObject$1, FSObject$2}\nDir = {FSObject$0, FSObject$2}\nFile = {FSObject$1}\nRoot = {FSObject$0}\nparent = {FSObject$1->FSObject$2, FSObject$2->FSObject$0}\ncontents = {FSObject$0->FSObject$2, FSObject$2->FSObject$1}\nlisted 2\nFSObject = {FSObject$0, FSObject$1}\nDir = {FSObject$0}\nFile = {FSObject$1}\nRoot = {FSObject$0}\nparent = {FSObject$1->FSObject$0}\ncontents = {FSObject$0->FSObject$1}\nend 2\n",
         )],
     )
+}
+
+#[test]
+fn refuses_what_isn_t_there(rt: HostRuntime) -> Result<(), Fail> {
+    serves(
+        &rt,
+        rt.alloc(),
+        &[(
+            "sig A { f: set A } run { some A } for 2",
+            "next\naugment f A$0\naugment f A$0->A$5\naugment A A$0->A$1\naugment B A$0\naugment f A$0->A$1\nnext\nproof\nbudget 0\nnext\nbudget 20000\nnext\n",
+            "scenario 1\nA = {A$0}\nf = {}\nrefused unknown_tuple\nrefused unknown_tuple\nrefused unknown_tuple\nrefused unknown_tuple\naugmented\nscenario 1\nA = {A$0, A$1}\nf = {A$0->A$1}\nrefused no_end\nbudget 0\nrefused spent 0\nbudget 20000\nend 1\n",
+        )],
+    )
+}
+
+// A session that gives its scenario one atom after the other, 64 in all, and then asks for one floor more.
+fn rising(alloc: Global) -> Result<String, AllocError> {
+    let front = "== model m\nsig A, B {} sig P in A {} run {} for 32\n== session a m 1\nnext\n";
+    let mut script = String::from_str(alloc, front)?;
+    for place in 0..64 {
+        let name = if place < 32 { "A" } else { "B" };
+        let line = format!(in alloc; "augment {name} {name}${}\nnext\n", place % 32)?;
+        script.push_str(&line)?;
+    }
+    script.push_str("augment P A$0\nback\nnext\n")?;
+    Ok(script)
+}
+
+// How many lines of a text are this one.
+fn lines_that_are(text: &str, wanted: &str) -> u32 {
+    let mut count = 0u32;
+    for line in text.lines() {
+        if line == wanted {
+            count = count.saturating_add(1);
+        }
+    }
+    count
+}
+
+#[test]
+fn has_64_floors(rt: HostRuntime) -> Result<(), Fail> {
+    let script = rising(rt.alloc())?;
+    let (_, text) = run(rt.alloc(), &script)?;
+    assert_eq!(rt; lines_that_are(&text, "augmented"), 64);
+    assert!(rt; text.as_str().ends_with("refused deep\nback\nend 1\n"));
+    Ok(())
+}
+
+#[test]
+fn lists_20_000_scenarios(rt: HostRuntime) -> Result<(), Fail> {
+    let mut script = String::from_str(
+        rt.alloc(),
+        "== model m\nsig A { f: set A } run { some A } for 4\n== session a m 1\n",
+    )?;
+    for _ in 0..20 {
+        script.push_str("all 1000\n")?;
+    }
+    let (status, text) = run(rt.alloc(), &script)?;
+    assert_eq!(rt; (status, lines_that_are(&text, "end 1")), (0, 20));
+    Ok(())
 }
