@@ -12,12 +12,25 @@ const NO_MEMORY: u8 = 7;
 fn main(rt: HostRuntime) -> ExitCode {
     let mut source = StdSource::new(rt.reader());
     let mut sink = StdSink::new(io::writer(&rt));
-    match words(&rt) {
-        Ok(words) => ExitCode::from(explore(rt.alloc(), &words, &mut source, &mut sink)),
-        Err(error) if error.kind() == io::ErrorKind::OutOfMemory => ExitCode::from(NO_MEMORY),
+    let status = match words(&rt) {
+        Ok(words) => explore(rt.alloc(), &words, &mut source, &mut sink),
+        Err(error) if error.kind() == io::ErrorKind::OutOfMemory => NO_MEMORY,
         // A word that isn't UTF-8 is refused as any other wrong word is.
-        Err(_) => ExitCode::from(explore(rt.alloc(), &[], &mut source, &mut sink)),
-    }
+        Err(_) => explore(rt.alloc(), &[], &mut source, &mut sink),
+    };
+    tell(&rt, status);
+    ExitCode::from(status)
+}
+
+// Says on standard error what failed, where standard output doesn't tell it.
+fn tell(rt: &HostRuntime, status: u8) {
+    let failed = match status {
+        5 => "the input can't be read",
+        6 => "the output can't be written",
+        NO_MEMORY => "memory is wanting, or a formula is too large to build",
+        _ => return,
+    };
+    let _told = eprintln!(rt; "explore: {failed}");
 }
 
 // The words after the program's name.
