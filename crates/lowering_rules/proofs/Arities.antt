@@ -20,7 +20,7 @@ use Rattle.lowering_rules.proofs.Outlined.{outlined_at, same_some}
 use Rattle.lowering_rules.proofs.Atoms.{below, outlined}
 
 -- an item behind a list
-behind : {X : Type 0} (xs ys : List X) (i : ℕ) → slice_get (xs ++ ys) (length xs + i) ≡ slice_get ys i
+pub behind : {X : Type 0} (xs ys : List X) (i : ℕ) → slice_get (xs ++ ys) (length xs + i) ≡ slice_get ys i
 behind [] ys i = let e : 0 + i ≡ i = omega arith in ap (slice_get ys) e
 behind (x ∷ xs) ys i =
     let e : length (x ∷ xs) + i ≡ suc (length xs + i) = omega arith in

@@ -68,7 +68,7 @@ none_of None e = refl
 none_of (Some x) e = absurd cc
 
 -- a signature without a parent is its own top-level signature
-top_within-top : (xs : List Signature) (n s : ℕ) → (signature_at xs s).parent ≡ None → top_within xs n s ≡ s
+pub top_within-top : (xs : List Signature) (n s : ℕ) → (signature_at xs s).parent ≡ None → top_within xs n s ≡ s
 top_within-top xs zero s e = refl
 top_within-top xs (suc n) s e = ap (λ o. elim o [ None ↦ s | Some p ↦ top_within xs n p.1 ]) e
 

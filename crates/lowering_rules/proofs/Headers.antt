@@ -65,7 +65,7 @@ aux_append : {X : Type 0} (xs ys zs : List X) → reverse_aux (xs ++ ys) zs ≡ 
 aux_append [] ys zs = refl
 aux_append (x ∷ xs) ys zs = aux_append xs ys (x ∷ zs)
 
-front_replicate : {X : Type 0} (n : ℕ) (x : X) (ys : List X) → replicate n x ++ x ∷ ys ≡ x ∷ (replicate n x ++ ys)
+pub front_replicate : {X : Type 0} (n : ℕ) (x : X) (ys : List X) → replicate n x ++ x ∷ ys ≡ x ∷ (replicate n x ++ ys)
 front_replicate zero x ys = refl
 front_replicate (suc n) x ys = ap (λ zs. x ∷ zs) (front_replicate n x ys)
 
@@ -77,7 +77,7 @@ some_replicate : {X : Type 0} (n : ℕ) (x : X) (xs : List X) → replicate n (S
 some_replicate zero x xs = refl
 some_replicate (suc n) x xs = ap (λ ys. Some x ∷ ys) (some_replicate n x xs)
 
-all_known : (ps : List typing.Local) → map or_unknown (map (λ l. Some l) ps) ≡ ps
+pub all_known : (ps : List typing.Local) → map or_unknown (map (λ l. Some l) ps) ≡ ps
 all_known [] = refl
 all_known (p ∷ ps) = ap (λ ys. p ∷ ys) (all_known ps)
 
@@ -86,13 +86,13 @@ arities_known [] = refl
 arities_known (p ∷ ps) = ap (λ ys. Some p.arity ∷ ys) (arities_known ps)
 
 -- the parameters of domains that are settled, the first one first
-record IsKnown (d : Declared) (ds : DomainTrees) (locals zs : List typing.Local) : Type 0 where
-  parameters : List typing.Local
-  are : parameters_known (domains_known d locals ds) ≡ map (λ l. Some l) parameters
-  behind : zs ≡ reverse_aux parameters locals
+pub record IsKnown (d : Declared) (ds : DomainTrees) (locals zs : List typing.Local) : Type 0 where
+  pub parameters : List typing.Local
+  pub are : parameters_known (domains_known d locals ds) ≡ map (λ l. Some l) parameters
+  pub behind : zs ≡ reverse_aux parameters locals
 
 module _ (d : Declared) where
-  is_known : (ds : DomainTrees) (locals : List typing.Local) (zs : DomainTrees × List typing.Local) → domains_settled false d locals ds ≡ Ok zs → IsKnown d ds locals zs.1
+  pub is_known : (ds : DomainTrees) (locals : List typing.Local) (zs : DomainTrees × List typing.Local) → domains_settled false d locals ds ≡ Ok zs → IsKnown d ds locals zs.1
   is_known no_domains locals zs h = subst (λ (q : DomainTrees × List typing.Local). IsKnown d no_domains locals q.1) (same_ok (no_domains, locals) zs h) (record { parameters = []; are = refl; behind = refl })
   is_known (more_domains disjoint n mark x ds) locals zs h =
       let a = bind_ok (settled d locals [] x) _ zs h in

@@ -1,25 +1,25 @@
-mod Outlined
+pub mod Outlined
 mod Symmetric
-mod Tops
-mod Atoms
+pub mod Tops
+pub mod Atoms
 mod Formed
 mod One
 mod First
-mod Unfolded
-mod Inversion
+pub mod Unfolded
+pub mod Inversion
 mod Shifts
 mod Operators
 mod Bound
 mod Rightness
 mod Bodies
 mod Sound
-mod Arities
+pub mod Arities
 mod Plain
 mod Proper
-mod Whole
+pub mod Whole
 mod Kept
 mod Stable
-mod Headers
-mod Paragraphs
+pub mod Headers
+pub mod Paragraphs
 mod References
-mod Ranks
+pub mod Ranks

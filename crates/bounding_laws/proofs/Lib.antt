@@ -1,0 +1,8 @@
+mod Places
+mod Closures
+mod Operators
+mod Expressions
+mod Relations
+mod Calls
+mod Variables
+mod Contexts
