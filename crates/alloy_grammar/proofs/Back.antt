@@ -1,5 +1,5 @@
 -- What spells a model is read as it.
-use Rattle.std.proofs.Common.{◌≡◌, ℕ, zero, suc, ◌-◌, ◌≤◌, ◌<◌, ◌⊎◌, inl, inr, Bool, true, false, IsTrue, List, [], ◌∷◌, length, Option, Some, None, Ok, refl, sym, ap, subst, ◌∙◌, arith}
+use Rattle.std.proofs.Common.{◌≡◌, ℕ, zero, suc, ◌-◌, ◌≤◌, ◌<◌, ◌⊎◌, inl, inr, Bool, true, false, not, ◌&&◌, IsTrue, List, [], ◌∷◌, length, Option, Some, None, Ok, refl, sym, ap, subst, ◌∙◌, arith}
 use Rattle.std.specs.List.{AllByRecursion}
 use Rattle.alloy_syntax.specs.declared.class.Class.{Class}
 use Rattle.alloy_syntax.specs.declared.class.Class.TheVariants as class
@@ -17,7 +17,7 @@ use Rattle.alloy_syntax.specs.Tree.{Tree, trees_of, DeclarationTree, declaration
 use Rattle.alloy_syntax.specs.Readers.{Parser, next_is, after, is_mark, behind, others, listed as listed_at}
 use Rattle.alloy_syntax.specs.Nodes.{within, inside_over, braced_over}
 use Rattle.alloy_syntax.specs.Bounds.{begins_bound_arrow}
-use Rattle.alloy_syntax.specs.Paragraphs.{own_block, field_at, fields_at, parent_at, is_qualifier as is_qualifier_next, qualifier_at, after_qualifier, qualified, signatures_at, fact_at, parameters_to, parameter_list, predicate_at, function_at, assertion_at}
+use Rattle.alloy_syntax.specs.Paragraphs.{own_block, field_at, fields_at, parent_at, is_qualifier as is_qualifier_next, qualifier_at, after_qualifier, qualified, signatures_at, label_at, fact_at, parameters_to, parameter_list, predicate_at, function_at, assertion_at}
 use Rattle.alloy_grammar.specs.Fronts.{Front, ◌before◌, nothing, mark_of, flag, name, mark, names, each, listed_if_any, class_of_multiplicity}
 use Rattle.alloy_grammar.specs.Levels.{sum_level}
 use Rattle.alloy_grammar.specs.Nodes.{at_level, spells, spells_declarations}
@@ -27,8 +27,8 @@ use Rattle.alloy_grammar.specs.Forms.{IsPlain, ArePlainDeclarations}
 use Rattle.alloy_grammar.specs.Models.{optional, tree_of_block, block_text, is_qualifier, qualifier, qualifiers, class_of_manner, parent, field, is_empty, parameters, paragraph, depth_of_fields, depth_of_parameters, ArePlainFields}
 use Rattle.alloy_grammar.proofs.Results.{true_not_false}
 use Rattle.alloy_grammar.proofs.Tokens.{marks}
-use Rattle.alloy_grammar.proofs.First.{looser, first}
-use Rattle.alloy_grammar.proofs.Ends.{is_next, after_is, differs, continues}
+use Rattle.alloy_grammar.proofs.FirstTokens.{looser, first}
+use Rattle.alloy_grammar.proofs.TextEnds.{is_next, after_is, differs, continues}
 use Rattle.alloy_grammar.proofs.Full.{mark_full, spelled_full, Goes, many_full}
 use Rattle.alloy_grammar.proofs.Spelled.{list_of, list_of_declarations, closed}
 use Rattle.alloy_grammar.proofs.Nodes.{block_full, names_full, word_full, no_word, multiplicity_full}
@@ -259,12 +259,21 @@ signatures_full strict limit b m ns p fs ts rest s d plain ends =
 
 -- ---- facts and assertions
 
-pub fact_full : (strict : Bool) (limit : ℕ) (b : BlockTree) (ts us rest : List Seen) → (t : (mark_of class.Name ts us) ⊎ (ts ≡ us)) → block_text b us rest → depth_of (tree_of_block b) ≤ limit → (strict ≡ true → IsPlain (tree_of_block b)) → fact_at strict limit ts ≡ Ok (fact b, rest)
-unfolding fact_at is_class
-fact_full strict limit b ts us rest (inl m) s d plain = rw (is_next class.Name ts us m, after_is class.Name ts us m, own_block_full strict limit b us rest s d plain) refl
-fact_full strict limit b ts us rest (inr same) s d plain =
+pub label_full : (n : Option Name) (ts us vs : List Seen) → optional name n ts us → mark_of class.LeftBrace us vs → (label_at ts ≡ Ok (n, us)) × ((next_is class.Name ts && not (next_is class.LeftBrace (after ts))) ≡ false)
+unfolding label_at is_class
+label_full None ts us vs s m =
+    let none : next_is class.Name ts ≡ false = ap (next_is class.Name) s ∙ differs class.LeftBrace class.Name us vs m refl in
+    (rw none (ap (λ ws. Ok (None, ws)) s), rw none refl)
+label_full (Some n) ts us vs s m =
+    let w : mark_of class.Name ts us = (s.0, s.1, s.2) in
+    let brace : next_is class.LeftBrace (after ts) ≡ true = ap (next_is class.LeftBrace) (after_is class.Name ts us w) ∙ is_next class.LeftBrace us vs m in
+    (rw (is_next class.Name ts us w, spelled_full class.Name n ts us s) refl, rw (is_next class.Name ts us w, brace) refl)
+
+pub fact_full : (strict : Bool) (limit : ℕ) (n : Option Name) (b : BlockTree) (ts us rest : List Seen) → optional name n ts us → block_text b us rest → depth_of (tree_of_block b) ≤ limit → (strict ≡ true → IsPlain (tree_of_block b)) → fact_at strict limit ts ≡ Ok (fact n b, rest)
+unfolding fact_at
+fact_full strict limit n b ts us rest m s d plain =
     let start = block_starts b us rest s in
-    subst (λ vs. fact_at strict limit vs ≡ Ok (fact b, rest)) (sym same) (rw (differs class.LeftBrace class.Name us start.0 start.1 refl, own_block_full strict limit b us rest s d plain) refl)
+    rw ((label_full n ts us start.0 m start.1).0, own_block_full strict limit b us rest s d plain) refl
 
 pub assertion_full : (strict : Bool) (limit : ℕ) (n : Name) (b : BlockTree) (ts us rest : List Seen) → name n ts us → block_text b us rest → depth_of (tree_of_block b) ≤ limit → (strict ≡ true → IsPlain (tree_of_block b)) → assertion_at strict limit ts ≡ Ok (assertion n b, rest)
 unfolding assertion_at

@@ -14,7 +14,7 @@ use Rattle.alloy_grammar.specs.Fronts.{sign, mark_of, name, mark, each}
 use Rattle.alloy_grammar.specs.Bounds.{level_of_bound, spells_bound, spells_unions, spells_arrows, depth_of_bound, depth_of_unions, depth_of_arrows, has_unions, has_arrows, is_word, has_arrow, unions_have_arrow, has_word, unions_have_word, arrows_have_word, is_one_arrow, is_plain_bound}
 use Rattle.alloy_grammar.proofs.Results.{either, true_not_false}
 use Rattle.alloy_grammar.proofs.Tokens.{marks, and_left, and_right}
-use Rattle.alloy_grammar.proofs.Ends.{is_next, after_is, differs}
+use Rattle.alloy_grammar.proofs.TextEnds.{is_next, after_is, differs}
 use Rattle.alloy_grammar.proofs.Full.{mark_full, expect_full, spelled_full, place_is, Goes, many_full}
 use Rattle.alloy_grammar.proofs.Spelled.{both_false}
 use Rattle.alloy_grammar.proofs.Nodes.{word_full, multiplicity_full, or_true}

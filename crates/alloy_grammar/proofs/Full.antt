@@ -32,8 +32,8 @@ use Rattle.alloy_grammar.specs.Levels.{level_of_operator, level_of_prefix}
 use Rattle.alloy_grammar.specs.Nodes.{class_of_constant, class_of_prefix, class_of_operator, class_of_comparison, comparing, comparing_over}
 use Rattle.alloy_grammar.proofs.Results.{either, got}
 use Rattle.alloy_grammar.proofs.Tokens.{marks}
-use Rattle.alloy_grammar.proofs.First.{rank, First, looser, never_first, too_loose}
-use Rattle.alloy_grammar.proofs.Ends.{same_class, is_next, after_is, differs, Ends}
+use Rattle.alloy_grammar.proofs.FirstTokens.{rank, First, looser, never_first, too_loose}
+use Rattle.alloy_grammar.proofs.TextEnds.{same_class, is_next, after_is, differs, Ends}
 
 -- ---- one token
 

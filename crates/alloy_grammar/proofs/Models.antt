@@ -18,7 +18,7 @@ use Rattle.alloy_grammar.specs.Models.{optional, class_of_kind, target, entry, e
 use Rattle.alloy_grammar.proofs.Results.{success, stop, known, either, no_success, got, value_is, rest_is, true_not_false, done_is}
 use Rattle.alloy_grammar.proofs.Tokens.{token, marks, mark_is_one, expect_read, spelled_read, spelled_is_one, number_read, after_is_short, flag_read}
 use Rattle.alloy_grammar.proofs.Lists.{Taken, Shortens, many_read, many_stops, each_of}
-use Rattle.alloy_grammar.proofs.Paragraphs.{after_comma, listed_read, FoundOptional, optional_land, FoundParagraph, land, own_block_read, signatures_read, fact_read, assertion_read, predicate_read, function_read}
+use Rattle.alloy_grammar.proofs.Paragraphs.{after_comma, listed_read, FoundOptional, optional_land, FoundParagraph, land, own_block_read, signatures_read, label_read, fact_read, assertion_read, predicate_read, function_read}
 
 -- ---- scopes
 
@@ -139,22 +139,6 @@ expected_read ts n rest e =
     ]
 
 -- ---- commands
-
-label_read : (ts : List Seen) (n : Option Name) (rest : List Seen) → label_at ts ≡ Ok (n, rest) → FoundOptional name n ts rest
-unfolding label_at
-label_read ts n rest e =
-    elim (either (next_is class.Name ts)) [
-      | inr other ↦ optional_land name None n ts ts rest (rw other at e) (refl, omega arith)
-      | inl is ↦ (
-          let e1 = rw is at e in
-          elim (known (name_at ts)) [
-            | stop d fails ↦ no_success _ _ (rw fails at e1)
-            | success m named ↦ (
-                let e2 = rw named at e1 in
-                let s = spelled_read class.Name ts m.0 m.1 named in
-                optional_land name (Some m.0) n ts m.1 rest e2 (s, omega (arith, spelled_is_one class.Name m.0 ts m.1 s)))
-          ])
-    ]
 
 record FoundTarget (strict : Bool) (limit : ℕ) (t : TargetTree) (ts rest : List Seen) : Type 0 where
   spelled : target t ts rest

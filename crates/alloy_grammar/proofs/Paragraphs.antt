@@ -4,6 +4,7 @@ use Rattle.alloy_syntax.specs.declared.class.Class.{Class}
 use Rattle.alloy_syntax.specs.declared.class.Class.TheVariants as class
 use Rattle.alloy_syntax.specs.declared.reading.Around.TheVariants as around
 use Rattle.alloy_syntax.specs.declared.reading.Inside.TheVariants as inside
+use Rattle.alloy_syntax.specs.declared.tree.Name.{Name}
 use Rattle.alloy_syntax.specs.declared.tree.Parent.{Parent}
 use Rattle.alloy_syntax.specs.declared.tree.Manner.TheVariants as manner
 use Rattle.alloy_syntax.specs.declared.seen.Seen.{Seen}
@@ -11,7 +12,7 @@ use Rattle.alloy_syntax.specs.Tree.{Tree, DeclarationTree, declarations_of, Fiel
 use Rattle.alloy_syntax.specs.Readers.{Parser, next_is, after, place_at, expect, name_at, is_mark, mark_at, after_mark, multiplicity_of, behind, listed as listed_at, names_at}
 use Rattle.alloy_syntax.specs.Nodes.{within, sum_over, braced_over, declarations_over}
 use Rattle.alloy_syntax.specs.Bounds.{whole, bound_within}
-use Rattle.alloy_syntax.specs.Paragraphs.{own_block, field_at, fields_at, parent_at, is_qualifier as is_qualifier_next, qualifier_at, after_qualifier, after_abstract, qualified, signatures_at, fact_at, parameters_to, parameter_list, predicate_at, function_at, assertion_at}
+use Rattle.alloy_syntax.specs.Paragraphs.{own_block, field_at, fields_at, parent_at, is_qualifier as is_qualifier_next, qualifier_at, after_qualifier, after_abstract, qualified, signatures_at, label_at, fact_at, parameters_to, parameter_list, predicate_at, function_at, assertion_at}
 use Rattle.alloy_grammar.specs.Fronts.{Front, ◌before◌, nothing, mark_of, name, each, listed_if_any}
 use Rattle.alloy_grammar.specs.Levels.{sum_level, primary_level}
 use Rattle.alloy_grammar.specs.Nodes.{at_level, spells, spells_declarations}
@@ -22,7 +23,7 @@ use Rattle.alloy_grammar.specs.Models.{optional, tree_of_block, is_qualifier, qu
 use Rattle.alloy_grammar.proofs.Results.{success, stop, known, either, no_success, got, value_is, rest_is}
 use Rattle.alloy_grammar.proofs.Tokens.{token, marks, mark_is_one, expect_read, spelled_read, spelled_is_one, after_is_short, after_mark_is_short, mark_read, flag_read, multiplicity_sign}
 use Rattle.alloy_grammar.proofs.Lists.{Taken, each_of, others_read}
-use Rattle.alloy_grammar.proofs.Found.{Found}
+use Rattle.alloy_grammar.proofs.ReadTrees.{Found}
 use Rattle.alloy_grammar.proofs.Sound.{block_read, sum_reads}
 use Rattle.alloy_grammar.proofs.Quantified.{names_read, within_reads, declarations_read}
 use Rattle.alloy_grammar.proofs.Bounds.{whole_read}
@@ -274,36 +275,42 @@ signatures_read strict limit ts x rest e =
           ])
     ]
 
+-- ---- facts and assertions
+
+pub label_read : (ts : List Seen) (n : Option Name) (rest : List Seen) → label_at ts ≡ Ok (n, rest) → FoundOptional name n ts rest
+unfolding label_at
+label_read ts n rest e =
+    elim (either (next_is class.Name ts)) [
+      | inr other ↦ optional_land name None n ts ts rest (rw other at e) (refl, omega arith)
+      | inl is ↦ (
+          let e1 = rw is at e in
+          elim (known (name_at ts)) [
+            | stop d fails ↦ no_success _ _ (rw fails at e1)
+            | success m named ↦ (
+                let e2 = rw named at e1 in
+                let s = spelled_read class.Name ts m.0 m.1 named in
+                optional_land name (Some m.0) n ts m.1 rest e2 (s, omega (arith, spelled_is_one class.Name m.0 ts m.1 s)))
+          ])
+    ]
+
 pub fact_read : (strict : Bool) (limit : ℕ) (ts : List Seen) (x : ParagraphTree) (rest : List Seen) → fact_at strict limit ts ≡ Ok (x, rest) → (ws : List Seen) → mark_of class.Fact ws ts → FoundParagraph strict limit x ws rest
 unfolding fact_at
 fact_read strict limit ts x rest e ws m =
-    elim (either (next_is class.Name ts)) [
-      | inl is ↦ (
-          let e1 = rw is at e in
-          elim (known (own_block strict limit (after ts))) [
+    elim (known (label_at ts)) [
+      | stop d fails ↦ no_success _ _ (rw fails at e)
+      | success l label ↦ (
+          let e1 = rw label at e in
+          elim (known (own_block strict limit l.1)) [
             | stop d fails ↦ no_success _ _ (rw fails at e1)
             | success b read ↦ (
                 let e2 = rw read at e1 in
-                let f = own_block_read strict limit (after ts) b.0 b.1 read in
+                let g = label_read ts l.0 l.1 label in
+                let f = own_block_read strict limit l.1 b.0 b.1 read in
                 land e2 (record {
-                  spelled = (ts, m, (after ts, inl (marks class.Name (place_at ts) ts (after ts) (token class.Name ts is)), f.spelled));
+                  spelled = (ts, m, (l.1, g.0, f.spelled));
                   shallow = omega (arith, f.shallow);
                   plain = f.plain;
-                  shorter = omega (arith, mark_is_one class.Fact ws ts m, after_is_short ts, f.shorter);
-                }))
-          ])
-      | inr other ↦ (
-          let e1 = rw other at e in
-          elim (known (own_block strict limit ts)) [
-            | stop d fails ↦ no_success _ _ (rw fails at e1)
-            | success b read ↦ (
-                let e2 = rw read at e1 in
-                let f = own_block_read strict limit ts b.0 b.1 read in
-                land e2 (record {
-                  spelled = (ts, m, (ts, inr refl, f.spelled));
-                  shallow = omega (arith, f.shallow);
-                  plain = f.plain;
-                  shorter = omega (arith, mark_is_one class.Fact ws ts m, f.shorter);
+                  shorter = omega (arith, mark_is_one class.Fact ws ts m, g.1, f.shorter);
                 }))
           ])
     ]

@@ -22,7 +22,7 @@ use Rattle.alloy_grammar.specs.Nodes.{class_of_prefix, class_of_quantifier, begi
 use Rattle.alloy_grammar.proofs.Results.{success, stop, known, either, no_success, value_is, rest_is, true_not_false}
 use Rattle.alloy_grammar.proofs.Tokens.{token, marks, expect_read, spelled_read, spelled_is_one, number_read, and_left, counting_sign, counting_levels, quantifier_sign, tightening_sign, tightening_levels, constant_sign, number_of, link_sign, link_level, or_no, comparing_read, after_is_short}
 use Rattle.alloy_grammar.proofs.Lists.{Taken, Shortens, many_read, many_stops, each_of, others_read}
-use Rattle.alloy_grammar.proofs.Found.{Found, land, lowered, named_found, numbered_found, constant_found, bracketed_found, prefixed_found, compared_found, implies_found, implies_else_found, FoundTrees, FoundBehind, trees_found, first_found, block_found, FoundLink, chain_found, FoundStep, join_found, arguments_found, path_found, no_arguments_found, step_is_one}
+use Rattle.alloy_grammar.proofs.ReadTrees.{Found, land, lowered, named_found, numbered_found, constant_found, bracketed_found, prefixed_found, compared_found, implies_found, implies_else_found, FoundTrees, FoundBehind, trees_found, first_found, block_found, FoundLink, chain_found, FoundStep, join_found, arguments_found, path_found, no_arguments_found, step_is_one}
 
 -- what is read is found, and what is left is such
 abbrev pub Reads : Bool → ℕ → ℕ → (List Seen → Type 0) → Parser Tree → Type 0

@@ -36,7 +36,7 @@ unfoldable mutual
   spells_unions no_unions = nothing
   spells_unions (more_unions p b us) = sign class.Plus p before bound_at 1 b (spells_bound b) before spells_unions us
 
-  -- { [ mult ] "->" [ mult ] batom }
+  -- { [ mult ] "->" [ mult ] side }
   pub spells_arrows : BoundArrows → Front
   spells_arrows no_arrows = nothing
   spells_arrows (more_arrows l p r b rest) = mark l before sign class.Arrow p before mark r before bound_at 2 b (spells_bound b) before spells_arrows rest

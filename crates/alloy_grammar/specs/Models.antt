@@ -113,7 +113,7 @@ expected n = mark_of class.Expect before number n
 abbrev pub paragraph : ParagraphTree → Front
 paragraph (signatures is_abstract m ns p fs) =
     qualifiers is_abstract m before mark_of class.Sig before names ns before optional parent p before mark_of class.LeftBrace before listed_if_any field fs before mark_of class.RightBrace
-paragraph (fact b) = mark_of class.Fact before (mark_of class.Name or nothing) before block_text b
+paragraph (fact n b) = mark_of class.Fact before optional name n before block_text b
 paragraph (predicate n ds b) = mark_of class.Pred before name n before parameters ds before block_text b
 paragraph (function n ds m range result) =
     mark_of class.Fun before name n before parameters ds before mark_of class.Colon before mark m before at_level sum_level range (spells range)
@@ -157,7 +157,7 @@ depth_of_target (at_block label b) = depth_of (tree_of_block b)
 
 abbrev pub depth_of_paragraph : ParagraphTree → ℕ
 depth_of_paragraph (signatures is_abstract m ns p fs) = depth_of_fields fs
-depth_of_paragraph (fact b) = depth_of (tree_of_block b)
+depth_of_paragraph (fact n b) = depth_of (tree_of_block b)
 depth_of_paragraph (predicate n ds b) = max (depth_of_parameters ds) (depth_of (tree_of_block b))
 depth_of_paragraph (function n ds m range result) = max (depth_of_parameters ds) (max (depth_of range) (suc (depth_of result)))
 depth_of_paragraph (assertion n b) = depth_of (tree_of_block b)
@@ -181,7 +181,7 @@ IsPlainTarget (at_block label b) = IsPlain (tree_of_block b)
 
 abbrev pub IsPlainParagraph : ParagraphTree → Type 0
 IsPlainParagraph (signatures is_abstract m ns p fs) = ArePlainFields fs
-IsPlainParagraph (fact b) = IsPlain (tree_of_block b)
+IsPlainParagraph (fact n b) = IsPlain (tree_of_block b)
 IsPlainParagraph (predicate n ds b) = ArePlainDeclarations (declarations_of ds) × IsPlain (tree_of_block b)
 IsPlainParagraph (function n ds m range result) = ArePlainDeclarations (declarations_of ds) × IsPlain range × IsPlain result
 IsPlainParagraph (assertion n b) = IsPlain (tree_of_block b)

@@ -78,7 +78,7 @@ abbrev pub comparing_over : Comparison → Bool → Place → Front
 comparing_over c false p = sign (class_of_comparison c) p
 comparing_over c true p = negated_comparison c p
 
--- cmpop = [ "!" | "not" ] ( "in" | "=" ) | "!=" | "<" | ">" | "=<" | "<=" | ">="
+-- comparing = [ "!" | "not" ] ( "in" | "=" ) | "!=" | "<" | ">" | "=<" | "<=" | ">="
 abbrev pub comparing : Comparing → Front
 comparing c = comparing_over c.comparison c.negated c.place
 

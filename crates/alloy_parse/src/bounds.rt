@@ -1,7 +1,7 @@
 // Readers of a field's bound. Each takes how many brackets more may nest (`room`) and where the bound stands.
 ghost use Rattle.std.specs.Prelude.{◌≡◌, ◌<◌, ◌≤◌, length, map, IfOk, if◌then◌else◌, Ok, true};
 ghost use Rattle.alloy_syntax.specs.Readers.{place_at};
-ghost use Rattle.alloy_syntax.specs.Bounds.{is_whole, word_round, operand_in, standing_beside, word_beside, refuse_word, side_over, begins_bound_arrow, bound_arrow_over, more_bound_arrows, bound_arrows_over, operand_over, bound_over, begins_bound, bound_within};
+ghost use Rattle.alloy_syntax.specs.Bounds as spec;
 ghost use Rattle.alloy_syntax.specs.View.{arrow_view};
 ghost use Rattle.alloy_syntax.specs.Gives.{Gives};
 ghost use Rattle.alloy_parse.specs.Bounds.{standing_view, word_view, bounded, operand_view, operands_over};
@@ -44,7 +44,7 @@ struct Before<'a> {
 
 #[tactic(auto, unfolding(alloy_syntax::specs::Bounds::is_whole))]
 fn is_whole(standing: Standing) -> bool
-    ensures { result ≡ is_whole (standing_view standing.entry) }
+    ensures { result ≡ spec.is_whole (standing_view standing.entry) }
 {
     match standing {
         Standing::Whole => true,
@@ -55,7 +55,7 @@ fn is_whole(standing: Standing) -> bool
 // The word of the arrow round a bound.
 #[tactic(auto, unfolding(alloy_syntax::specs::Bounds::word_round))]
 fn word_round<'a>(standing: Standing<'a>) -> Option<Tokens<'a>>
-    ensures { word_view result ≡ word_round (standing_view standing.entry) }
+    ensures { word_view result ≡ spec.word_round (standing_view standing.entry) }
 {
     match standing {
         Standing::Whole | Standing::Part => None,
@@ -66,7 +66,7 @@ fn word_round<'a>(standing: Standing<'a>) -> Option<Tokens<'a>>
 // Where an operand of `+` stands.
 #[tactic(auto, unfolding(alloy_syntax::specs::Bounds::operand_in))]
 fn operand_in<'a>(standing: Standing<'a>) -> Standing<'a>
-    ensures { standing_view result ≡ operand_in (standing_view standing.entry) }
+    ensures { standing_view result ≡ spec.operand_in (standing_view standing.entry) }
 {
     match standing {
         Standing::Whole | Standing::Part => Standing::Part,
@@ -77,7 +77,7 @@ fn operand_in<'a>(standing: Standing<'a>) -> Standing<'a>
 // Where the right side of an arrow stands, the first of whose words is that.
 #[tactic(auto, unfolding(alloy_syntax::specs::Bounds::standing_beside))]
 fn standing_beside<'a>(marked: Option<Tokens<'a>>) -> Standing<'a>
-    ensures { standing_view result ≡ standing_beside (word_view marked.entry) }
+    ensures { standing_view result ≡ spec.standing_beside (word_view marked.entry) }
 {
     match marked {
         None => Standing::Part,
@@ -88,7 +88,7 @@ fn standing_beside<'a>(marked: Option<Tokens<'a>>) -> Standing<'a>
 // The first multiplicity word beside an arrow.
 #[tactic(auto, unfolding(alloy_syntax::specs::Bounds::word_beside))]
 fn word_beside<'a>(tokens: Tokens<'a>) -> Option<Tokens<'a>>
-    ensures { word_view result ≡ word_beside tokens.entry.left.now }
+    ensures { word_view result ≡ spec.word_beside tokens.entry.left.now }
 {
     if is_mark(tokens) {
         return Some(tokens);
@@ -99,7 +99,7 @@ fn word_beside<'a>(tokens: Tokens<'a>) -> Option<Tokens<'a>>
 
 // A word that may not stand there.
 fn refuse_word<'a>(marked: Option<Tokens<'a>>) -> Result<(), Halt<'a>>
-    ensures { Gives (λ x. tt) result (refuse_word true (word_view marked.entry)) }
+    ensures { Gives (λ x. tt) result (spec.refuse_word true (word_view marked.entry)) }
 {
     match marked {
         None => Ok(()),
@@ -109,7 +109,7 @@ fn refuse_word<'a>(marked: Option<Tokens<'a>>) -> Result<(), Halt<'a>>
 
 // A word that may stand there only where that is said.
 fn refuse_unless<'a>(allowed: bool, marked: Option<Tokens<'a>>) -> Result<(), Halt<'a>>
-    ensures { Gives (λ x. tt) result (if allowed then Ok tt else refuse_word true (word_view marked.entry)) }
+    ensures { Gives (λ x. tt) result (if allowed then Ok tt else spec.refuse_word true (word_view marked.entry)) }
 {
     if allowed { Ok(()) } else { refuse_word(marked) }
 }
@@ -117,14 +117,14 @@ fn refuse_unless<'a>(allowed: bool, marked: Option<Tokens<'a>>) -> Result<(), Ha
 // An arrow, or a multiplicity word before one.
 #[tactic(auto, unfolding(alloy_syntax::specs::Bounds::begins_bound_arrow))]
 fn begins_bound_arrow(tokens: Tokens) -> bool
-    ensures { result ≡ begins_bound_arrow tokens.entry.left.now }
+    ensures { result ≡ spec.begins_bound_arrow tokens.entry.left.now }
 {
     next_is(tokens, Class::Arrow) || is_mark(tokens)
 }
 
 #[tactic(auto, unfolding(alloy_syntax::specs::Bounds::begins_bound))]
 fn begins_bound(tokens: Tokens) -> bool
-    ensures { result ≡ begins_bound tokens.entry.left.now }
+    ensures { result ≡ spec.begins_bound tokens.entry.left.now }
 {
     next_is(tokens, Class::LeftParen) || next_is(tokens, Class::Name)
 }
@@ -138,7 +138,7 @@ fn side<'a>(
     room: u32,
     standing: Standing<'a>,
 ) -> Result<(ReadBound<'a>, Tokens<'a>), Halt<'a>>
-    ensures value { Gives (λ x. (bounded x.0, x.1.left.now)) result (side_over (bound_within true room) (standing_view standing.entry) tokens.entry.left.now) }
+    ensures value { Gives (λ x. (bounded x.0, x.1.left.now)) result (spec.side_over (spec.bound_within true room) (standing_view standing.entry) tokens.entry.left.now) }
     ensures shorter { IfOk result (λ x. length x.1.left.now < length tokens.entry.left.now) }
 {
     if !next_is(tokens, Class::LeftParen) {
@@ -169,7 +169,7 @@ fn bound_arrow<'a>(
     room: u32,
     before: Before<'a>,
 ) -> Result<(BoundArrow, Tokens<'a>), Halt<'a>>
-    ensures value { Gives (λ x. (arrow_view x.0, x.1.left.now)) result (bound_arrow_over true (bound_within true room) (standing_view before.entry.standing) (word_view before.entry.marked) before.entry.has_arrow tokens.entry.left.now) }
+    ensures value { Gives (λ x. (arrow_view x.0, x.1.left.now)) result (spec.bound_arrow_over true (spec.bound_within true room) (standing_view before.entry.standing) (word_view before.entry.marked) before.entry.has_arrow tokens.entry.left.now) }
     ensures shorter { IfOk result (λ x. length x.1.left.now < length tokens.entry.left.now) }
 {
     let (place, rest) = expect(after_mark(tokens), Class::Arrow)?;
@@ -200,7 +200,7 @@ fn more_bound_arrows<'a>(
     room: u32,
     standing: Standing<'a>,
 ) -> Result<(Vec<BoundArrow>, Tokens<'a>), Halt<'a>>
-    ensures value { Gives (λ x. (map arrow_view x.0.items, x.1.left.now)) result (more_bound_arrows true (bound_within true room) (standing_view standing.entry) (word_view marked.entry) (arrow_view first) tokens.entry.left.now) }
+    ensures value { Gives (λ x. (map arrow_view x.0.items, x.1.left.now)) result (spec.more_bound_arrows true (spec.bound_within true room) (standing_view standing.entry) (word_view marked.entry) (arrow_view first) tokens.entry.left.now) }
     ensures shorter { IfOk result (λ x. length x.1.left.now ≤ length tokens.entry.left.now) }
 {
     let before = Before {
@@ -228,7 +228,7 @@ fn bound_arrows<'a>(
     room: u32,
     standing: Standing<'a>,
 ) -> Result<(ReadBound<'a>, Tokens<'a>), Halt<'a>>
-    ensures value { Gives (λ x. (bounded x.0, x.1.left.now)) result (bound_arrows_over true (bound_within true room) (standing_view standing.entry) tokens.entry.left.now) }
+    ensures value { Gives (λ x. (bounded x.0, x.1.left.now)) result (spec.bound_arrows_over true (spec.bound_within true room) (standing_view standing.entry) tokens.entry.left.now) }
     ensures shorter { IfOk result (λ x. length x.1.left.now < length tokens.entry.left.now) }
 {
     let (first, rest) = side(alloc, tokens, room, standing)?;
@@ -260,7 +260,7 @@ fn operand<'a>(
     room: u32,
     standing: Standing<'a>,
 ) -> Result<(ReadBound<'a>, Tokens<'a>), Halt<'a>>
-    ensures value { Gives (λ x. ((place_at tokens.entry.left.now, bounded x.0), x.1.left.now)) result (operand_over true (bound_within true room) (standing_view standing.entry) tokens.entry.left.now) }
+    ensures value { Gives (λ x. ((place_at tokens.entry.left.now, bounded x.0), x.1.left.now)) result (spec.operand_over true (spec.bound_within true room) (standing_view standing.entry) tokens.entry.left.now) }
     ensures shorter { IfOk result (λ x. length x.1.left.now < length tokens.entry.left.now) }
 {
     bound_arrows(alloc, after(tokens), room, operand_in(standing))
@@ -275,7 +275,7 @@ fn operands<'a>(
     room: u32,
     standing: Standing<'a>,
 ) -> Result<(Vec<(Place, Bound)>, bool, Tokens<'a>), Halt<'a>>
-    ensures value { Gives (λ x. ((map operand_view x.0.items, x.1), x.2.left.now)) result (operands_over (bound_within true room) (standing_view standing.entry) tokens.entry.left.now) }
+    ensures value { Gives (λ x. ((map operand_view x.0.items, x.1), x.2.left.now)) result (operands_over (spec.bound_within true room) (standing_view standing.entry) tokens.entry.left.now) }
     ensures shorter { IfOk result (λ x. length x.2.left.now ≤ length tokens.entry.left.now) }
 {
     let mut all = Vec::new(alloc);
@@ -299,7 +299,7 @@ fn bound<'a>(
     room: u32,
     standing: Standing<'a>,
 ) -> Result<(ReadBound<'a>, Tokens<'a>), Halt<'a>>
-    ensures value { Gives (λ x. (bounded x.0, x.1.left.now)) result (bound_over true (bound_within true room) (standing_view standing.entry) tokens.entry.left.now) }
+    ensures value { Gives (λ x. (bounded x.0, x.1.left.now)) result (spec.bound_over true (spec.bound_within true room) (standing_view standing.entry) tokens.entry.left.now) }
     ensures shorter { IfOk result (λ x. length x.1.left.now < length tokens.entry.left.now) }
 {
     let (first, rest) = bound_arrows(alloc, tokens, room, standing)?;
@@ -325,7 +325,7 @@ pub fn bound_within<'a>(
     room: u32,
     standing: Standing<'a>,
 ) -> Result<(ReadBound<'a>, Tokens<'a>), Halt<'a>>
-    ensures value { Gives (λ x. (bounded x.0, x.1.left.now)) result (bound_within true room (standing_view standing.entry) tokens.entry.left.now) }
+    ensures value { Gives (λ x. (bounded x.0, x.1.left.now)) result (spec.bound_within true room (standing_view standing.entry) tokens.entry.left.now) }
     ensures shorter { IfOk result (λ x. length x.1.left.now < length tokens.entry.left.now) }
 {
     if room > 0 {

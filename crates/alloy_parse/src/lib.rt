@@ -6,5 +6,5 @@ mod bounds;
 mod fault;
 mod paragraphs;
 
-pub use answer::parse;
-pub use fault::ParseFault;
+pub use crate::answer::parse;
+pub use crate::fault::ParseFault;

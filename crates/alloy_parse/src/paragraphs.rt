@@ -1,7 +1,7 @@
 // Readers of paragraphs, from signatures to commands, and of the whole model.
 ghost use Rattle.std.specs.Prelude.{◌≡◌, ◌<◌, ◌≤◌, length, map, option_map, IfOk, true};
 ghost use Rattle.alloy_syntax.specs.Readers.{next_is, many, others};
-ghost use Rattle.alloy_syntax.specs.Paragraphs.{depth_limit, own_block, field_at, fields_at, parent_at, is_qualifier, qualifier_at, after_qualifier, after_abstract, qualified, signatures_at, fact_at, parameters_to, parameter_list, predicate_at, function_at, assertion_at, entry_at, entries_at, exceptions_at, has_default, scope_at, expected_at, label_at, target_at, command_at, paragraph_at, is_left, heading_at, ordering_at, open_at, model_of};
+ghost use Rattle.alloy_syntax.specs.Paragraphs as spec;
 ghost use Rattle.alloy_syntax.specs.View.{declaration_view, field_view, block_view, target_view, scope_view, paragraph_view, model_view};
 ghost use Rattle.alloy_syntax.specs.Gives.{Gives};
 
@@ -26,7 +26,7 @@ const DEPTH_LIMIT: u32 = 200;
 
 // A paragraph's own block.
 fn own_block<'a>(alloc: Global, tokens: Tokens<'a>) -> Result<(Block, Tokens<'a>), Halt<'a>>
-    ensures value { Gives (λ x. (block_view x.0, x.1.left.now)) result (own_block true depth_limit tokens.entry.left.now) }
+    ensures value { Gives (λ x. (block_view x.0, x.1.left.now)) result (spec.own_block true spec.depth_limit tokens.entry.left.now) }
     ensures shorter { IfOk result (λ x. length x.1.left.now < length tokens.entry.left.now) }
 {
     nodes::block(alloc, tokens, DEPTH_LIMIT)
@@ -37,7 +37,7 @@ fn own_block<'a>(alloc: Global, tokens: Tokens<'a>) -> Result<(Block, Tokens<'a>
 // Names with one bound.
 #[tactic(auto, unfolding(alloy_syntax::specs::Paragraphs::field_at))]
 fn field<'a>(alloc: Global, tokens: Tokens<'a>) -> Result<(Field, Tokens<'a>), Halt<'a>>
-    ensures value { Gives (λ x. (field_view x.0, x.1.left.now)) result (field_at true depth_limit tokens.entry.left.now) }
+    ensures value { Gives (λ x. (field_view x.0, x.1.left.now)) result (spec.field_at true spec.depth_limit tokens.entry.left.now) }
     ensures shorter { IfOk result (λ x. length x.1.left.now < length tokens.entry.left.now) }
 {
     let (names, rest) = names(alloc, tokens)?;
@@ -58,7 +58,7 @@ fn more_fields<'a>(
     first: Field,
     tokens: Tokens<'a>,
 ) -> Result<(Vec<Field>, Tokens<'a>), Halt<'a>>
-    ensures value { Gives (λ x. (map field_view x.0.items, x.1.left.now)) result (others (field_at true depth_limit) (field_view first) tokens.entry.left.now) }
+    ensures value { Gives (λ x. (map field_view x.0.items, x.1.left.now)) result (others (spec.field_at true spec.depth_limit) (field_view first) tokens.entry.left.now) }
     ensures shorter { IfOk result (λ x. length x.1.left.now ≤ length tokens.entry.left.now) }
 {
     let mut all = Vec::new(alloc);
@@ -75,7 +75,7 @@ fn more_fields<'a>(
 // The fields of a signature, if it has any.
 #[tactic(auto, unfolding(alloy_syntax::specs::Paragraphs::fields_at, alloy_syntax::specs::Readers::listed))]
 fn fields<'a>(alloc: Global, tokens: Tokens<'a>) -> Result<(Vec<Field>, Tokens<'a>), Halt<'a>>
-    ensures value { Gives (λ x. (map field_view x.0.items, x.1.left.now)) result (fields_at true depth_limit tokens.entry.left.now) }
+    ensures value { Gives (λ x. (map field_view x.0.items, x.1.left.now)) result (spec.fields_at true spec.depth_limit tokens.entry.left.now) }
     ensures shorter { IfOk result (λ x. length x.1.left.now ≤ length tokens.entry.left.now) }
 {
     if next_is(tokens, Class::RightBrace) {
@@ -88,7 +88,7 @@ fn fields<'a>(alloc: Global, tokens: Tokens<'a>) -> Result<(Vec<Field>, Tokens<'
 // A parent behind `extends` or `in`, if there is one.
 #[tactic(auto, unfolding(alloy_syntax::specs::Paragraphs::parent_at))]
 fn parent<'a>(alloc: Global, tokens: Tokens<'a>) -> Result<(Option<Parent>, Tokens<'a>), Halt<'a>>
-    ensures value { Gives (λ x. (x.0, x.1.left.now)) result (parent_at tokens.entry.left.now) }
+    ensures value { Gives (λ x. (x.0, x.1.left.now)) result (spec.parent_at tokens.entry.left.now) }
     ensures shorter { IfOk result (λ x. length x.1.left.now ≤ length tokens.entry.left.now) }
 {
     if next_is(tokens, Class::Extends) {
@@ -115,14 +115,14 @@ struct Qualifiers<'a> {
 // Whether `one`, `lone` or `some` stands there.
 #[tactic(auto, unfolding(alloy_syntax::specs::Paragraphs::is_qualifier))]
 fn is_qualifier(tokens: Tokens) -> bool
-    ensures { result ≡ is_qualifier tokens.entry.left.now }
+    ensures { result ≡ spec.is_qualifier tokens.entry.left.now }
 {
     is_mark(tokens) && !next_is(tokens, Class::Set)
 }
 
 #[tactic(auto, unfolding(alloy_syntax::specs::Paragraphs::qualifier_at))]
 fn qualifier_at(tokens: Tokens) -> Option<Mark>
-    ensures { result ≡ qualifier_at tokens.entry.left.now }
+    ensures { result ≡ spec.qualifier_at tokens.entry.left.now }
 {
     if is_qualifier(tokens) {
         mark_at(tokens)
@@ -132,7 +132,7 @@ fn qualifier_at(tokens: Tokens) -> Option<Mark>
 }
 
 fn after_qualifier<'a>(tokens: Tokens<'a>) -> Tokens<'a>
-    ensures value { result.left.now ≡ after_qualifier tokens.entry.left.now }
+    ensures value { result.left.now ≡ spec.after_qualifier tokens.entry.left.now }
     ensures shorter { length result.left.now ≤ length tokens.entry.left.now }
 {
     if is_qualifier(tokens) {
@@ -143,7 +143,7 @@ fn after_qualifier<'a>(tokens: Tokens<'a>) -> Tokens<'a>
 }
 
 fn after_abstract<'a>(tokens: Tokens<'a>) -> Tokens<'a>
-    ensures value { result.left.now ≡ after_abstract tokens.entry.left.now }
+    ensures value { result.left.now ≡ spec.after_abstract tokens.entry.left.now }
     ensures shorter { length result.left.now ≤ length tokens.entry.left.now }
 {
     if next_is(tokens, Class::Abstract) {
@@ -156,9 +156,9 @@ fn after_abstract<'a>(tokens: Tokens<'a>) -> Tokens<'a>
 // The words before `sig`, each at most once, in any order.
 #[tactic(auto, unfolding(alloy_syntax::specs::Paragraphs::qualified))]
 fn qualified<'a>(tokens: Tokens<'a>) -> Qualifiers<'a>
-    ensures is_abstract { result.is_abstract ≡ (qualified tokens.entry.left.now).is_abstract }
-    ensures mark { result.mark ≡ (qualified tokens.entry.left.now).mark }
-    ensures behind { result.behind.left.now ≡ (qualified tokens.entry.left.now).behind }
+    ensures is_abstract { result.is_abstract ≡ (spec.qualified tokens.entry.left.now).is_abstract }
+    ensures mark { result.mark ≡ (spec.qualified tokens.entry.left.now).mark }
+    ensures behind { result.behind.left.now ≡ (spec.qualified tokens.entry.left.now).behind }
     ensures shorter { length result.behind.left.now ≤ length tokens.entry.left.now }
 {
     if next_is(tokens, Class::Abstract) {
@@ -180,7 +180,7 @@ fn qualified<'a>(tokens: Tokens<'a>) -> Qualifiers<'a>
 // Signatures. A block behind them is refused.
 #[tactic(auto, unfolding(alloy_syntax::specs::Paragraphs::signatures_at))]
 fn signatures<'a>(alloc: Global, tokens: Tokens<'a>) -> Result<(Paragraph, Tokens<'a>), Halt<'a>>
-    ensures value { Gives (λ x. (paragraph_view x.0, x.1.left.now)) result (signatures_at true depth_limit tokens.entry.left.now) }
+    ensures value { Gives (λ x. (paragraph_view x.0, x.1.left.now)) result (spec.signatures_at true spec.depth_limit tokens.entry.left.now) }
     ensures shorter { IfOk result (λ x. length x.1.left.now < length tokens.entry.left.now) }
 {
     let front = qualified(tokens);
@@ -205,18 +205,27 @@ fn signatures<'a>(alloc: Global, tokens: Tokens<'a>) -> Result<(Paragraph, Token
 
 // ---- facts, predicates, functions and assertions, behind their first word
 
+// A name, if there is one.
+#[tactic(auto, unfolding(alloy_syntax::specs::Paragraphs::label_at))]
+fn label<'a>(alloc: Global, tokens: Tokens<'a>) -> Result<(Option<Name>, Tokens<'a>), Halt<'a>>
+    ensures value { Gives (λ x. (x.0, x.1.left.now)) result (spec.label_at tokens.entry.left.now) }
+    ensures shorter { IfOk result (λ x. length x.1.left.now ≤ length tokens.entry.left.now) }
+{
+    if next_is(tokens, Class::Name) {
+        let (name, rest) = name(alloc, tokens)?;
+        return Ok((Some(name), rest));
+    }
+    Ok((None, tokens))
+}
+
 #[tactic(auto, unfolding(alloy_syntax::specs::Paragraphs::fact_at))]
 fn fact<'a>(alloc: Global, tokens: Tokens<'a>) -> Result<(Paragraph, Tokens<'a>), Halt<'a>>
-    ensures value { Gives (λ x. (paragraph_view x.0, x.1.left.now)) result (fact_at true depth_limit tokens.entry.left.now) }
+    ensures value { Gives (λ x. (paragraph_view x.0, x.1.left.now)) result (spec.fact_at true spec.depth_limit tokens.entry.left.now) }
     ensures shorter { IfOk result (λ x. length x.1.left.now < length tokens.entry.left.now) }
 {
-    let rest = if next_is(tokens, Class::Name) {
-        after(tokens)
-    } else {
-        tokens
-    };
+    let (name, rest) = label(alloc, tokens)?;
     let (body, rest) = own_block(alloc, rest)?;
-    Ok((Paragraph::Fact(body), rest))
+    Ok((Paragraph::Fact(name, body), rest))
 }
 
 // Parameters, and the bracket that closes them.
@@ -225,7 +234,7 @@ fn parameters_to<'a>(
     tokens: Tokens<'a>,
     closing: Class,
 ) -> Result<(Vec<Declaration>, Tokens<'a>), Halt<'a>>
-    ensures value { Gives (λ x. (map declaration_view x.0.items, x.1.left.now)) result (parameters_to true depth_limit closing tokens.entry.left.now) }
+    ensures value { Gives (λ x. (map declaration_view x.0.items, x.1.left.now)) result (spec.parameters_to true spec.depth_limit closing tokens.entry.left.now) }
     ensures shorter { IfOk result (λ x. length x.1.left.now ≤ length tokens.entry.left.now) }
 {
     if next_is(tokens, closing) {
@@ -242,7 +251,7 @@ fn parameters<'a>(
     alloc: Global,
     tokens: Tokens<'a>,
 ) -> Result<(Vec<Declaration>, Tokens<'a>), Halt<'a>>
-    ensures value { Gives (λ x. (map declaration_view x.0.items, x.1.left.now)) result (parameter_list true depth_limit tokens.entry.left.now) }
+    ensures value { Gives (λ x. (map declaration_view x.0.items, x.1.left.now)) result (spec.parameter_list true spec.depth_limit tokens.entry.left.now) }
     ensures shorter { IfOk result (λ x. length x.1.left.now ≤ length tokens.entry.left.now) }
 {
     if next_is(tokens, Class::LeftBracket) {
@@ -256,7 +265,7 @@ fn parameters<'a>(
 
 #[tactic(auto, unfolding(alloy_syntax::specs::Paragraphs::predicate_at))]
 fn predicate<'a>(alloc: Global, tokens: Tokens<'a>) -> Result<(Paragraph, Tokens<'a>), Halt<'a>>
-    ensures value { Gives (λ x. (paragraph_view x.0, x.1.left.now)) result (predicate_at true depth_limit tokens.entry.left.now) }
+    ensures value { Gives (λ x. (paragraph_view x.0, x.1.left.now)) result (spec.predicate_at true spec.depth_limit tokens.entry.left.now) }
     ensures shorter { IfOk result (λ x. length x.1.left.now < length tokens.entry.left.now) }
 {
     let (name, rest) = name(alloc, tokens)?;
@@ -267,7 +276,7 @@ fn predicate<'a>(alloc: Global, tokens: Tokens<'a>) -> Result<(Paragraph, Tokens
 
 #[tactic(auto, unfolding(alloy_syntax::specs::Paragraphs::function_at))]
 fn function<'a>(alloc: Global, tokens: Tokens<'a>) -> Result<(Paragraph, Tokens<'a>), Halt<'a>>
-    ensures value { Gives (λ x. (paragraph_view x.0, x.1.left.now)) result (function_at true depth_limit tokens.entry.left.now) }
+    ensures value { Gives (λ x. (paragraph_view x.0, x.1.left.now)) result (spec.function_at true spec.depth_limit tokens.entry.left.now) }
     ensures shorter { IfOk result (λ x. length x.1.left.now < length tokens.entry.left.now) }
 {
     let (name, rest) = name(alloc, tokens)?;
@@ -288,7 +297,7 @@ fn function<'a>(alloc: Global, tokens: Tokens<'a>) -> Result<(Paragraph, Tokens<
 
 #[tactic(auto, unfolding(alloy_syntax::specs::Paragraphs::assertion_at))]
 fn assertion<'a>(alloc: Global, tokens: Tokens<'a>) -> Result<(Paragraph, Tokens<'a>), Halt<'a>>
-    ensures value { Gives (λ x. (paragraph_view x.0, x.1.left.now)) result (assertion_at true depth_limit tokens.entry.left.now) }
+    ensures value { Gives (λ x. (paragraph_view x.0, x.1.left.now)) result (spec.assertion_at true spec.depth_limit tokens.entry.left.now) }
     ensures shorter { IfOk result (λ x. length x.1.left.now < length tokens.entry.left.now) }
 {
     let (name, rest) = name(alloc, tokens)?;
@@ -301,7 +310,7 @@ fn assertion<'a>(alloc: Global, tokens: Tokens<'a>) -> Result<(Paragraph, Tokens
 // The size that a scope gives to a signature.
 #[tactic(auto, unfolding(alloy_syntax::specs::Paragraphs::entry_at))]
 fn entry<'a>(alloc: Global, tokens: Tokens<'a>) -> Result<(Entry, Tokens<'a>), Halt<'a>>
-    ensures value { Gives (λ x. (x.0, x.1.left.now)) result (entry_at tokens.entry.left.now) }
+    ensures value { Gives (λ x. (x.0, x.1.left.now)) result (spec.entry_at tokens.entry.left.now) }
     ensures shorter { IfOk result (λ x. length x.1.left.now < length tokens.entry.left.now) }
 {
     let exactly = next_is(tokens, Class::Exactly);
@@ -322,7 +331,7 @@ fn more_entries<'a>(
     first: Entry,
     tokens: Tokens<'a>,
 ) -> Result<(Vec<Entry>, Tokens<'a>), Halt<'a>>
-    ensures value { Gives (λ x. (x.0.items, x.1.left.now)) result (others entry_at first tokens.entry.left.now) }
+    ensures value { Gives (λ x. (x.0.items, x.1.left.now)) result (others spec.entry_at first tokens.entry.left.now) }
     ensures shorter { IfOk result (λ x. length x.1.left.now ≤ length tokens.entry.left.now) }
 {
     let mut all = Vec::new(alloc);
@@ -338,7 +347,7 @@ fn more_entries<'a>(
 
 #[tactic(auto, unfolding(alloy_syntax::specs::Paragraphs::entries_at, alloy_syntax::specs::Readers::listed))]
 fn entries<'a>(alloc: Global, tokens: Tokens<'a>) -> Result<(Vec<Entry>, Tokens<'a>), Halt<'a>>
-    ensures value { Gives (λ x. (x.0.items, x.1.left.now)) result (entries_at tokens.entry.left.now) }
+    ensures value { Gives (λ x. (x.0.items, x.1.left.now)) result (spec.entries_at tokens.entry.left.now) }
     ensures shorter { IfOk result (λ x. length x.1.left.now < length tokens.entry.left.now) }
 {
     let (first, rest) = entry(alloc, tokens)?;
@@ -348,7 +357,7 @@ fn entries<'a>(alloc: Global, tokens: Tokens<'a>) -> Result<(Vec<Entry>, Tokens<
 // The entries behind `but`, if it is there.
 #[tactic(auto, unfolding(alloy_syntax::specs::Paragraphs::exceptions_at))]
 fn exceptions<'a>(alloc: Global, tokens: Tokens<'a>) -> Result<(Vec<Entry>, Tokens<'a>), Halt<'a>>
-    ensures value { Gives (λ x. (x.0.items, x.1.left.now)) result (exceptions_at tokens.entry.left.now) }
+    ensures value { Gives (λ x. (x.0.items, x.1.left.now)) result (spec.exceptions_at tokens.entry.left.now) }
     ensures shorter { IfOk result (λ x. length x.1.left.now ≤ length tokens.entry.left.now) }
 {
     if next_is(tokens, Class::But) {
@@ -360,7 +369,7 @@ fn exceptions<'a>(alloc: Global, tokens: Tokens<'a>) -> Result<(Vec<Entry>, Toke
 // Whether a number stands there that no name follows.
 #[tactic(auto, unfolding(alloy_syntax::specs::Paragraphs::has_default))]
 fn has_default(tokens: Tokens) -> bool
-    ensures { result ≡ has_default tokens.entry.left.now }
+    ensures { result ≡ spec.has_default tokens.entry.left.now }
 {
     next_is(tokens, Class::Number) && !next_is(after(tokens), Class::Name)
 }
@@ -368,7 +377,7 @@ fn has_default(tokens: Tokens) -> bool
 // A command's scope, if it has one.
 #[tactic(auto, unfolding(alloy_syntax::specs::Paragraphs::scope_at))]
 fn scope<'a>(alloc: Global, tokens: Tokens<'a>) -> Result<(Option<Scope>, Tokens<'a>), Halt<'a>>
-    ensures value { Gives (λ x. (option_map scope_view x.0, x.1.left.now)) result (scope_at tokens.entry.left.now) }
+    ensures value { Gives (λ x. (option_map scope_view x.0, x.1.left.now)) result (spec.scope_at tokens.entry.left.now) }
     ensures shorter { IfOk result (λ x. length x.1.left.now ≤ length tokens.entry.left.now) }
 {
     if !next_is(tokens, Class::For) {
@@ -388,7 +397,7 @@ fn scope<'a>(alloc: Global, tokens: Tokens<'a>) -> Result<(Option<Scope>, Tokens
 // The number behind `expect`, if it is there.
 #[tactic(auto, unfolding(alloy_syntax::specs::Paragraphs::expected_at))]
 fn expected<'a>(tokens: Tokens<'a>) -> Result<(Option<Number>, Tokens<'a>), Halt<'a>>
-    ensures value { Gives (λ x. (x.0, x.1.left.now)) result (expected_at tokens.entry.left.now) }
+    ensures value { Gives (λ x. (x.0, x.1.left.now)) result (spec.expected_at tokens.entry.left.now) }
     ensures shorter { IfOk result (λ x. length x.1.left.now ≤ length tokens.entry.left.now) }
 {
     if next_is(tokens, Class::Expect) {
@@ -398,23 +407,10 @@ fn expected<'a>(tokens: Tokens<'a>) -> Result<(Option<Number>, Tokens<'a>), Halt
     Ok((None, tokens))
 }
 
-// A name, if there is one.
-#[tactic(auto, unfolding(alloy_syntax::specs::Paragraphs::label_at))]
-fn label<'a>(alloc: Global, tokens: Tokens<'a>) -> Result<(Option<Name>, Tokens<'a>), Halt<'a>>
-    ensures value { Gives (λ x. (x.0, x.1.left.now)) result (label_at tokens.entry.left.now) }
-    ensures shorter { IfOk result (λ x. length x.1.left.now ≤ length tokens.entry.left.now) }
-{
-    if next_is(tokens, Class::Name) {
-        let (name, rest) = name(alloc, tokens)?;
-        return Ok((Some(name), rest));
-    }
-    Ok((None, tokens))
-}
-
 // What a command runs or checks: a name, or a block, which may have a label.
 #[tactic(auto, unfolding(alloy_syntax::specs::Paragraphs::target_at))]
 fn target<'a>(alloc: Global, tokens: Tokens<'a>) -> Result<(Target, Tokens<'a>), Halt<'a>>
-    ensures value { Gives (λ x. (target_view x.0, x.1.left.now)) result (target_at true depth_limit tokens.entry.left.now) }
+    ensures value { Gives (λ x. (target_view x.0, x.1.left.now)) result (spec.target_at true spec.depth_limit tokens.entry.left.now) }
     ensures shorter { IfOk result (λ x. length x.1.left.now < length tokens.entry.left.now) }
 {
     if next_is(tokens, Class::Name) && !next_is(after(tokens), Class::LeftBrace) {
@@ -433,7 +429,7 @@ fn command<'a>(
     kind: CommandKind,
     place: Place,
 ) -> Result<(Paragraph, Tokens<'a>), Halt<'a>>
-    ensures value { Gives (λ x. (paragraph_view x.0, x.1.left.now)) result (command_at true depth_limit kind place tokens.entry.left.now) }
+    ensures value { Gives (λ x. (paragraph_view x.0, x.1.left.now)) result (spec.command_at true spec.depth_limit kind place tokens.entry.left.now) }
     ensures shorter { IfOk result (λ x. length x.1.left.now < length tokens.entry.left.now) }
 {
     let (target, rest) = target(alloc, tokens)?;
@@ -453,7 +449,7 @@ fn command<'a>(
 
 #[tactic(auto, unfolding(alloy_syntax::specs::Paragraphs::paragraph_at))]
 fn paragraph<'a>(alloc: Global, tokens: Tokens<'a>) -> Result<(Paragraph, Tokens<'a>), Halt<'a>>
-    ensures value { Gives (λ x. (paragraph_view x.0, x.1.left.now)) result (paragraph_at true depth_limit tokens.entry.left.now) }
+    ensures value { Gives (λ x. (paragraph_view x.0, x.1.left.now)) result (spec.paragraph_at true spec.depth_limit tokens.entry.left.now) }
     ensures shorter { IfOk result (λ x. length x.1.left.now < length tokens.entry.left.now) }
 {
     if next_is(tokens, Class::Fact) {
@@ -479,7 +475,7 @@ fn paragraph<'a>(alloc: Global, tokens: Tokens<'a>) -> Result<(Paragraph, Tokens
 
 #[tactic(auto, unfolding(alloy_syntax::specs::Paragraphs::is_left))]
 fn is_left(tokens: Tokens) -> bool
-    ensures { result ≡ is_left tokens.entry.left.now }
+    ensures { result ≡ spec.is_left tokens.entry.left.now }
 {
     !tokens.left.is_empty()
 }
@@ -488,7 +484,7 @@ fn all_paragraphs<'a>(
     alloc: Global,
     tokens: Tokens<'a>,
 ) -> Result<(Vec<Paragraph>, Tokens<'a>), Halt<'a>>
-    ensures { Gives (λ x. (map paragraph_view x.0.items, x.1.left.now)) result (many is_left (paragraph_at true depth_limit) tokens.entry.left.now) }
+    ensures { Gives (λ x. (map paragraph_view x.0.items, x.1.left.now)) result (many spec.is_left (spec.paragraph_at true spec.depth_limit) tokens.entry.left.now) }
 {
     let mut all = Vec::new(alloc);
     let mut rest = tokens;
@@ -503,7 +499,7 @@ fn all_paragraphs<'a>(
 // The name behind `module`, if it is there.
 #[tactic(auto, unfolding(alloy_syntax::specs::Paragraphs::heading_at))]
 fn heading<'a>(alloc: Global, tokens: Tokens<'a>) -> Result<(Option<Name>, Tokens<'a>), Halt<'a>>
-    ensures { Gives (λ x. (x.0, x.1.left.now)) result (heading_at tokens.entry.left.now) }
+    ensures { Gives (λ x. (x.0, x.1.left.now)) result (spec.heading_at tokens.entry.left.now) }
 {
     if next_is(tokens, Class::Module) {
         let (name, rest) = name(alloc, after(tokens))?;
@@ -515,7 +511,7 @@ fn heading<'a>(alloc: Global, tokens: Tokens<'a>) -> Result<(Option<Name>, Token
 // The module of an `open`, which is that of orderings.
 #[tactic(auto, unfolding(alloy_syntax::specs::Paragraphs::ordering_at))]
 fn ordering<'a>(alloc: Global, tokens: Tokens<'a>) -> Result<(Name, Tokens<'a>), Halt<'a>>
-    ensures value { Gives (λ x. (x.0, x.1.left.now)) result (ordering_at tokens.entry.left.now) }
+    ensures value { Gives (λ x. (x.0, x.1.left.now)) result (spec.ordering_at tokens.entry.left.now) }
     ensures shorter { IfOk result (λ x. length x.1.left.now < length tokens.entry.left.now) }
 {
     let (module, rest) = path(alloc, tokens)?;
@@ -529,7 +525,7 @@ fn ordering<'a>(alloc: Global, tokens: Tokens<'a>) -> Result<(Name, Tokens<'a>),
 // An ordering, with its first word.
 #[tactic(auto, unfolding(alloy_syntax::specs::Paragraphs::open_at))]
 fn open<'a>(alloc: Global, tokens: Tokens<'a>) -> Result<(Open, Tokens<'a>), Halt<'a>>
-    ensures value { Gives (λ x. (x.0, x.1.left.now)) result (open_at tokens.entry.left.now) }
+    ensures value { Gives (λ x. (x.0, x.1.left.now)) result (spec.open_at tokens.entry.left.now) }
     ensures shorter { IfOk result (λ x. length x.1.left.now < length tokens.entry.left.now) }
 {
     let (_, rest) = ordering(alloc, after(tokens))?;
@@ -542,7 +538,7 @@ fn open<'a>(alloc: Global, tokens: Tokens<'a>) -> Result<(Open, Tokens<'a>), Hal
 }
 
 fn opens<'a>(alloc: Global, tokens: Tokens<'a>) -> Result<(Vec<Open>, Tokens<'a>), Halt<'a>>
-    ensures { Gives (λ x. (x.0.items, x.1.left.now)) result (many (next_is Class.Open) open_at tokens.entry.left.now) }
+    ensures { Gives (λ x. (x.0.items, x.1.left.now)) result (many (next_is Class.Open) spec.open_at tokens.entry.left.now) }
 {
     let mut all = Vec::new(alloc);
     let mut rest = tokens;
@@ -557,7 +553,7 @@ fn opens<'a>(alloc: Global, tokens: Tokens<'a>) -> Result<(Vec<Open>, Tokens<'a>
 /// The model that the tokens are, or where reading stops.
 #[tactic(auto, unfolding(alloy_syntax::specs::Paragraphs::model_at))]
 pub fn model<'a>(alloc: Global, tokens: Tokens<'a>) -> Result<Model, Halt<'a>>
-    ensures { Gives model_view result (model_of tokens.entry.left.now) }
+    ensures { Gives model_view result (spec.model_of tokens.entry.left.now) }
 {
     let (heading, rest) = heading(alloc, tokens)?;
     let (opens, rest) = opens(alloc, rest)?;

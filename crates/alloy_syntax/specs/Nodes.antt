@@ -290,7 +290,7 @@ unfoldable pub quantifier_of : List Seen → Quantifier
 quantifier_of ts =
     if next_is class.Some ts then quantifier.Some else (if next_is class.No ts then quantifier.No else (if next_is class.Lone ts then quantifier.Lone else quantifier.One))
 
--- negation = ( "!" | "not" ) negation | quantified | comparison
+-- negation = ( "!" | "not" ) negation | quantified | let | comparison
 unfoldable pub negation_over : Reader → Around → Parser Tree
 negation_over i a ts =
     if next_is class.Not ts then behind_prefix prefix.Not (i a inside.Negation) ts

@@ -83,8 +83,12 @@ signatures_at strict limit ts = do
 
 -- ---- facts, predicates, functions and assertions, behind their first word
 
+-- [ name ]
+unfoldable pub label_at : Parser (Option Name)
+label_at ts = if next_is class.Name ts then name_at ts >>= (λ x. Ok (Some x.0, x.1)) else Ok (None, ts)
+
 unfoldable pub fact_at : Bool → ℕ → Parser ParagraphTree
-fact_at strict limit ts = own_block strict limit (if next_is class.Name ts then after ts else ts) >>= λ b. Ok (fact b.0, b.1)
+fact_at strict limit ts = label_at ts >>= λ label. own_block strict limit label.1 >>= λ b. Ok (fact label.0 b.0, b.1)
 
 -- [ decls ] and the closing bracket, in the list's own brackets
 abbrev pub parameters_to : Bool → ℕ → Class → Parser (List DeclarationTree)
@@ -152,10 +156,6 @@ scope_at ts =
 -- [ "expect" number ]
 unfoldable pub expected_at : Parser (Option Number)
 expected_at ts = if next_is class.Expect ts then number_at (after ts) >>= (λ n. Ok (Some n.0, n.1)) else Ok (None, ts)
-
--- [ name ]
-unfoldable pub label_at : Parser (Option Name)
-label_at ts = if next_is class.Name ts then name_at ts >>= (λ x. Ok (Some x.0, x.1)) else Ok (None, ts)
 
 -- a name, or a block, which may have a label
 unfoldable pub target_at : Bool → ℕ → Parser TargetTree

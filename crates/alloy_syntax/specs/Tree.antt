@@ -154,7 +154,7 @@ pub record ScopeTree : Type 0 where
 -- a paragraph
 pub data ParagraphTree : Type 0 where
   signatures : Bool → Option Mark → List Name → Option Parent → List FieldTree → ParagraphTree
-  fact : BlockTree → ParagraphTree
+  fact : Option Name → BlockTree → ParagraphTree
   predicate : Name → List DeclarationTree → BlockTree → ParagraphTree
   function : Name → List DeclarationTree → Option Mark → Tree → Tree → ParagraphTree
   assertion : Name → BlockTree → ParagraphTree

@@ -113,7 +113,7 @@ function_view f = function f.name (map declaration_view f.parameters.items) f.ma
 
 abbrev pub paragraph_view : Paragraph → ParagraphTree
 paragraph_view (paragraph.Signatures s) = signatures_view s
-paragraph_view (paragraph.Fact b) = fact (block_view b)
+paragraph_view (paragraph.Fact n b) = fact n (block_view b)
 paragraph_view (paragraph.Predicate n ds b) = predicate n (map declaration_view ds.items) (block_view b)
 paragraph_view (paragraph.Function f) = function_view f
 paragraph_view (paragraph.Assertion n b) = assertion n (block_view b)

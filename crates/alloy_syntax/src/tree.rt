@@ -271,7 +271,8 @@ pub struct Function {
 #[derive(Drop)]
 pub enum Paragraph {
     Signatures(Signatures),
-    Fact(Block),
+    /// A fact, and its name if it has one. The name names nothing.
+    Fact(Option<Name>, Block),
     Predicate(Name, Vec<Declaration>, Block),
     Function(Function),
     Assertion(Name, Block),

@@ -35,6 +35,7 @@ fn signatures(alloc: Global, count: usize) -> Result<Named, AllocError> {
         fields: Vec::new(alloc),
         callees: Vec::new(alloc),
         facts: Vec::new(alloc),
+        fact_names: Vec::new(alloc),
         assertions: Vec::new(alloc),
         commands: Vec::new(alloc),
         parts: Vec::new(alloc),

@@ -81,6 +81,7 @@ pub fn model(alloc: Global, field: Field) -> Result<Named, AllocError>
         fields: vec![in alloc; field]?,
         callees: Vec::new(alloc),
         facts: Vec::new(alloc),
+        fact_names: Vec::new(alloc),
         assertions: Vec::new(alloc),
         commands: Vec::new(alloc),
         parts: Vec::new(alloc),

@@ -101,6 +101,7 @@ pub fn model(alloc: Global, callees: Vec<Callee>) -> Result<Named, AllocError> {
         fields,
         callees,
         facts: Vec::new(alloc),
+        fact_names: Vec::new(alloc),
         assertions: Vec::new(alloc),
         commands: Vec::new(alloc),
         parts: Vec::new(alloc),

@@ -23,7 +23,7 @@ pub runs_at : (text : List ℕ) (ps : List ParagraphTree) → flat_map (predicat
 runs_at text [] = refl
 runs_at text (tree.predicate n ds b ∷ ps) = ap (λ more. (if bytes_eq n.text text then list_any is_higher_domain ds ∷ [] else []) ++ more) (runs_at text ps)
 runs_at text (tree.signatures a mark names parent fields ∷ ps) = runs_at text ps
-runs_at text (tree.fact b ∷ ps) = runs_at text ps
+runs_at text (tree.fact n b ∷ ps) = runs_at text ps
 runs_at text (tree.function n ds mark range body ∷ ps) = runs_at text ps
 runs_at text (tree.assertion n b ∷ ps) = runs_at text ps
 runs_at text (tree.command kind p target scope expected ∷ ps) = runs_at text ps

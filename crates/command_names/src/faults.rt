@@ -45,7 +45,7 @@ fn fault_of(predicates: &Predicates, names: &Names, paragraph: &Paragraph) -> Op
     match paragraph {
         Paragraph::Command(command) => command_fault(predicates, names, command),
         Paragraph::Signatures(_) => None,
-        Paragraph::Fact(_) => None,
+        Paragraph::Fact(_, _) => None,
         Paragraph::Predicate(_, _, _) => None,
         Paragraph::Function(_) => None,
         Paragraph::Assertion(_, _) => None,

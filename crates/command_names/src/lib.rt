@@ -7,4 +7,3 @@ mod faults;
 mod predicates;
 
 pub use crate::faults::first_fault;
-pub use std::alloc::AllocError as NoMemory;

@@ -43,7 +43,7 @@ fn add(alloc: Global, all: &mut Predicates, paragraph: &Paragraph) -> Result<(),
             Ok(enter(alloc, all, name, has_higher(declarations))?)
         }
         Paragraph::Signatures(_) => Ok(()),
-        Paragraph::Fact(_) => Ok(()),
+        Paragraph::Fact(_, _) => Ok(()),
         Paragraph::Function(_) => Ok(()),
         Paragraph::Assertion(_, _) => Ok(()),
         Paragraph::Command(_) => Ok(()),

@@ -36,6 +36,7 @@ fn model(alloc: Global) -> Result<Named, AllocError> {
         fields: Vec::new(alloc),
         callees: vec![in alloc; callee(alloc)?]?,
         facts: vec![in alloc; formulas(alloc)?]?,
+        fact_names: vec![in alloc; None]?,
         assertions: vec![in alloc; formulas(alloc)?]?,
         commands: Vec::new(alloc),
         parts: Vec::new(alloc),

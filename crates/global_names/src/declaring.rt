@@ -38,7 +38,7 @@ fn declare(alloc: Global, names: &mut Names, paragraph: &Paragraph) -> Result<()
             Ok(declare_callee(alloc, names, &function.name, true, &function.parameters)?)
         }
         Paragraph::Assertion(name, _) => Ok(names.declare_assertion(alloc, name.text.text())?),
-        Paragraph::Fact(_) => Ok(()),
+        Paragraph::Fact(_, _) => Ok(()),
         Paragraph::Command(_) => Ok(()),
     }
 }

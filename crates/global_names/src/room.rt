@@ -1,8 +1,6 @@
 // How many fields a model may have.
 use alloy_syntax::tree::{Field, Paragraph};
-
-// The fields of n signatures with m names in one paragraph are n * m, so a short text can have very many.
-const MOST_FIELDS: usize = 1_048_576;
+use name_tables::MOST_FIELDS;
 
 // Whether the fields of all paragraphs are not too many to be put into tables.
 pub fn has_room(paragraphs: &[Paragraph]) -> bool {

@@ -371,13 +371,19 @@ fn push_function(out: &mut String, function: &Function) -> Result<(), Fail> {
     push_around(out, " {", &function.body, "}")
 }
 
+fn push_fact(out: &mut String, name: &Option<Name>, block: &Block) -> Result<(), Fail> {
+    out.push_str("fact ")?;
+    if let Some(name) = name {
+        out.push_str(name.text.text())?;
+        out.push_str(" ")?;
+    }
+    push_formulas(out, block)
+}
+
 fn push_paragraph(out: &mut String, paragraph: &Paragraph) -> Result<(), Fail> {
     match paragraph {
         Paragraph::Signatures(signatures) => push_signatures(out, signatures),
-        Paragraph::Fact(block) => {
-            out.push_str("fact ")?;
-            push_formulas(out, block)
-        }
+        Paragraph::Fact(name, block) => push_fact(out, name, block),
         Paragraph::Predicate(name, parameters, block) => {
             out.push_str("pred ")?;
             out.push_str(name.text.text())?;
@@ -536,7 +542,7 @@ fn reads_paragraphs(rt: HostRuntime) -> Result<(), Fail> {
             "sig A { f: (A lone -> B), g: A -> (B -> C) }",
             "sig A {f: (<A lone -> B>), g: <A -> (<B -> C>)>}",
         ),
-        ("fact f { a } fact { }", "fact {a} / fact {}"),
+        ("fact f { a } fact { }", "fact f {a} / fact {}"),
         (
             "pred p { } pred q [] { } pred r () { } pred s [x, y: A, disj z: lone B] { x }",
             "pred p {} / pred q {} / pred r {} / pred s x, y: A, disj z: lone B {x}",

@@ -7,7 +7,7 @@ use Rattle.std.proofs.lemmas.Slice.Zip.{AllZip-long}
 use Rattle.std.proofs.lemmas.List.Elements.{Contains-append_right}
 use Rattle.tuple_core.specs.declared.atom.Atom.{Atom}
 use Rattle.rel_formula.specs.Bounds.{Bounded, HasFewAtoms, HasDisjointTops, relation_at}
-use Rattle.rel_formula.proofs.Open.{cons_cases}
+use Rattle.rel_formula.proofs.OpenCells.{cons_cases}
 use Rattle.rel_formula.proofs.Lists.{some-Contains}
 use Rattle.named_model.specs.declared.named.Signature.{Signature}
 use Rattle.named_model.specs.Model.{NamedTree}

@@ -4,7 +4,7 @@ pub mod Tops
 pub mod Atoms
 mod Formed
 mod One
-mod First
+mod FirstFaults
 pub mod Unfolded
 pub mod Inversion
 mod Shifts
@@ -16,8 +16,8 @@ mod Sound
 pub mod Arities
 mod Plain
 mod Proper
-pub mod Whole
-mod Kept
+pub mod ProblemFormulas
+mod SettledCalls
 mod Stable
 pub mod Headers
 pub mod Paragraphs

@@ -11,7 +11,7 @@ use Rattle.rel_formula.specs.declared.problem.Cell.{Cell}
 use Rattle.rel_formula.specs.Bounds.{Bounded, IsRelation, IsProblem, cells_of}
 use Rattle.rel_formula.proofs.Lists.{some-Contains, some_below}
 use Rattle.rel_formula.proofs.Counts.{no_longer}
-use Rattle.rel_formula.proofs.Open.{open_cell}
+use Rattle.rel_formula.proofs.OpenCells.{open_cell}
 use Rattle.rel_terms.specs.Terms.{HasTerms}
 use Rattle.named_model.specs.declared.fault.NameFault.{NameFault}
 use Rattle.named_model.specs.Model.{NamedTree}

@@ -4,7 +4,7 @@ use Rattle.std.proofs.Common.{◌≡◌, ℕ, zero, suc, ◌+◌, ◌-◌, ◌<�
 use Rattle.std.proofs.lemmas.Bool.{cases_lt}
 use Rattle.std.proofs.lemmas.List.{length-append, length-map, append-nil}
 use Rattle.std.proofs.lemmas.List.Elements.{All-nil, All-cons, All-contains}
-use Rattle.rel_formula.proofs.Open.{cons_first, cons_later, cons_cases}
+use Rattle.rel_formula.proofs.OpenCells.{cons_first, cons_later, cons_cases}
 use Rattle.rel_formula.proofs.Lists.{get-Some, some-Contains}
 use Rattle.alloy_syntax.specs.declared.tree.Name.{Name}
 use Rattle.alloy_syntax.specs.Tree as tree
@@ -71,7 +71,7 @@ same_count k l same (p ∷ ps) =
 -- ---- the part of each thing
 
 fact_part : (g : Globals) (front : List ParagraphTree) (p : ParagraphTree) (j : ℕ) → j < length (facts_named g p) → part_behind front p ≡ part.Fact (count_in (facts_named (globals_of [])) front + j)
-fact_part g front (tree.fact b) j l = ap part.Fact (omega arith)
+fact_part g front (tree.fact n b) j l = ap part.Fact (omega arith)
 fact_part g front (tree.signatures is_abstract mark names parent fields) j l = absurd (omega arith)
 fact_part g front (tree.predicate n ds b) j l = absurd (omega arith)
 fact_part g front (tree.function n ds mark range body) j l = absurd (omega arith)
@@ -79,7 +79,7 @@ fact_part g front (tree.assertion n b) j l = absurd (omega arith)
 fact_part g front (tree.command kind p target scope expected) j l = absurd (omega arith)
 
 facts_count : (g h : Globals) (p : ParagraphTree) → length (facts_named g p) ≡ length (facts_named h p)
-facts_count g h (tree.fact b) = refl
+facts_count g h (tree.fact n b) = refl
 facts_count g h (tree.signatures is_abstract mark names parent fields) = refl
 facts_count g h (tree.predicate n ds b) = refl
 facts_count g h (tree.function n ds mark range body) = refl
@@ -89,7 +89,7 @@ facts_count g h (tree.command kind p target scope expected) = refl
 callee_part : (g : Globals) (front : List ParagraphTree) (p : ParagraphTree) (j : ℕ) → j < length (callees_named g p) → part_behind front p ≡ part.Callee (count_in headers front + j)
 callee_part g front (tree.predicate n ds b) j l = ap part.Callee (omega arith)
 callee_part g front (tree.function n ds mark range body) j l = ap part.Callee (omega arith)
-callee_part g front (tree.fact b) j l = absurd (omega arith)
+callee_part g front (tree.fact n b) j l = absurd (omega arith)
 callee_part g front (tree.signatures is_abstract mark names parent fields) j l = absurd (omega arith)
 callee_part g front (tree.assertion n b) j l = absurd (omega arith)
 callee_part g front (tree.command kind p target scope expected) j l = absurd (omega arith)
@@ -97,7 +97,7 @@ callee_part g front (tree.command kind p target scope expected) j l = absurd (om
 callees_count : (g : Globals) (p : ParagraphTree) → length (callees_named g p) ≡ length (headers p)
 callees_count g (tree.predicate n ds b) = refl
 callees_count g (tree.function n ds mark range body) = refl
-callees_count g (tree.fact b) = refl
+callees_count g (tree.fact n b) = refl
 callees_count g (tree.signatures is_abstract mark names parent fields) = refl
 callees_count g (tree.assertion n b) = refl
 callees_count g (tree.command kind p target scope expected) = refl
@@ -106,7 +106,7 @@ assertion_part : (g : Globals) (front : List ParagraphTree) (p : ParagraphTree) 
 assertion_part g front (tree.assertion n b) j l = ap part.Assertion (omega arith)
 assertion_part g front (tree.predicate n ds b) j l = absurd (omega arith)
 assertion_part g front (tree.function n ds mark range body) j l = absurd (omega arith)
-assertion_part g front (tree.fact b) j l = absurd (omega arith)
+assertion_part g front (tree.fact n b) j l = absurd (omega arith)
 assertion_part g front (tree.signatures is_abstract mark names parent fields) j l = absurd (omega arith)
 assertion_part g front (tree.command kind p target scope expected) j l = absurd (omega arith)
 
@@ -114,7 +114,7 @@ assertions_count : (g : Globals) (p : ParagraphTree) → length (assertions_name
 assertions_count g (tree.assertion n b) = refl
 assertions_count g (tree.predicate n ds b) = refl
 assertions_count g (tree.function n ds mark range body) = refl
-assertions_count g (tree.fact b) = refl
+assertions_count g (tree.fact n b) = refl
 assertions_count g (tree.signatures is_abstract mark names parent fields) = refl
 assertions_count g (tree.command kind p target scope expected) = refl
 
@@ -123,7 +123,7 @@ command_part g front (tree.command kind p target scope expected) j l = ap part.C
 command_part g front (tree.assertion n b) j l = absurd (omega arith)
 command_part g front (tree.predicate n ds b) j l = absurd (omega arith)
 command_part g front (tree.function n ds mark range body) j l = absurd (omega arith)
-command_part g front (tree.fact b) j l = absurd (omega arith)
+command_part g front (tree.fact n b) j l = absurd (omega arith)
 command_part g front (tree.signatures is_abstract mark names parent fields) j l = absurd (omega arith)
 
 commands_count : (g h : Globals) (p : ParagraphTree) → length (commands_named g p) ≡ length (commands_named h p)
@@ -131,7 +131,7 @@ commands_count g h (tree.command kind p target scope expected) = refl
 commands_count g h (tree.assertion n b) = refl
 commands_count g h (tree.predicate n ds b) = refl
 commands_count g h (tree.function n ds mark range body) = refl
-commands_count g h (tree.fact b) = refl
+commands_count g h (tree.fact n b) = refl
 commands_count g h (tree.signatures is_abstract mark names parent fields) = refl
 
 fields_count : (g : Globals) (p : ParagraphTree) → length (fields_named g p) ≡ length (field_names p)
@@ -140,7 +140,7 @@ fields_count g (tree.signatures is_abstract mark names parent fields) =
     (λ f. same_count (λ (n : Name). map (field_named g f n) names) (λ (n : Name). map (λ (owner : Name). n) names) (λ n. length-map names (field_named g f n) ∙ sym (length-map names (λ (owner : Name). n))) f.names) fields
 fields_count g (tree.predicate n ds b) = refl
 fields_count g (tree.function n ds mark range body) = refl
-fields_count g (tree.fact b) = refl
+fields_count g (tree.fact n b) = refl
 fields_count g (tree.assertion n b) = refl
 fields_count g (tree.command kind p target scope expected) = refl
 
@@ -148,7 +148,7 @@ field_part : (g : Globals) (front : List ParagraphTree) (p : ParagraphTree) (j :
 field_part g front (tree.signatures is_abstract mark names parent fields) j l = refl
 field_part g front (tree.predicate n ds b) j l = absurd (omega arith)
 field_part g front (tree.function n ds mark range body) j l = absurd (omega arith)
-field_part g front (tree.fact b) j l = absurd (omega arith)
+field_part g front (tree.fact n b) j l = absurd (omega arith)
 field_part g front (tree.assertion n b) j l = absurd (omega arith)
 field_part g front (tree.command kind p target scope expected) j l = absurd (omega arith)
 

@@ -10,7 +10,7 @@ use Rattle.alloy_syntax.specs.declared.tree.Manner.{Manner}
 use Rattle.alloy_syntax.specs.declared.tree.Manner.TheVariants as manner
 use Rattle.rel_formula.specs.Kernel.{ExpressionTree, rel, var, union, meet, join, FormulaTree, for_all}
 use Rattle.rel_formula.specs.Shape.{IsWellFormed, IsProper}
-use Rattle.rel_formula.proofs.Open.{cons_first, cons_later, filter_has}
+use Rattle.rel_formula.proofs.OpenCells.{cons_first, cons_later, filter_has}
 use Rattle.named_model.specs.declared.named.Signature.{Signature}
 use Rattle.named_model.specs.declared.named.Listing.{Listing}
 use Rattle.alloy_lex.specs.declared.token.Place.{Place}

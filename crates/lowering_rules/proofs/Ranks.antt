@@ -8,7 +8,7 @@ use Rattle.std.proofs.lemmas.List.FromFn.{length-range_with_len, get_or-range_wi
 use Rattle.std.proofs.lemmas.List.Elements.{All-nil}
 use Rattle.std.proofs.lemmas.List.Kept.{AllPairs-cons}
 use Rattle.rel_formula.proofs.Lists.{pairs_nil, some_below, some_at}
-use Rattle.rel_formula.proofs.Open.{cons_first, cons_later, cons_cases, filter_has, has_filter, map_has, has_map}
+use Rattle.rel_formula.proofs.OpenCells.{cons_first, cons_later, cons_cases, filter_has, has_filter, map_has, has_map}
 use Rattle.alloy_lex.specs.declared.token.Place.{Place}
 use Rattle.alloy_syntax.specs.Tree.{ModelTree}
 use Rattle.named_model.specs.declared.fault.NameFault.TheVariants as fault

@@ -6,7 +6,7 @@ use Rattle.std.proofs.lemmas.Bool.{cases_lt}
 use Rattle.std.proofs.lemmas.Bool.Decides.{nat_tests}
 use Rattle.std.proofs.lemmas.List.{length-append, length-map, get_or_past}
 use Rattle.std.proofs.lemmas.List.Elements.{All-nil, All-append, All-map, All-contains, Contains-get_or}
-use Rattle.rel_formula.proofs.Open.{cons_first, cons_later, cons_cases}
+use Rattle.rel_formula.proofs.OpenCells.{cons_first, cons_later, cons_cases}
 use Rattle.alloy_syntax.specs.declared.tree.Manner.{Manner}
 use Rattle.alloy_syntax.specs.declared.tree.Name.{Name}
 use Rattle.alloy_syntax.specs.declared.tree.Parent.{Parent}
@@ -81,7 +81,7 @@ words_are g (tree.bound_arrows b arrows) = arrow_words g b arrows
 
 signatures_count : (g : Globals) (p : ParagraphTree) → length (signatures_named g p) ≡ length (signature_names p)
 signatures_count g (tree.signatures is_abstract mark names parent fields) = length-map names (signature_named g is_abstract mark parent)
-signatures_count g (tree.fact b) = refl
+signatures_count g (tree.fact n b) = refl
 signatures_count g (tree.predicate n ds b) = refl
 signatures_count g (tree.function n ds mark range body) = refl
 signatures_count g (tree.assertion n b) = refl
@@ -103,7 +103,7 @@ parent_named g (Some q) p e =
 signatures_named_right : (g : Globals) (p : ParagraphTree) → All (NamesParent g) (signatures_named g p)
 signatures_named_right g (tree.signatures is_abstract mark names parent fields) =
     All-map (NamesParent g) (signature_named g is_abstract mark parent) names (λ k d l p e. parent_named g parent p e)
-signatures_named_right g (tree.fact b) = All-nil (NamesParent g)
+signatures_named_right g (tree.fact n b) = All-nil (NamesParent g)
 signatures_named_right g (tree.predicate n ds b) = All-nil (NamesParent g)
 signatures_named_right g (tree.function n ds mark range body) = All-nil (NamesParent g)
 signatures_named_right g (tree.assertion n b) = All-nil (NamesParent g)
@@ -145,7 +145,7 @@ module _ (t : ModelTree) where
       all_flat (IsField (length sigs)) (λ (f : tree.FieldTree). flat_map (λ (n : Name). map (field_named g f n) names) f.names) fields (λ f cf.
       all_flat (IsField (length sigs)) (λ (n : Name). map (field_named g f n) names) f.names (λ n cn.
       All-map (IsField (length sigs)) (field_named g f n) names (λ k d l. field_right f n (slice_index_or names k d) (omega arith))))
-  fields_right (tree.fact b) c = All-nil (IsField (length sigs))
+  fields_right (tree.fact n b) c = All-nil (IsField (length sigs))
   fields_right (tree.predicate n ds b) c = All-nil (IsField (length sigs))
   fields_right (tree.function n ds mark range body) c = All-nil (IsField (length sigs))
   fields_right (tree.assertion n b) c = All-nil (IsField (length sigs))

@@ -7,7 +7,7 @@ use Rattle.std.proofs.lemmas.List.Elements.{Contains-append_right}
 use mathlib.Core.List.{reverse_aux}
 use Rattle.rel_formula.specs.Kernel.{ExpressionTree}
 use Rattle.rel_formula.specs.Shape.{arity_of, AreProper}
-use Rattle.rel_formula.proofs.Open.{cons_first, cons_later}
+use Rattle.rel_formula.proofs.OpenCells.{cons_first, cons_later}
 use Rattle.rel_formula.proofs.Lists.{some_below}
 use Rattle.named_model.specs.Phrase.{PhraseTree, PhraseTrees, DomainTrees}
 use Rattle.named_model.specs.Model.{MeaningTree, formulas, value, NamedTree}

@@ -16,8 +16,8 @@ use Rattle.model_types.specs.Sorts.{Kind, unless, first_place, as_relation, as_f
 use Rattle.model_types.specs.Typing as typing
 use Rattle.model_types.specs.Typing.{Field, Header, Declared, Settled, Arguments, types_in, call_type, type_in, local_types, call_kind, formula_from, settled, formulas_settled, arguments_settled, links_settled, steps_settled, tops_in, first_ends, domains_settled, values_settled, is_shared, tops_behind, ends_of}
 use Rattle.model_types.specs.Models.{local_of, or_unknown, domains_known, parameters_known, kind_known, type_known, header_with, header_of}
-use Rattle.rel_formula.proofs.Open.{cons_first, cons_later}
-use Rattle.lowering_rules.proofs.Kept.{kept, arguments_kept}
+use Rattle.rel_formula.proofs.OpenCells.{cons_first, cons_later}
+use Rattle.lowering_rules.proofs.SettledCalls.{kept, arguments_kept}
 
 bind_same : {A B F : Type 0} (r s : Result A F) (u v : A → Result B F) → r ≡ s → ((a : A) → s ≡ Ok a → u a ≡ v a) → (r >>= u) ≡ (s >>= v)
 bind_same r (Ok a) u v e h = ap (λ q. q >>= u) e ∙ h a refl

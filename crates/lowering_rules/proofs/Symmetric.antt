@@ -7,7 +7,7 @@ use Rattle.tuple_core.specs.declared.atom.Atom.{Atom}
 use Rattle.rel_formula.specs.declared.problem.Relation.{Relation}
 use Rattle.rel_formula.specs.Bounds.{Bounded, IsAtomOf, relation_at}
 use Rattle.rel_formula.specs.Renaming.{IsSymmetric}
-use Rattle.rel_formula.proofs.Open.{cons_first, cons_later}
+use Rattle.rel_formula.proofs.OpenCells.{cons_first, cons_later}
 use Rattle.rel_formula.proofs.Images.{map_undone}
 use Rattle.rel_formula.proofs.Tabled.{no_relation}
 use Rattle.named_model.specs.Model.{NamedTree}

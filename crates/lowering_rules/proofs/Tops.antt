@@ -3,7 +3,7 @@ use Rattle.std.proofs.Common.{◌≡◌, ℕ, zero, suc, ◌+◌, ◌<◌, ◌�
 use Rattle.std.proofs.lemmas.Bool.Decides.{nat_tests}
 use Rattle.std.proofs.lemmas.List.Elements.{All-nil, All-cons, All-weaker}
 use Rattle.std.proofs.lemmas.List.Kept.{AllPairs-cons}
-use Rattle.rel_formula.proofs.Open.{cons_cases}
+use Rattle.rel_formula.proofs.OpenCells.{cons_cases}
 use Rattle.rel_formula.proofs.Lists.{pairs_nil}
 use Rattle.named_model.specs.declared.fault.NameFault.{NameFault}
 use Rattle.named_model.specs.declared.fault.NameFault.TheVariants as fault

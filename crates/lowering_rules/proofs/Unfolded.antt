@@ -3,7 +3,7 @@ use Rattle.std.proofs.Common.{◌≡◌, ℕ, zero, suc, ◌+◌, ◌<◌, List,
 use Rattle.std.proofs.lemmas.Bool.{cases_lt}
 use Rattle.std.proofs.lemmas.List.Elements.{Contains-append_right}
 use Rattle.rel_formula.specs.Kernel.{ExpressionTree, nothing, rel, conjunction, more_formulas}
-use Rattle.rel_formula.proofs.Open.{cons_first, cons_later}
+use Rattle.rel_formula.proofs.OpenCells.{cons_first, cons_later}
 use Rattle.named_model.specs.declared.phrase.Referent.TheVariants as referent
 use Rattle.named_model.specs.Phrase.{PhraseTree, refers, called, numbered, constant, bracketed, block, prefixed, chain, path, compared, implies, implies_else, quantified, bound_by_let, PhraseTrees, no_phrases, more_phrases, LinkTrees, no_links, more_links, StepTrees, no_steps, join_first, brackets_first, DomainTrees, no_domains, more_domains}
 use Rattle.named_model.specs.Model.{MeaningTree, formulas, value, CalleeTree, NamedTree}

@@ -46,6 +46,7 @@ pub fn model_with(alloc: Global, callees: Vec<Callee>) -> Result<Named, AllocErr
         fields: Vec::new(alloc),
         callees,
         facts: Vec::new(alloc),
+        fact_names: Vec::new(alloc),
         assertions: Vec::new(alloc),
         commands: Vec::new(alloc),
         parts: Vec::new(alloc),

@@ -62,6 +62,7 @@ fn colours(alloc: Global, default: u16, count: u16) -> Result<Named, AllocError>
         fields: Vec::new(alloc),
         callees: Vec::new(alloc),
         facts: Vec::new(alloc),
+        fact_names: Vec::new(alloc),
         assertions: Vec::new(alloc),
         commands,
         parts: Vec::new(alloc),

@@ -76,6 +76,7 @@ fn model(alloc: Global) -> Result<Named, AllocError> {
         fields: fields(alloc)?,
         callees: Vec::new(alloc),
         facts: Vec::new(alloc),
+        fact_names: Vec::new(alloc),
         assertions: Vec::new(alloc),
         commands: Vec::new(alloc),
         parts: Vec::new(alloc),

@@ -136,8 +136,12 @@ callees_named g (tree.function n ds mark range body) = record {
 callees_named g paragraph = []
 
 abbrev pub facts_named : Globals → ParagraphTree → List PhraseTrees
-facts_named g (tree.fact b) = all_resolved g [] (trees_of b.formulas) ∷ []
+facts_named g (tree.fact n b) = all_resolved g [] (trees_of b.formulas) ∷ []
 facts_named g paragraph = []
+
+abbrev pub fact_names : ParagraphTree → List (Option (List ℕ))
+fact_names (tree.fact n b) = option_map (λ (n : Name). n.text) n ∷ []
+fact_names paragraph = []
 
 abbrev pub assertions_named : Globals → ParagraphTree → List PhraseTrees
 assertions_named g (tree.assertion n b) = all_resolved g [] (trees_of b.formulas) ∷ []
@@ -171,7 +175,7 @@ count_in kind paragraphs = length (flat_map kind paragraphs)
 abbrev pub part_behind : List ParagraphTree → ParagraphTree → Part
 part_behind before (tree.signatures is_abstract mark names parent fields) =
     part.Fields (count_in field_names before) (length (field_names (tree.signatures is_abstract mark names parent fields)))
-part_behind before (tree.fact b) = part.Fact (count_in (facts_named (globals_of [])) before)
+part_behind before (tree.fact n b) = part.Fact (count_in (facts_named (globals_of [])) before)
 part_behind before (tree.predicate n ds b) = part.Callee (count_in headers before)
 part_behind before (tree.function n ds mark range body) = part.Callee (count_in headers before)
 part_behind before (tree.assertion n b) = part.Assertion (count_in assertion_names before)
@@ -187,6 +191,7 @@ paragraphs_named g ps = record {
   fields = flat_map (fields_named g) ps;
   callees = flat_map (callees_named g) ps;
   facts = flat_map (facts_named g) ps;
+  fact_names = flat_map fact_names ps;
   assertions = flat_map (assertions_named g) ps;
   commands = flat_map (commands_named g) ps;
   parts = parts_behind [] ps;

@@ -68,7 +68,7 @@ fields_stated cs owners f = flat_map (λ (n : Name). map (λ (owner : Name). rec
 -- the names that the paragraph of a number declares
 abbrev pub stated_in : List Child → ℕ → ParagraphTree → List Stated
 stated_in cs k (tree.signatures is_abstract mark names parent fields) = stated global names ++ flat_map (fields_stated cs names) fields
-stated_in cs k (tree.fact b) = []
+stated_in cs k (tree.fact n b) = []
 stated_in cs k (tree.predicate n ds b) = stated global (n ∷ []) ++ stated (parameters k) (parameter_names ds)
 stated_in cs k (tree.function n ds mark range body) = stated global (n ∷ []) ++ stated (parameters k) (parameter_names ds)
 stated_in cs k (tree.assertion n b) = stated assertions (n ∷ [])
@@ -140,7 +140,7 @@ target_faults g (tree.at_block label b) = all_faults g [] (trees_of b.formulas)
 
 abbrev pub body_faults : Globals → ParagraphTree → List NameFault
 body_faults g (tree.signatures is_abstract mark names parent fields) = []
-body_faults g (tree.fact b) = all_faults g [] (trees_of b.formulas)
+body_faults g (tree.fact n b) = all_faults g [] (trees_of b.formulas)
 body_faults g (tree.predicate n ds b) = parameter_faults g [] ds ++ all_faults g (parameters_of ds) (trees_of b.formulas)
 body_faults g (tree.function n ds mark range body) = parameter_faults g [] ds ++ faults_of g (parameters_of ds) 0 range ++ faults_of g (parameters_of ds) 0 body
 body_faults g (tree.assertion n b) = all_faults g [] (trees_of b.formulas)

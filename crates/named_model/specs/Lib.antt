@@ -2,6 +2,7 @@ pub mod Answers
 pub mod Phrase
 pub mod Model
 pub mod View
+pub mod Numbered
 pub mod Signatures
 pub mod Names
 pub mod Declarations

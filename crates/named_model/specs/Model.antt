@@ -53,6 +53,7 @@ pub record NamedTree : Type 0 where
   pub fields : List FieldTree
   pub callees : List CalleeTree
   pub facts : List PhraseTrees
+  pub fact_names : List (Option (List ℕ))
   pub assertions : List PhraseTrees
   pub commands : List CommandTree
   pub parts : List Part

@@ -92,6 +92,7 @@ named_view n = record {
   fields = map field_view n.fields.items;
   callees = map callee_view n.callees.items;
   facts = map formulas_view n.facts.items;
+  fact_names = n.fact_names.items;
   assertions = map formulas_view n.assertions.items;
   commands = map command_view n.commands.items;
   parts = n.parts.items;

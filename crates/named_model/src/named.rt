@@ -1,6 +1,8 @@
 // A model with every name tied to its declaration. What is declared is numbered from 0 in order of declaration, each kind
 // by itself; predicates and functions are one kind.
-ghost use Rattle.std.specs.Prelude.{◌≡◌, ◌-◌, ◌^◌, length, min};
+ghost use Rattle.std.specs.Prelude.{◌≡◌, ◌-◌, ◌^◌, suc, length, map, min, option_map, MatchOption};
+ghost use Rattle.named_model.specs.Numbered.{is_check, name_of_fact};
+ghost use Rattle.named_model.specs.View.{command_view};
 
 use crate::phrase::{Domain, Phrase};
 use alloy_lex::{Place, Text};
@@ -102,6 +104,8 @@ pub struct Named {
     pub fields: Vec<Field>,
     pub callees: Vec<Callee>,
     pub facts: Vec<Formulas>,
+    /// The name of each fact, if it has one.
+    pub fact_names: Vec<Option<Text>>,
     pub assertions: Vec<Formulas>,
     pub commands: Vec<Command>,
     pub parts: Vec<Part>,
@@ -115,4 +119,50 @@ impl Named {
     {
         u32::try_from(self.commands.len()).unwrap_or(u32::MAX)
     }
+
+    /// Whether the command of that number, from 1 on, is there and is a `check` command.
+    pub fn is_check(&self, command: u32) -> bool
+        ensures { result ≡ is_check (map command_view self.now.commands.items) command }
+    {
+        match place_of(command) {
+            Some(place) => self.checks_at(place),
+            None => false,
+        }
+    }
+
+    fn checks_at(&self, place: usize) -> bool
+        ensures { result ≡ is_check (map command_view self.now.commands.items) (suc place) }
+    {
+        match self.commands.get(place) {
+            Some(command) => matches!(command.kind, CommandKind::Check),
+            None => false,
+        }
+    }
+
+    /// The number of facts, which are numbered from 1 in the order of the text; at most the largest number of 32 bits.
+    pub fn facts(&self) -> u32
+        ensures { result ≡ min (length self.now.facts.items) (2 ^ 32 - 1) }
+    {
+        u32::try_from(self.facts.len()).unwrap_or(u32::MAX)
+    }
+
+    /// The name of the fact of that number, from 1 on, if it is there and has one.
+    pub fn fact_name(&self, number: u32) -> Option<&Text>
+        ensures { option_map (λ t. t.now) result ≡ name_of_fact self.now.fact_names.items number }
+    {
+        match place_of(number) {
+            Some(place) => self.fact_names.get(place)?.as_ref(),
+            None => None,
+        }
+    }
+}
+
+// The place, from 0 on, of what has this number, from 1 on.
+fn place_of(number: u32) -> Option<usize>
+    ensures { MatchOption result (number ≡ 0) (λ place. number ≡ suc place) }
+{
+    if number == 0 {
+        return None;
+    }
+    Some((number - 1) as usize)
 }

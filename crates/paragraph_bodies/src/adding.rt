@@ -61,7 +61,7 @@ fn add(
 {
     match paragraph {
         Paragraph::Signatures(_) => Ok(()),
-        Paragraph::Fact(block) => Ok(add_said(alloc, names, block, &mut all.facts)?),
+        Paragraph::Fact(_, block) => Ok(add_said(alloc, names, block, &mut all.facts)?),
         Paragraph::Predicate(name, declarations, block) => Ok(add_predicate(
             alloc,
             names,

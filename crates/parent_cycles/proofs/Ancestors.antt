@@ -8,7 +8,7 @@ use Rattle.named_model.specs.Answers.{first_in}
 use Rattle.named_model.specs.Names.{number_of, is_among}
 use Rattle.named_model.specs.Faults.{Child, parent_of, ancestors, cycle_faults}
 use Rattle.number_cycles.specs.Walks.{IsWalk, IsCyclic, IsFirstCyclic, NoneBelow}
-use Rattle.number_cycles.proofs.Leads.{not_both, either, or_left, or_right}
+use Rattle.number_cycles.proofs.WalkEdges.{not_both, either, or_left, or_right}
 use Rattle.name_tables.proofs.Texts.{equal_texts, same_text}
 use Rattle.parent_cycles.specs.Graphs.{row_of, place_of}
 use Rattle.parent_cycles.proofs.Numbers.{text_of, child_at, names, rows, found, missed, reached, edge_in, edge_out}

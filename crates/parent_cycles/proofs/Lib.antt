@@ -1,3 +1,3 @@
 pub mod Numbers
 pub mod Ancestors
-pub mod Growing
+pub mod LoopAdditions

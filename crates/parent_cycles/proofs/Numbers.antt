@@ -8,7 +8,7 @@ use Rattle.std.proofs.lemmas.Iterator.Adapters.{position_from-zero}
 use Rattle.named_model.specs.Names.{number_of}
 use Rattle.named_model.specs.Faults.{Child, parent_of}
 use Rattle.number_cycles.specs.Walks.{row_of as row_at, among, IsEdge}
-use Rattle.number_cycles.proofs.Leads.{not_both, either, or_left, has_row}
+use Rattle.number_cycles.proofs.WalkEdges.{not_both, either, or_left, has_row}
 use Rattle.name_tables.proofs.Texts.{equal_texts, same_text}
 use Rattle.parent_cycles.specs.Graphs.{row_to, row_of}
 

@@ -45,7 +45,7 @@ fn add_children(
             let parent = number_of(names, &written.parent);
             Ok(add_names(alloc, parent, &written.names, graph)?)
         }
-        Paragraph::Fact(_) => Ok(()),
+        Paragraph::Fact(_, _) => Ok(()),
         Paragraph::Predicate(_, _, _) => Ok(()),
         Paragraph::Function(_) => Ok(()),
         Paragraph::Assertion(_, _) => Ok(()),

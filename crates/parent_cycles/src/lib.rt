@@ -5,4 +5,3 @@ mod cycles;
 mod graph;
 
 pub use crate::cycles::first_cycle;
-pub use std::alloc::AllocError as NoMemory;

@@ -26,12 +26,12 @@ use Rattle.rel_lower_tests.specs.Samples.{at, number, word}
 
 -- a model with types, part by part
 pub of_parts : (m : NamedTree) → IsTyped m → (xs : List Signature) → xs ≡ m.signatures → (fs : List named.FieldTree) → fs ≡ m.fields
-    → (cs : List CalleeTree) → cs ≡ m.callees → (facts : List PhraseTrees) → facts ≡ m.facts → (said : List PhraseTrees) → said ≡ m.assertions
+    → (cs : List CalleeTree) → cs ≡ m.callees → (facts : List PhraseTrees) → facts ≡ m.facts → (ns : List (Option (List ℕ))) → ns ≡ m.fact_names → (said : List PhraseTrees) → said ≡ m.assertions
     → (ds : List CommandTree) → ds ≡ m.commands → (ps : List Part) → ps ≡ m.parts
-    → IsTyped (record { signatures = xs; fields = fs; callees = cs; facts = facts; assertions = said; commands = ds; parts = ps })
-of_parts m is xs e fs f cs c facts g said a ds d ps p =
-    let same : m ≡ record { signatures = xs; fields = fs; callees = cs; facts = facts; assertions = said; commands = ds; parts = ps } =
-    λ i. record { signatures = sym e i; fields = sym f i; callees = sym c i; facts = sym g i; assertions = sym a i; commands = sym d i; parts = sym p i } in
+    → IsTyped (record { signatures = xs; fields = fs; callees = cs; facts = facts; fact_names = ns; assertions = said; commands = ds; parts = ps })
+of_parts m is xs e fs f cs c facts g ns n said a ds d ps p =
+    let same : m ≡ record { signatures = xs; fields = fs; callees = cs; facts = facts; fact_names = ns; assertions = said; commands = ds; parts = ps } =
+    λ i. record { signatures = sym e i; fields = sym f i; callees = sym c i; facts = sym g i; fact_names = sym n i; assertions = sym a i; commands = sym d i; parts = sym p i } in
     subst IsTyped same is
 
 -- a model with types, and one field
@@ -59,7 +59,7 @@ abbrev said : Prefix → List ℕ → Tree
 said f text = tree.prefixed f at (tree.named (name text))
 
 abbrev fact : Prefix → List ℕ → ParagraphTree
-fact f text = tree.fact (block (said f text ∷ []))
+fact f text = tree.fact None (block (said f text ∷ []))
 
 abbrev entries : Option (Bool × ℕ) → List Entry
 entries None = []

@@ -93,7 +93,7 @@ run scope = record { kind = command_kind.Run; target = at_block no_phrases; scop
 
 -- a model with these signatures, one field, and one command
 abbrev pub with_field : List Signature → FieldTree → ScopeTree → List Part → NamedTree
-with_field xs f scope parts = record { signatures = xs; fields = f ∷ []; callees = []; facts = []; assertions = []; commands = run scope ∷ []; parts = parts }
+with_field xs f scope parts = record { signatures = xs; fields = f ∷ []; callees = []; facts = []; fact_names = []; assertions = []; commands = run scope ∷ []; parts = parts }
 
 -- two paragraphs without fields, three facts, and a command
 abbrev pub parts : List Part
@@ -101,7 +101,7 @@ parts = part.Fields 0 0 ∷ part.Fields 0 0 ∷ part.Fact 0 ∷ part.Fact 1 ∷ 
 
 -- three signatures with these facts and one command
 abbrev pub with_facts : List Signature → ScopeTree → NamedTree
-with_facts xs scope = record { signatures = xs; fields = []; callees = []; facts = facts; assertions = []; commands = run scope ∷ []; parts = parts }
+with_facts xs scope = record { signatures = xs; fields = []; callees = []; facts = facts; fact_names = None ∷ None ∷ None ∷ []; assertions = []; commands = run scope ∷ []; parts = parts }
 
 -- ---- a model with commands
 
@@ -140,6 +140,7 @@ with_commands = record {
   fields = [];
   callees = two_differ ∷ [];
   facts = [];
+  fact_names = [];
   assertions = alone (said prefix.No 0) ∷ [];
   commands = commands;
   parts = command_parts;
@@ -175,6 +176,7 @@ with_function = record {
   fields = field_to 0 1 ∷ field_to 1 0 ∷ [];
   callees = reached ∷ [];
   facts = [];
+  fact_names = [];
   assertions = [];
   commands = leading;
   parts = part.Fields 0 1 ∷ part.Fields 1 1 ∷ part.Callee 0 ∷ part.Command 0 ∷ [];
@@ -193,4 +195,4 @@ lettered zero = []
 lettered (suc n) = lettered n ++ signature (letters (suc n)) false None None ∷ []
 
 abbrev pub with_many : NamedTree
-with_many = record { signatures = lettered 129; fields = []; callees = []; facts = []; assertions = []; commands = run (scope (Some 0) None) ∷ []; parts = part.Fields 0 0 ∷ part.Command 0 ∷ [] }
+with_many = record { signatures = lettered 129; fields = []; callees = []; facts = []; fact_names = []; assertions = []; commands = run (scope (Some 0) None) ∷ []; parts = part.Fields 0 0 ∷ part.Command 0 ∷ [] }

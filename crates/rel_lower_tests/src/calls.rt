@@ -37,6 +37,7 @@ pub fn model(alloc: Global) -> Result<Named, AllocError>
         fields,
         callees,
         facts: Vec::new(alloc),
+        fact_names: Vec::new(alloc),
         assertions: Vec::new(alloc),
         commands,
         parts,

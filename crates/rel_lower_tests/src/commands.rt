@@ -24,6 +24,7 @@ pub fn model(alloc: Global) -> Result<Named, AllocError>
         fields: Vec::new(alloc),
         callees,
         facts: Vec::new(alloc),
+        fact_names: Vec::new(alloc),
         assertions,
         commands: commands(alloc)?,
         parts: parts(alloc)?,

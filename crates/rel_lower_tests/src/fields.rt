@@ -82,6 +82,7 @@ fn with_field(
         fields,
         callees: Vec::new(alloc),
         facts: Vec::new(alloc),
+        fact_names: Vec::new(alloc),
         assertions: Vec::new(alloc),
         commands,
         parts,

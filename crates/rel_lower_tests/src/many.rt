@@ -24,6 +24,7 @@ pub fn model(alloc: Global) -> Result<Named, AllocError>
         fields: Vec::new(alloc),
         callees: Vec::new(alloc),
         facts: Vec::new(alloc),
+        fact_names: Vec::new(alloc),
         assertions: Vec::new(alloc),
         commands,
         parts,
@@ -37,7 +38,7 @@ fn signatures(alloc: Global, count: usize) -> Result<Vec<Signature>, AllocError>
     let mut name = String::new(alloc);
     let mut signatures = Vec::new(alloc);
     for made in 0..count {
-        let _ = made;
+        let _ = made; // for the proof
         name.push_str("A")?;
         let next = signature(alloc, name.as_str(), false, None, None)?;
         signatures.push(next)?;

@@ -47,6 +47,7 @@ pub fn model(alloc: Global, sample: Sample) -> Result<Named, AllocError>
 {
     let signatures = signatures(alloc, sample)?;
     let facts = facts(alloc)?;
+    let fact_names = vec![in alloc; None, None, None]?;
     let scope = scope(alloc, sample.default, sample.listed)?;
     let commands = vec![in alloc; run(alloc, scope)]?;
     let parts = parts(alloc)?;
@@ -55,6 +56,7 @@ pub fn model(alloc: Global, sample: Sample) -> Result<Named, AllocError>
         fields: Vec::new(alloc),
         callees: Vec::new(alloc),
         facts,
+        fact_names,
         assertions: Vec::new(alloc),
         commands,
         parts,

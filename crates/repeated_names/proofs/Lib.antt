@@ -1,8 +1,8 @@
-pub mod Taking
+pub mod ListsGoneOver
 pub mod Numbers
 pub mod Parents
 pub mod Tables
 pub mod Coding
 pub mod Loops
 pub mod Repeating
-pub mod Marking
+pub mod DeclaredMarks

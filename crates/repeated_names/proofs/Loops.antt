@@ -15,7 +15,7 @@ use Rattle.repeated_names.specs.declared.stated.Coded.{Coded}
 use Rattle.repeated_names.specs.declared.stated.Reading.{Reading}
 use Rattle.repeated_names.specs.Coded.{IsSpace, AreSpaces, IsReading, space_of, fields_under}
 use Rattle.repeated_names.proofs.Coding.{field_added}
-use Rattle.repeated_names.proofs.Taking.{items_more, seen_more}
+use Rattle.repeated_names.proofs.ListsGoneOver.{items_more, seen_more}
 
 -- ---- parameters
 

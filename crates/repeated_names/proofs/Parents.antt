@@ -9,7 +9,7 @@ use Rattle.repeated_names.specs.Numbered.{Grows, IsNumbered, IsLink, AreLinks, c
 use Rattle.repeated_names.specs.Climbing.{parent_in, top_in, AreParents}
 use Rattle.repeated_names.specs.declared.tops.Parents.{Parents}
 use Rattle.repeated_names.proofs.Numbers.{number_kept, same_number, numbered_kept}
-use Rattle.repeated_names.proofs.Taking.{taken_more}
+use Rattle.repeated_names.proofs.ListsGoneOver.{taken_more}
 
 links_more : (ws more : List (List ℕ)) (ls : List Link) (cs : List Child) → AreLinks ws ls cs → AreLinks (ws ++ more) ls cs
 links_more ws more [] [] a = tt

@@ -10,4 +10,3 @@ mod tops;
 mod words;
 
 pub use crate::repeats::first_repeated;
-pub use std::alloc::AllocError as NoMemory;

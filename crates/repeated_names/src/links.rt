@@ -44,7 +44,7 @@ fn add_links(
             let parent = parent(alloc, words, &written.parent)?;
             Ok(add_names(alloc, words, parent, &written.names, links)?)
         }
-        Paragraph::Fact(_) => Ok(()),
+        Paragraph::Fact(_, _) => Ok(()),
         Paragraph::Predicate(_, _, _) => Ok(()),
         Paragraph::Function(_) => Ok(()),
         Paragraph::Assertion(_, _) => Ok(()),

@@ -13,10 +13,8 @@ use crate::tops::{Parents, parents_of};
 use crate::words::Words;
 use alloy_lex::Place;
 use alloy_syntax::tree::{Declaration, Name, Paragraph, Signatures};
+use name_tables::MOST_FIELDS;
 use std::alloc::{AllocError, Global};
-
-// How many fields a model may have: as many as stand in a text of 1,048,576 bytes, where each belongs to one signature.
-const FIELDS: usize = 1_048_576;
 
 // How many steps may be made from signatures with fields to the top-level signatures over them.
 const STEPS: usize = 268_435_456;
@@ -61,7 +59,7 @@ pub fn read(alloc: Global, paragraphs: &[Paragraph]) -> Result<Reading, AllocErr
         words,
         parents: parents_of(alloc, &links)?,
         steps: STEPS,
-        fields: FIELDS,
+        fields: MOST_FIELDS,
         coded: Vec::new(alloc),
     };
     for number in 0..paragraphs.len() {
@@ -81,7 +79,7 @@ fn add_paragraph(
 {
     match paragraph {
         Paragraph::Signatures(written) => Ok(add_signatures(alloc, reading, written)?),
-        Paragraph::Fact(_) => Ok(()),
+        Paragraph::Fact(_, _) => Ok(()),
         Paragraph::Predicate(name, declarations, _) => {
             Ok(add_callee(alloc, reading, number, name, declarations)?)
         }

@@ -188,3 +188,40 @@ fn each_paragraph_has_its_part(rt: HostRuntime) -> Result<(), Fail> {
     }
     Ok(())
 }
+
+const FACTS: &str = "fact {} fact a {} fact {} run {} assert b {} check b";
+
+// Whether the fact of that number has this name, or none where this is empty.
+fn is_named(alloc: Global, number: u32, name: &str) -> bool {
+    match named(alloc, FACTS) {
+        Some(model) => match model.fact_name(number) {
+            Some(found) => found.text() == name,
+            None => name.is_empty(),
+        },
+        None => false,
+    }
+}
+
+#[test]
+fn facts_have_their_names(rt: HostRuntime) -> Result<(), Fail> {
+    for (number, name) in [(0, ""), (1, ""), (2, "a"), (3, ""), (4, ""), (u32::MAX, "")] {
+        assert!(rt; is_named(rt.alloc(), number, name), "{number}");
+    }
+    Ok(())
+}
+
+// How many facts and commands there are, and whether the command of that number checks.
+fn counted(alloc: Global, number: u32) -> (u32, u32, bool) {
+    match named(alloc, FACTS) {
+        Some(model) => (model.facts(), model.commands(), model.is_check(number)),
+        None => (999, 999, false),
+    }
+}
+
+#[test]
+fn facts_and_commands_are_counted_from_1(rt: HostRuntime) -> Result<(), Fail> {
+    for (number, checks) in [(0, false), (1, false), (2, true), (3, false)] {
+        assert_eq!(rt; counted(rt.alloc(), number), (3, 2, checks), "{number}");
+    }
+    Ok(())
+}

@@ -1,3 +1,3 @@
 pub mod Lines
-pub mod Whole
-pub mod Counting
+pub mod ModelParts
+pub mod DeclaredCounts

@@ -2,6 +2,7 @@
 //! told.
 #![tactic(auto)]
 
+mod fact_names;
 mod naming;
 mod parts;
 

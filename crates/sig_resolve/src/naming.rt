@@ -9,6 +9,7 @@ ghost use Rattle.signature_names.specs.Named.{AreDeclared};
 ghost use Rattle.paragraph_bodies.specs.Bodies.{AreBodies};
 ghost use Rattle.sig_resolve.specs.Stages.{names_of, declared_faults, said_faults};
 
+use crate::fact_names::fact_names;
 use crate::parts::parts;
 use alloy_syntax::tree::{Model, Paragraph};
 use command_names::first_fault;
@@ -33,12 +34,14 @@ pub fn resolve(alloc: Global, tree: &Model) -> Result<Named, NameFault>
     let mut names = global_names(alloc, paragraphs)?;
     let declared = checked_declarations(alloc, &names, paragraphs)?;
     let said = checked_bodies(alloc, &mut names, paragraphs)?;
+    let fact_names = fact_names(alloc, paragraphs)?;
     let parts = parts(alloc, paragraphs)?;
     Ok(Named {
         signatures: declared.signatures,
         fields: declared.fields,
         callees: said.callees,
         facts: said.facts,
+        fact_names,
         assertions: said.assertions,
         commands: said.commands,
         parts,

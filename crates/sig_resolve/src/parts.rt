@@ -47,7 +47,7 @@ fn part(counts: Counts, paragraph: &Paragraph) -> Result<Part, AllocError>
 {
     match paragraph {
         Paragraph::Signatures(written) => Ok(Part::Fields(counts.fields, fields_in(written)?)),
-        Paragraph::Fact(_) => Ok(Part::Fact(counts.facts)),
+        Paragraph::Fact(_, _) => Ok(Part::Fact(counts.facts)),
         Paragraph::Predicate(_, _, _) => Ok(Part::Callee(counts.callees)),
         Paragraph::Function(_) => Ok(Part::Callee(counts.callees)),
         Paragraph::Assertion(_, _) => Ok(Part::Assertion(counts.assertions)),
@@ -64,7 +64,7 @@ fn behind(counts: Counts, paragraph: &Paragraph) -> Result<Counts, AllocError>
             let fields = sum(counts.fields, fields_in(written)?)?;
             Ok(Counts { fields, ..counts })
         }
-        Paragraph::Fact(_) => {
+        Paragraph::Fact(_, _) => {
             let facts = sum(counts.facts, 1)?;
             Ok(Counts { facts, ..counts })
         }

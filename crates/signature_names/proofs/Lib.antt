@@ -1,3 +1,3 @@
 pub mod Lookups
 pub mod Gaining
-pub mod Links
+pub mod BoundOperands

@@ -57,7 +57,7 @@ fn add_paragraph(
         Paragraph::Signatures(written) => Ok(add_declaration(
             alloc, names, room, written, declared,
         )?),
-        Paragraph::Fact(_) => Ok(()),
+        Paragraph::Fact(_, _) => Ok(()),
         Paragraph::Predicate(_, _, _) => Ok(()),
         Paragraph::Function(_) => Ok(()),
         Paragraph::Assertion(_, _) => Ok(()),

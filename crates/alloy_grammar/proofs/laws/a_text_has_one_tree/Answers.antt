@@ -1,4 +1,4 @@
-use Rattle.alloy_grammar.proofs.Whole.{one_tree}
+use Rattle.alloy_grammar.proofs.WholeModels.{one_tree}
 use Rattle.alloy_grammar.proofs.laws.a_text_has_one_tree.Goals as goal
 
 pub returns : goal.returns

@@ -1,5 +1,5 @@
 use Rattle.std.proofs.Common.{true, arith}
-use Rattle.alloy_grammar.proofs.Whole.{model_full}
+use Rattle.alloy_grammar.proofs.WholeModels.{model_full}
 use Rattle.alloy_grammar.proofs.laws.a_text_is_read.Goals as goal
 
 pub returns : goal.returns

@@ -1,5 +1,5 @@
 use Rattle.alloy_grammar.proofs.Models.{model_read}
-use Rattle.alloy_grammar.proofs.Whole.{model_full}
+use Rattle.alloy_grammar.proofs.WholeModels.{model_full}
 use Rattle.alloy_grammar.proofs.laws.other_limits_read_texts.Goals as goal
 
 pub returns-clause-spelled : goal.returns-clause-spelled

@@ -1,6 +1,6 @@
 use Rattle.std.proofs.Common.{◌∙◌, sym, ap}
 use Rattle.name_tables.specs.InForce.{with_field}
-use Rattle.global_names.proofs.Growing.{owners_more, owners_none}
+use Rattle.global_names.proofs.GrowingNames.{owners_more, owners_none}
 use Rattle.global_names.proofs.declaring.enter_each.Goals as goal
 
 pub loop-preserved : goal.loop-preserved

@@ -1,7 +1,7 @@
 use Rattle.std.proofs.Common.{List, ◌∙◌, sym, map, flat_map, refl}
 use Rattle.std.proofs.lemmas.List.Concat.{flat_map-cons}
 use Rattle.alloy_syntax.specs.declared.tree.Name.{Name}
-use Rattle.global_names.proofs.Growing.{fields_more, fields_none}
+use Rattle.global_names.proofs.GrowingNames.{fields_more, fields_none}
 use Rattle.global_names.proofs.declaring.enter_field.Goals as goal
 
 pub loop-name-preserved : goal.loop-name-preserved

@@ -4,7 +4,7 @@ use Rattle.alloy_syntax.specs.declared.tree.Name.{Name}
 use Rattle.alloy_syntax.specs.View.{field_view}
 use Rattle.named_model.specs.Declarations.{texts}
 use Rattle.global_names.specs.Grown.{owned, with_fields}
-use Rattle.global_names.proofs.Growing.{fields_more, fields_none}
+use Rattle.global_names.proofs.GrowingNames.{fields_more, fields_none}
 use Rattle.global_names.proofs.declaring.enter_fields.Goals as goal
 
 pub loop-field-preserved : goal.loop-field-preserved

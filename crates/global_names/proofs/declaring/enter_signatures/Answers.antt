@@ -1,6 +1,6 @@
 use Rattle.std.proofs.Common.{◌∙◌, sym, ap}
 use Rattle.name_tables.specs.InForce.{with_signature}
-use Rattle.global_names.proofs.Growing.{signatures_more, signatures_none}
+use Rattle.global_names.proofs.GrowingNames.{signatures_more, signatures_none}
 use Rattle.global_names.proofs.declaring.enter_signatures.Goals as goal
 
 pub loop-name-preserved : goal.loop-name-preserved

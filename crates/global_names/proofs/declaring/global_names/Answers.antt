@@ -1,5 +1,5 @@
 use Rattle.std.proofs.Common.{◌∙◌, sym}
-use Rattle.global_names.proofs.Growing.{paragraphs_more, paragraphs_none}
+use Rattle.global_names.proofs.GrowingNames.{paragraphs_more, paragraphs_none}
 use Rattle.global_names.proofs.declaring.global_names.Goals as goal
 
 pub loop-paragraph-preserved : goal.loop-paragraph-preserved

@@ -2,7 +2,7 @@ use Rattle.std.proofs.Common.{sym, subst}
 use Rattle.rel_formula.specs.Shape.{IsProper}
 use Rattle.lowering_rules.proofs.Arities.{arities, has_relations}
 use Rattle.lowering_rules.proofs.Headers.{has_bodies, settled_rank}
-use Rattle.lowering_rules.proofs.Whole.{formula_right}
+use Rattle.lowering_rules.proofs.ProblemFormulas.{formula_right}
 use Rattle.lowering_rules.proofs.laws.formulas_are_proper.Goals as goal
 
 pub returns : goal.returns

@@ -1,4 +1,4 @@
-use Rattle.lowering_rules.proofs.First.{first_once}
+use Rattle.lowering_rules.proofs.FirstFaults.{first_once}
 use Rattle.lowering_rules.proofs.laws.refusals_are_one.Goals as goal
 
 pub returns : goal.returns

@@ -4,7 +4,7 @@ use Rattle.named_model.specs.declared.fault.NameFault.TheVariants.{Cycle}
 use Rattle.named_model.specs.Faults.{Child, children}
 use Rattle.number_cycles.specs.Walks.{rows_of, IsFirstCyclic}
 use Rattle.parent_cycles.specs.Graphs.{row_of}
-use Rattle.parent_cycles.proofs.Growing.{texts_of_all}
+use Rattle.parent_cycles.proofs.LoopAdditions.{texts_of_all}
 use Rattle.parent_cycles.proofs.Ancestors.{some_cycle, no_cycle}
 use Rattle.parent_cycles.proofs.cycles.first_cycle.Goals as goal
 

@@ -5,7 +5,7 @@ use Rattle.alloy_syntax.specs.View.{paragraph_view}
 use Rattle.named_model.specs.Faults.{children}
 use Rattle.number_cycles.specs.Walks.{rows_of}
 use Rattle.parent_cycles.specs.Graphs.{row_to, AddsChildren}
-use Rattle.parent_cycles.proofs.Growing.{rows_of_names, places_of_names}
+use Rattle.parent_cycles.proofs.LoopAdditions.{rows_of_names, places_of_names}
 use Rattle.parent_cycles.proofs.graph.add_children.Goals as goal
 
 pub returns-in_ok-add_names-in-Signatures : goal.returns-in_ok-add_names-in-Signatures

@@ -2,7 +2,7 @@ use Rattle.std.proofs.Common.{[], ◌∷◌, map, refl}
 use Rattle.alloy_syntax.specs.declared.tree.Name.{Name}
 use Rattle.number_cycles.specs.Walks.{rows_of}
 use Rattle.parent_cycles.specs.Graphs.{row_to}
-use Rattle.parent_cycles.proofs.Growing.{one_more, all_added, row_pushed}
+use Rattle.parent_cycles.proofs.LoopAdditions.{one_more, all_added, row_pushed}
 use Rattle.parent_cycles.proofs.graph.add_names.Goals as goal
 
 pub loop-name-preserved : goal.loop-name-preserved

@@ -4,7 +4,7 @@ use Rattle.alloy_syntax.specs.View.{paragraph_view}
 use Rattle.named_model.specs.Faults.{children}
 use Rattle.number_cycles.specs.Walks.{rows_of}
 use Rattle.parent_cycles.specs.Graphs.{row_of, place_of}
-use Rattle.parent_cycles.proofs.Growing.{one_more, all_added}
+use Rattle.parent_cycles.proofs.LoopAdditions.{one_more, all_added}
 use Rattle.parent_cycles.proofs.graph.graph_of.Goals as goal
 
 pub loop-paragraph-preserved : goal.loop-paragraph-preserved

@@ -12,6 +12,7 @@ returns c = of_parts small.with_function function_typed
     ∙ ap (λ x. x ∷ field_view c.in_ok-second.second ∷ []) c.in_ok-first.ensures ∙ ap (λ x. small.field_to 0 1 ∷ x ∷ []) c.in_ok-second.ensures)
     (map callee_view c.in_ok-callees.callees.items) (ap (map callee_view) c.in_ok-callees.ensures.items ∙ ap (λ x. x ∷ []) c.in_ok-reached.ensures)
     (map formulas_view c.new.result.items) (ap (map formulas_view) c.new.ensures.items)
-    (map formulas_view c.new-2.result.items) (ap (map formulas_view) c.new-2.ensures.items)
+    c.new-2.result.items c.new-2.ensures.items
+    (map formulas_view c.new-3.result.items) (ap (map formulas_view) c.new-3.ensures.items)
     (map command_view c.in_ok-commands.commands.items) c.in_ok-commands.ensures
     c.in_ok-parts.parts.items c.in_ok-parts.ensures.items

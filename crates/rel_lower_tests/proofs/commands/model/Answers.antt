@@ -10,6 +10,7 @@ returns c = of_parts small.with_commands commands_typed
     (map field_view c.new.result.items) (ap (map field_view) c.new.ensures.items)
     (map callee_view c.in_ok-callees.callees.items) (ap (map callee_view) c.in_ok-callees.ensures.items ∙ ap (λ x. x ∷ []) c.in_ok-two_differ.ensures)
     (map formulas_view c.new-2.result.items) (ap (map formulas_view) c.new-2.ensures.items)
+    c.new-3.result.items c.new-3.ensures.items
     (map formulas_view c.in_ok-assertions.assertions.items) (ap (map formulas_view) c.in_ok-assertions.ensures.items ∙ ap (λ x. x ∷ []) c.in_ok-block.ensures)
     (map command_view c.in_ok-commands.field-0.items) c.in_ok-commands.ensures
     c.in_ok-parts.field-0.items c.in_ok-parts.ensures

@@ -10,7 +10,8 @@ returns c = of_parts small.with_many many_typed
     (map field_view c.new.result.items) (ap (map field_view) c.new.ensures.items)
     (map callee_view c.new-2.result.items) (ap (map callee_view) c.new-2.ensures.items)
     (map formulas_view c.new-3.result.items) (ap (map formulas_view) c.new-3.ensures.items)
-    (map formulas_view c.new-4.result.items) (ap (map formulas_view) c.new-4.ensures.items)
+    c.new-4.result.items c.new-4.ensures.items
+    (map formulas_view c.new-5.result.items) (ap (map formulas_view) c.new-5.ensures.items)
     (map command_view c.in_ok-commands.commands.items)
     (ap (map command_view) c.in_ok-commands.ensures.items ∙ ap (λ x. x ∷ []) (c.run.ensures ∙ ap small.run c.in_ok-scope.ensures))
     c.in_ok-parts.parts.items c.in_ok-parts.ensures.items

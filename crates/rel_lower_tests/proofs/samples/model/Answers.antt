@@ -13,6 +13,7 @@ returns c =
     (map field_view c.new.result.items) (ap (map field_view) c.new.ensures.items)
     (map callee_view c.new-2.result.items) (ap (map callee_view) c.new-2.ensures.items)
     (map formulas_view c.in_ok-facts.facts.items) c.in_ok-facts.ensures
+    c.in_ok-fact_names.fact_names.items c.in_ok-fact_names.ensures.items
     (map formulas_view c.new-3.result.items) (ap (map formulas_view) c.new-3.ensures.items)
     (map command_view c.in_ok-commands.commands.items)
     (ap (map command_view) c.in_ok-commands.ensures.items ∙ ap (λ x. x ∷ []) (c.run.ensures ∙ ap small.run c.in_ok-scope.ensures))

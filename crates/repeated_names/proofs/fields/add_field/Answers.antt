@@ -1,6 +1,6 @@
 use Rattle.std.proofs.Common.{◌≡◌, ◌<◌, ◌≤◌, ◌++◌, flat_map, length, get_or, sym, subst}
 use Rattle.repeated_names.specs.Coded.{IsReading, fields_under}
-use Rattle.repeated_names.proofs.Taking.{flat_more, all_taken}
+use Rattle.repeated_names.proofs.ListsGoneOver.{flat_more, all_taken}
 use Rattle.repeated_names.proofs.fields.add_field.Goals as goal
 
 pub loop-name-preserved : goal.loop-name-preserved

@@ -2,7 +2,7 @@ use Rattle.std.proofs.Common.{◌++◌, map, flat_map, take, sym, ap, ◌∙◌,
 use Rattle.alloy_syntax.specs.View.{field_view}
 use Rattle.named_model.specs.Faults.{fields_stated}
 use Rattle.repeated_names.specs.Coded.{IsReading, AreSpaces, space_of}
-use Rattle.repeated_names.proofs.Taking.{seen_more, all_taken}
+use Rattle.repeated_names.proofs.ListsGoneOver.{seen_more, all_taken}
 use Rattle.repeated_names.proofs.Loops.{fields_are}
 use Rattle.repeated_names.proofs.fields.add_fields.Goals as goal
 

@@ -1,6 +1,6 @@
 use Rattle.std.proofs.Common.{[], ◌∷◌, ◌++◌, map, take, sym, subst}
 use Rattle.repeated_names.specs.Coded.{AreSpaces, space_of}
-use Rattle.repeated_names.proofs.Taking.{taken_more, all_taken}
+use Rattle.repeated_names.proofs.ListsGoneOver.{taken_more, all_taken}
 use Rattle.repeated_names.proofs.Coding.{spaces_kept, spaces_push}
 use Rattle.repeated_names.proofs.fields.spaces.Goals as goal
 

@@ -3,7 +3,7 @@ use Rattle.named_model.specs.Names.{number_of}
 use Rattle.repeated_names.specs.Numbered.{AreLinks, child_of}
 use Rattle.repeated_names.proofs.Numbers.{grows_one}
 use Rattle.repeated_names.proofs.Parents.{link_added}
-use Rattle.repeated_names.proofs.Taking.{all_taken}
+use Rattle.repeated_names.proofs.ListsGoneOver.{all_taken}
 use Rattle.repeated_names.proofs.links.add_names.Goals as goal
 
 pub loop-name-preserved : goal.loop-name-preserved

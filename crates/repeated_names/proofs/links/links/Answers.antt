@@ -2,7 +2,7 @@ use Rattle.std.proofs.Common.{[], map, flat_map, sym, subst}
 use Rattle.alloy_syntax.specs.View.{paragraph_view}
 use Rattle.named_model.specs.Faults.{children}
 use Rattle.repeated_names.specs.Numbered.{AreLinks}
-use Rattle.repeated_names.proofs.Taking.{seen_more, all_taken}
+use Rattle.repeated_names.proofs.ListsGoneOver.{seen_more, all_taken}
 use Rattle.repeated_names.proofs.links.links.Goals as goal
 
 pub loop-paragraph-preserved : goal.loop-paragraph-preserved

@@ -1,6 +1,6 @@
 use Rattle.std.proofs.Common.{take, get_or}
 use Rattle.std.proofs.lemmas.List.{get_or_default}
-use Rattle.repeated_names.proofs.Marking.{no_name, marks_in, repeated_here, not_here, marks_next, none_here}
+use Rattle.repeated_names.proofs.DeclaredMarks.{no_name, marks_in, repeated_here, not_here, marks_next, none_here}
 use Rattle.repeated_names.proofs.marks.first_of.Goals as goal
 
 pub loop-each-preserved : goal.loop-each-preserved

@@ -1,4 +1,4 @@
-use Rattle.repeated_names.proofs.Marking.{AreFirst}
+use Rattle.repeated_names.proofs.DeclaredMarks.{AreFirst}
 use Rattle.repeated_names.proofs.marks.first_of.Given as goal
 
 abbrev pub invariant-loop-each : goal.invariant-loop-each

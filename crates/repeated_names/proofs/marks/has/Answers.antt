@@ -1,5 +1,5 @@
 use Rattle.std.proofs.Common.{◌∙◌}
-use Rattle.repeated_names.proofs.Marking.{any_has}
+use Rattle.repeated_names.proofs.DeclaredMarks.{any_has}
 use Rattle.repeated_names.proofs.marks.has.Goals as goal
 
 pub returns : goal.returns

@@ -2,7 +2,7 @@ use Rattle.std.proofs.Common.{◌++◌, ◌∷◌, [], sym, subst}
 use Rattle.repeated_names.specs.declared.marks.Mark.TheVariants as mark
 use Rattle.repeated_names.specs.declared.stated.Space.{Space}
 use Rattle.repeated_names.specs.Marks.{AreMarks, marks_of}
-use Rattle.repeated_names.proofs.Marking.{marks_two}
+use Rattle.repeated_names.proofs.DeclaredMarks.{marks_two}
 use Rattle.repeated_names.proofs.marks.keep.Goals as goal
 
 pub returns-in_ok-put-in-Under-2 : goal.returns-in_ok-put-in-Under-2

@@ -1,6 +1,6 @@
 use Rattle.std.proofs.Common.{sym, ◌++◌, ◌∷◌, [], subst}
 use Rattle.repeated_names.specs.Marks.{AreMarks}
-use Rattle.repeated_names.proofs.Marking.{marks_put}
+use Rattle.repeated_names.proofs.DeclaredMarks.{marks_put}
 use Rattle.repeated_names.proofs.marks.put.Goals as goal
 
 pub returns : goal.returns

@@ -2,7 +2,7 @@ use Rattle.std.proofs.Common.{◌++◌, sym, subst}
 use Rattle.alloy_syntax.specs.declared.tree.Name.{Name}
 use Rattle.named_model.specs.Faults.{Stated, stated}
 use Rattle.repeated_names.specs.Coded.{IsReading}
-use Rattle.repeated_names.proofs.Taking.{taken_more, all_taken}
+use Rattle.repeated_names.proofs.ListsGoneOver.{taken_more, all_taken}
 use Rattle.repeated_names.proofs.stated.add_names.Goals as goal
 
 pub loop-name-preserved : goal.loop-name-preserved

@@ -3,7 +3,7 @@ use Rattle.alloy_syntax.specs.View.{declaration_view}
 use Rattle.named_model.specs.Declarations.{parameter_names}
 use Rattle.named_model.specs.Faults.{stated, parameters}
 use Rattle.repeated_names.specs.Coded.{IsReading}
-use Rattle.repeated_names.proofs.Taking.{all_taken}
+use Rattle.repeated_names.proofs.ListsGoneOver.{all_taken}
 use Rattle.repeated_names.proofs.Loops.{parameters_more}
 use Rattle.repeated_names.proofs.stated.add_parameters.Goals as goal
 

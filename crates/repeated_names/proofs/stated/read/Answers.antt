@@ -2,7 +2,7 @@ use Rattle.std.proofs.Common.{List, map, flat_map, sym, subst, arith}
 use Rattle.alloy_syntax.specs.View.{paragraph_view}
 use Rattle.named_model.specs.Faults.{Child, children, stated_from}
 use Rattle.repeated_names.specs.Coded.{IsReading}
-use Rattle.repeated_names.proofs.Taking.{all_taken}
+use Rattle.repeated_names.proofs.ListsGoneOver.{all_taken}
 use Rattle.repeated_names.proofs.Loops.{paragraphs_more}
 use Rattle.repeated_names.proofs.stated.read.Goals as goal
 

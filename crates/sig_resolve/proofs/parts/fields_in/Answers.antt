@@ -1,7 +1,7 @@
 use Rattle.std.proofs.Common.{List, map, ap, ◌∙◌, length}
 use Rattle.alloy_syntax.specs.declared.tree.Field.{Field}
 use Rattle.alloy_syntax.specs.View.{field_view}
-use Rattle.sig_resolve.proofs.Counting.{names_of, fields_counted}
+use Rattle.sig_resolve.proofs.DeclaredCounts.{names_of, fields_counted}
 use Rattle.sig_resolve.proofs.parts.fields_in.Goals as goal
 
 pub returns-in-Some : goal.returns-in-Some

@@ -1,5 +1,5 @@
 use Rattle.std.proofs.Common.{◌∷◌, ◌++◌, [], ap, ◌∙◌}
-use Rattle.sig_resolve.proofs.Counting.{first_of, counts_more, parts_more, parts_none}
+use Rattle.sig_resolve.proofs.DeclaredCounts.{first_of, counts_more, parts_more, parts_none}
 use Rattle.sig_resolve.proofs.parts.parts.Goals as goal
 
 pub loop-paragraph-preserved : goal.loop-paragraph-preserved

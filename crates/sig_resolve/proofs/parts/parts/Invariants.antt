@@ -2,7 +2,7 @@ use Rattle.std.proofs.Common.{◌≡◌, ◌++◌, [], map}
 use Rattle.alloy_syntax.specs.View.{paragraph_view}
 use Rattle.named_model.specs.Declarations.{parts_behind}
 use Rattle.sig_resolve.specs.Counts.{AreCounts}
-use Rattle.sig_resolve.proofs.Counting.{first_of, left_of}
+use Rattle.sig_resolve.proofs.DeclaredCounts.{first_of, left_of}
 use Rattle.sig_resolve.proofs.parts.parts.Given as goal
 
 abbrev pub invariant-loop-paragraph : goal.invariant-loop-paragraph

@@ -9,7 +9,7 @@ use Rattle.named_model.specs.Declarations.{bound_resolved, unions_resolved, arro
 use Rattle.named_model.specs.Faults.{bound_faults, union_faults, arrow_faults}
 use Rattle.name_tables.proofs.Reaching.{link_first}
 use Rattle.signature_names.specs.Bounds.{placed_view}
-use Rattle.signature_names.proofs.Links.{links_more, links_fault, links_all, seen_union, seen_chain, union_faults_are, union_value_is}
+use Rattle.signature_names.proofs.BoundOperands.{links_more, links_fault, links_all, seen_union, seen_chain, union_faults_are, union_value_is}
 use Rattle.signature_names.proofs.bounds.+bounds.Goals as goal
 
 pub arrows-loop-arrow-preserved : goal.arrows-loop-arrow-preserved

@@ -4,7 +4,7 @@ use Rattle.alloy_syntax.specs.View.{arrow_view}
 use Rattle.named_model.specs.Declarations.{unions_resolved, arrows_resolved}
 use Rattle.named_model.specs.Faults.{union_faults, arrow_faults}
 use Rattle.signature_names.specs.Bounds.{placed_view}
-use Rattle.signature_names.proofs.Links.{LinksLeft}
+use Rattle.signature_names.proofs.BoundOperands.{LinksLeft}
 use Rattle.signature_names.proofs.bounds.+bounds.Given as goal
 
 abbrev pub invariant-unions-loop-operand : goal.invariant-unions-loop-operand

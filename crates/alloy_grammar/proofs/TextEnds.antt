@@ -26,7 +26,7 @@ use Rattle.alloy_grammar.specs.Levels.{level_of}
 use Rattle.alloy_grammar.specs.Nodes.{class_of_constant, class_of_prefix, class_of_operator, class_of_quantifier, class_of_comparison, comparing_over, spells, spells_links, spells_steps, spells_declarations, has_declarations}
 use Rattle.alloy_grammar.proofs.Results.{either, true_not_false}
 use Rattle.alloy_grammar.proofs.Tokens.{other, marks, and_left, and_right, class_is}
-use Rattle.alloy_grammar.proofs.First.{rank, First, first, never_first}
+use Rattle.alloy_grammar.proofs.FirstTokens.{rank, First, first, never_first}
 
 -- ---- a token that stands there
 

@@ -22,10 +22,10 @@ use Rattle.alloy_grammar.specs.Fronts.{mark_of, flag, name, number, each, listed
 use Rattle.alloy_grammar.specs.Models.{optional, qualifier, qualifiers, class_of_kind, target, entry, exceptions, sizes, scope, expected, paragraph, ordering_path, opened, heading, IsTextOf, depth_of_target, depth_of_paragraph, depth_of_paragraphs, depth_of_model, IsPlainTarget, IsPlainParagraph, IsPlainModel}
 use Rattle.alloy_grammar.proofs.Results.{true_not_false, done_is}
 use Rattle.alloy_grammar.proofs.Tokens.{marks}
-use Rattle.alloy_grammar.proofs.Ends.{is_next, after_is, differs}
+use Rattle.alloy_grammar.proofs.TextEnds.{is_next, after_is, differs}
 use Rattle.alloy_grammar.proofs.Full.{mark_full, spelled_full, number_full, place_is, Goes, many_full}
 use Rattle.alloy_grammar.proofs.Models.{Short, entry_read, paragraph_read}
-use Rattle.alloy_grammar.proofs.Back.{listed_full, commas_full, own_block_full, block_starts, signatures_full, fact_full, assertion_full, predicate_full, function_full}
+use Rattle.alloy_grammar.proofs.Back.{listed_full, commas_full, own_block_full, block_starts, signatures_full, label_full, fact_full, assertion_full, predicate_full, function_full}
 
 -- ---- what stands behind a command's parts
 
@@ -126,7 +126,7 @@ kind_follows kind.Check ts us m = follow_of class.Check ts us m refl refl refl r
 paragraph_follows : (p : ParagraphTree) (ts rest : List Seen) → paragraph p ts rest → Follow ts
 unfolding is_class
 paragraph_follows (signatures b m ns p fs) ts rest s = (qualifiers_start b m ts s.0 s.2.0 s.1 s.2.1).0
-paragraph_follows (fact b) ts rest s = follow_of class.Fact ts s.0 s.1 refl refl refl refl refl refl refl refl
+paragraph_follows (fact n b) ts rest s = follow_of class.Fact ts s.0 s.1 refl refl refl refl refl refl refl refl
 paragraph_follows (predicate n ds b) ts rest s = follow_of class.Pred ts s.0 s.1 refl refl refl refl refl refl refl refl
 paragraph_follows (function n ds m range result) ts rest s = follow_of class.Fun ts s.0 s.1 refl refl refl refl refl refl refl refl
 paragraph_follows (assertion n b) ts rest s = follow_of class.Assert ts s.0 s.1 refl refl refl refl refl refl refl refl
@@ -226,16 +226,6 @@ expected_full (Some n) ts rest s f = rw (is_next class.Expect ts s.0 s.1, after_
 
 -- ---- commands
 
-label_full : (n : Option Name) (ts us vs : List Seen) → optional name n ts us → mark_of class.LeftBrace us vs → (label_at ts ≡ Ok (n, us)) × ((next_is class.Name ts && not (next_is class.LeftBrace (after ts))) ≡ false)
-unfolding label_at is_class
-label_full None ts us vs s m =
-    let none : next_is class.Name ts ≡ false = ap (next_is class.Name) s ∙ differs class.LeftBrace class.Name us vs m refl in
-    (rw none (ap (λ ws. Ok (None, ws)) s), rw none refl)
-label_full (Some n) ts us vs s m =
-    let w : mark_of class.Name ts us = (s.0, s.1, s.2) in
-    let brace : next_is class.LeftBrace (after ts) ≡ true = ap (next_is class.LeftBrace) (after_is class.Name ts us w) ∙ is_next class.LeftBrace us vs m in
-    (rw (is_next class.Name ts us w, spelled_full class.Name n ts us s) refl, rw (is_next class.Name ts us w, brace) refl)
-
 target_full : (strict : Bool) (limit : ℕ) (t : TargetTree) (ts rest : List Seen) → target t ts rest → next_is class.LeftBrace rest ≡ false → depth_of_target t ≤ limit → (strict ≡ true → IsPlainTarget t) → target_at strict limit ts ≡ Ok (t, rest)
 unfolding target_at
 target_full strict limit (at_name n) ts rest s none d plain =
@@ -278,8 +268,8 @@ unfolding paragraph_at is_class
 paragraph_full strict limit some (signatures b m ns p fs) ts rest s f d plain =
     let w = (qualifiers_start b m ts s.0 s.2.0 s.1 s.2.1).1 in
     rw (w.fact, w.predicate, w.function, w.assertion, w.run, w.check) (signatures_full strict limit b m ns p fs ts rest s d plain f.brace)
-paragraph_full strict limit some (fact b) ts rest s f d plain =
-    rw (is_next class.Fact ts s.0 s.1, after_is class.Fact ts s.0 s.1) (fact_full strict limit b s.0 s.2.0 rest s.2.1 s.2.2 d plain)
+paragraph_full strict limit some (fact n b) ts rest s f d plain =
+    rw (is_next class.Fact ts s.0 s.1, after_is class.Fact ts s.0 s.1) (fact_full strict limit n b s.0 s.2.0 rest s.2.1 s.2.2 d plain)
 paragraph_full strict limit some (predicate n ds b) ts rest s f d plain =
     let t = s.2 in
     let u = t.2 in

@@ -1,11 +1,11 @@
 -- A model by its two parts.
-use Rattle.std.proofs.Common.{◌≡◌, List, [], ◌++◌, map, flat_map, refl, sym, ◌∙◌, subst}
+use Rattle.std.proofs.Common.{◌≡◌, ℕ, Option, List, [], ◌++◌, map, flat_map, refl, sym, ◌∙◌, subst}
 use Rattle.alloy_syntax.specs.Tree.{ModelTree, ParagraphTree}
 use Rattle.named_model.specs.declared.fault.NameFault.{NameFault}
 use Rattle.named_model.specs.declared.named.Part.{Part}
 use Rattle.named_model.specs.Model.{NamedTree}
 use Rattle.named_model.specs.View.{field_view, callee_view, formulas_view, command_view}
-use Rattle.named_model.specs.Declarations.{globals_of, callees_named, parts_behind, paragraphs_named}
+use Rattle.named_model.specs.Declarations.{globals_of, callees_named, fact_names, parts_behind, paragraphs_named}
 use Rattle.named_model.specs.Faults.{signature_faults, body_faults, recursive_faults, command_faults, faults_in}
 use Rattle.name_tables.specs.Told.{IsTold}
 use Rattle.name_tables.proofs.Telling.{told_first}
@@ -32,17 +32,18 @@ pub nothing_told : (m : ModelTree) → declared_faults m.paragraphs ≡ [] → s
 nothing_told m none nothing = sym (two_parts m) ∙ none_behind (declared_faults m.paragraphs) (said_faults m.paragraphs) none nothing
 
 -- the resolved tree of what is declared and said
-abbrev pub tree_with : Declared → Said → List Part → NamedTree
-tree_with d s parts = record {
+abbrev pub tree_with : Declared → Said → List (Option (List ℕ)) → List Part → NamedTree
+tree_with d s names parts = record {
   signatures = d.signatures.items;
   fields = map field_view d.fields.items;
   callees = map callee_view s.callees.items;
   facts = map formulas_view s.facts.items;
+  fact_names = names;
   assertions = map formulas_view s.assertions.items;
   commands = map command_view s.commands.items;
   parts = parts;
 }
 
-pub named_is : (ps : List ParagraphTree) (d : Declared) (s : Said) (parts : List Part) → AreDeclared (globals_of ps) ps d → AreBodies (globals_of ps) ps s → parts ≡ parts_behind [] ps
-    → tree_with d s parts ≡ paragraphs_named (globals_of ps) ps
-named_is ps d s parts declared said are = rw (declared.signatures_are, declared.fields_are, said.callees_are, said.facts_are, said.assertions_are, said.commands_are, are) refl
+pub named_is : (ps : List ParagraphTree) (d : Declared) (s : Said) (names : List (Option (List ℕ))) (parts : List Part) → AreDeclared (globals_of ps) ps d → AreBodies (globals_of ps) ps s → names ≡ flat_map fact_names ps → parts ≡ parts_behind [] ps
+    → tree_with d s names parts ≡ paragraphs_named (globals_of ps) ps
+named_is ps d s names parts declared said named are = rw (declared.signatures_are, declared.fields_are, said.callees_are, said.facts_are, named, said.assertions_are, said.commands_are, are) refl

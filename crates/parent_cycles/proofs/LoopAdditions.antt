@@ -59,7 +59,7 @@ texts_of_names parent (n ∷ ns) = ap (λ zs. n.text ∷ zs) (texts_of_names par
 
 texts_of_one : (p : ParagraphTree) → map (λ (c : Child). c.name.text) (children p) ≡ texts (signature_names p)
 texts_of_one (tree.signatures is_abstract mark names parent fields) = texts_of_names parent names
-texts_of_one (tree.fact b) = refl
+texts_of_one (tree.fact n b) = refl
 texts_of_one (tree.predicate n ds b) = refl
 texts_of_one (tree.function n ds mark range body) = refl
 texts_of_one (tree.assertion n b) = refl
