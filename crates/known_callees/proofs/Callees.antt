@@ -1,14 +1,19 @@
 -- Headers and bodies, by the groups of parameters.
-use Rattle.std.proofs.Common.{◌≡◌, ℕ, List, [], map, reverse, refl, sym, ap, ◌∙◌, Option}
+use Rattle.std.proofs.Common.{◌≡◌, ℕ, Bool, ◌||◌, List, [], map, reverse, refl, sym, ap, ◌∙◌, Option}
 use Rattle.std.proofs.lemmas.List.{append-nil}
 use Rattle.named_model.specs.Phrase.{PhraseTree, DomainTrees}
 use Rattle.named_model.specs.Model.{MeaningTree, formulas, value, CalleeTree}
 use Rattle.model_types.specs.Sorts.{Kind}
-use Rattle.model_types.specs.Typing.{Declared, Local}
-use Rattle.model_types.specs.Models.{or_unknown, parameters_known, domains_known, header_with, header_of}
-use Rattle.callee_headers.specs.Bodies.{body_in, body_of}
+use Rattle.model_types.specs.Typing.{Declared, Local, settled, types_in}
+use Rattle.model_types.specs.Models.{or_unknown, parameters_known, domains_known, kind_known, header_with, header_of}
+use Rattle.shared_names.specs.Shared.{shared_in}
+use Rattle.settling_rules.specs.Inside.{AreAlikeWhere}
+use Rattle.settling_rules.specs.Same.{AreSameTypes, Asks}
+use Rattle.settling_rules.proofs.SharedDeclarations.{asks_left, asks_right}
+use Rattle.settling_rules.proofs.SettledAlike.{settled_alike}
+use Rattle.callee_headers.specs.Bodies.{tree_of, body_in, body_of}
 use Rattle.known_callees.specs.Groups.{GroupTree, groups_in, behind, arities_of}
-use Rattle.known_callees.specs.Meanings.{kind_in}
+use Rattle.known_callees.specs.Meanings.{shared_in_meaning, kind_in}
 use Rattle.known_callees.proofs.Grouped.{local_arity, arities_are, locals_are}
 
 module _ (d : Declared) where
@@ -38,3 +43,16 @@ module _ (d : Declared) where
 
     pub body_by : (b : Option PhraseTree) → b ≡ body_in d (behind d [] gs) c.meaning → b ≡ body_of d c
     body_by b e = e ∙ ap (λ (ls : List Local). body_in d ls c.meaning) locals_by
+
+-- what is known of what a predicate or a function stands for is the same behind local names that are alike
+module _ (asked : Bool) (d : Declared) (same : AreSameTypes (types_in d) (types_in d)) (ls ms : List Local) (h : AreAlikeWhere asked ls ms) where
+  part_alike : (x : PhraseTree) → Asks (shared_in x) asked → settled d ls [] x ≡ settled d ms [] x
+  part_alike x a = settled_alike asked d same ls ms h [] [] (λ e t. refl) x a
+
+  pub kind_alike : (x : MeaningTree) → Asks (shared_in_meaning x) asked → kind_in d ls x ≡ kind_in d ms x
+  kind_alike (formulas xs) a = refl
+  kind_alike (value range body) a = ap kind_known (part_alike range (asks_left (shared_in range) (shared_in body) asked a))
+
+  pub body_alike : (x : MeaningTree) → Asks (shared_in_meaning x) asked → body_in d ls x ≡ body_in d ms x
+  body_alike (formulas xs) a = refl
+  body_alike (value range body) a = ap tree_of (part_alike body (asks_right (shared_in range) (shared_in body) asked a))

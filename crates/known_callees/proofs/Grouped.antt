@@ -1,8 +1,8 @@
 -- Groups of parameters are what is known of domains.
-use Rattle.std.proofs.Common.{◌≡◌, ℕ, zero, suc, ◌+◌, ◌<◌, ◌≤◌, Bool, ◌||◌, List, [], ◌∷◌, ◌++◌, map, length, drop, get_or, replicate, reverse, refl, sym, ap, subst, ◌∙◌, take, Option, Some, None, Result, Ok, Err}
+use Rattle.std.proofs.Common.{◌≡◌, ℕ, zero, suc, ◌+◌, ◌<◌, ◌≤◌, Bool, ◌||◌, List, [], ◌∷◌, ◌++◌, map, length, drop, get_or, replicate, reverse, refl, sym, ap, subst, ◌∙◌, Option, Some, None, Result, Ok, Err}
 use Rattle.std.specs.Option.{option_map}
-use Rattle.std.proofs.lemmas.List.{map-append, append_assoc, append-nil, reverse-append, take_more}
-use Rattle.named_model.specs.Phrase.{PhraseTree, DomainTrees, no_domains, more_domains, domains_of}
+use Rattle.std.proofs.lemmas.List.{map-append, append_assoc, append-nil, reverse-append}
+use Rattle.named_model.specs.Phrase.{PhraseTree, DomainTree, DomainTrees, no_domains, more_domains, domains_of}
 use Rattle.named_model.specs.declared.phrase.Domain.{Domain as CodeDomain}
 use Rattle.named_model.specs.View.{domain_view}
 use Rattle.model_types.specs.declared.fault.TypeFault.{TypeFault}
@@ -12,11 +12,10 @@ use Rattle.model_types.specs.Models.{local_of, or_unknown, domains_known, parame
 use Rattle.shared_names.specs.Shared.{shared_in, shared_in_domains}
 use Rattle.settling_rules.specs.Inside.{AreAlikeWhere}
 use Rattle.settling_rules.specs.Same.{AreSameTypes, Asks}
-use Rattle.settling_rules.proofs.Asked.{asks_left, asks_right, alike_then, alike_onto, type_where}
-use Rattle.settling_rules.proofs.Alike.{settled_alike}
+use Rattle.settling_rules.proofs.SharedDeclarations.{asks_left, asks_right, alike_then, alike_onto, type_where}
+use Rattle.settling_rules.proofs.SettledAlike.{settled_alike}
 use Rattle.settling_rules.proofs.Reaching.{next_is, none_is}
-use Rattle.known_callees.specs.declared.groups.Group.{Group}
-use Rattle.known_callees.specs.Groups.{GroupTree, group_view, relation_of, local_with, entered, group_in, groups_in, behind, arities_of}
+use Rattle.known_callees.specs.Groups.{GroupTree, relation_of, local_with, entered, group_in, groups_in, behind, arities_of}
 use Rattle.known_callees.specs.Meanings.{kind_with}
 
 map_replicate : {X Y : Type 0} (f : X → Y) (n : ℕ) (x : X) → map f (replicate n x) ≡ replicate n (f x)
@@ -139,13 +138,6 @@ module _ (asked : Bool) (d : Declared) (same : AreSameTypes (types_in d) (types_
   pub entered_behind : (new now : List Local) (found : List GroupTree) (g : GroupTree) → AreAlikeWhere asked new (entered d now g) → AreAlikeWhere asked now (behind d [] found) → AreAlikeWhere asked new (entered d (behind d [] found) g)
   entered_behind new now found g h k = alike_then asked new (entered d now g) (entered d (behind d [] found) g) h (entered_alike now (behind d [] found) g k)
 
-  pub group_turn : (new now : List Local) (gs : List Group) (i : ℕ) (g : Group) → i < length gs → g ≡ get_or gs i g → AreAlikeWhere asked new (entered d now (group_view g)) → AreAlikeWhere asked now (behind d [] (map group_view (take i gs)))
-      → AreAlikeWhere asked new (behind d [] (map group_view (take (i + 1) gs)))
-  group_turn new now gs i g l is h k =
-      subst (λ (xs : List GroupTree). AreAlikeWhere asked new (behind d [] xs))
-      (sym (ap (map group_view) (take_more gs i g l ∙ ap (λ (x : Group). take i gs ++ x ∷ []) (sym is)) ∙ map-append group_view (take i gs) (g ∷ [])))
-      (alike_more d asked new (map group_view (take i gs)) (group_view g) (entered_behind new now (map group_view (take i gs)) (group_view g) h k))
-
-  -- a part is the same behind local names that are alike
-  pub settled_behind : (ls ms : List Local) (x : PhraseTree) → AreAlikeWhere asked ls ms → Asks (shared_in x) asked → settled d ls [] x ≡ settled d ms [] x
-  settled_behind ls ms x h a = settled_alike asked d same ls ms h [] [] (λ e t. refl) x a
+  -- the group of a domain is the same behind local names that are alike
+  pub group_alike : (ls ms : List Local) (x : DomainTree) → AreAlikeWhere asked ls ms → Asks (shared_in x.domain) asked → group_in d ls x ≡ group_in d ms x
+  group_alike ls ms x h a = ap (λ (r : Result Settled TypeFault). record { count = x.count; relation = relation_of r }) (settled_alike asked d same ls ms h [] [] (λ e t. refl) x.domain a)

@@ -19,7 +19,7 @@ use Rattle.same_declarations.specs.Same.{AreSameFields, IsSameHeader, AreSameHea
 use Rattle.settling_rules.proofs.Typed.{within_alike}
 use Rattle.callee_headers.specs.Called.{EachCalled, EachCalledInMeaning, EachCalledBy, AreRanks}
 use Rattle.callee_headers.specs.Bodies.{tree_of, body_in, body_of, bodies_of, AreLow}
-use Rattle.callee_headers.proofs.Alike.{Alike}
+use Rattle.callee_headers.proofs.SameAnswers.{Alike}
 use Rattle.callee_headers.proofs.Agreeing.{settled_agrees, known_agree, header_agrees}
 use Rattle.callee_headers.proofs.Ranks.{headers_by_ranks}
 use Rattle.callee_headers.proofs.Bodies.{calls_by_bodies}

@@ -6,4 +6,4 @@ pub mod Orders
 pub mod Bounds
 pub mod Ready
 pub mod Callees
-pub mod Moved
+pub mod OutcomeLemmas

@@ -1,19 +1,18 @@
 // What is known of one predicate or function.
-ghost use Rattle.std.specs.Prelude.{◌≡◌, ℕ, [], ◌++◌, map, replicate, true, option_map, IfOk, OnOk};
+ghost use Rattle.std.specs.Prelude.{◌≡◌, ℕ, [], ◌++◌, ◌||◌, map, replicate, option_map, IfOk, OnOk};
 ghost use Rattle.named_model.specs.Phrase.{PhraseTree};
 ghost use Rattle.named_model.specs.View.{phrase_view, meaning_view, callee_view};
 ghost use Rattle.model_types.specs.Typing.{settled};
 ghost use Rattle.model_types.specs.Models.{header_of};
 ghost use Rattle.part_sorts.specs.Kinds.{kind_view};
-ghost use Rattle.shared_names.specs.Shared.{shared_in};
-ghost use Rattle.settling_rules.specs.Inside.{AreAlikeWhere};
+ghost use Rattle.shared_names.specs.Shared.{shared_in_domains};
 ghost use Rattle.typed_scopes.specs.Declaring.{declared_by, AreTables};
 ghost use Rattle.callee_headers.specs.Bodies.{tree_of, body_in, body_of};
-ghost use Rattle.known_callees.specs.Groups.{behind, arities_of, group_view};
+ghost use Rattle.known_callees.specs.Groups.{arities_of, group_view};
 ghost use Rattle.settled_parts.specs.Given.{relation_view};
 ghost use Rattle.known_callees.specs.Meanings.{shared_in_meaning, kind_in, kind_with};
 
-use crate::groups::{Group, groups_in, relation_behind, unless_memory};
+use crate::groups::{Group, groups_in, known_relation, unless_memory};
 use named_model::named::{Callee, Meaning};
 use named_model::phrase::Phrase;
 use part_sorts::Kind;
@@ -37,18 +36,18 @@ pub fn callee_known(
     ensures kind { IfOk result (λ r. kind_view r.0.kind ≡ (header_of (declared_by setting.now) (callee_view callee.now)).kind) }
     ensures body { IfOk result (λ r. option_map phrase_view r.1 ≡ body_of (declared_by setting.now) (callee_view callee.now)) }
 {
-    let asked = is_in_domains(&callee.parameters) || is_in_meaning(&callee.meaning);
+    let asked = is_asked(callee);
     let groups = groups_in(alloc, setting, scope, asked, &callee.parameters)?;
     let parameters = arities(alloc, groups.as_slice())?;
-    let (kind, body) = meaning_known(
-        alloc,
-        setting,
-        scope,
-        asked,
-        groups.as_slice(),
-        &callee.meaning,
-    )?;
+    let (kind, body) = meaning_known(alloc, setting, scope, &callee.meaning)?;
     Ok((Header { parameters, kind }, body))
+}
+
+// Whether a name of several fields stands in a predicate or a function, as far as its header or the body of a function asks.
+fn is_asked(callee: &Callee) -> bool
+    ensures { result ≡ shared_in_domains (callee_view callee.now).parameters || shared_in_meaning (callee_view callee.now).meaning }
+{
+    is_in_domains(&callee.parameters) || is_in_meaning(&callee.meaning)
 }
 
 // Whether a name of several fields stands in what a predicate or a function stands for, as far as its header asks.
@@ -66,21 +65,17 @@ fn meaning_known(
     alloc: Global,
     setting: &Setting,
     scope: &mut Scope,
-    asked: bool,
-    groups: &[Group],
     meaning: &Meaning,
 ) -> Result<(Kind, Option<Phrase>), AllocError>
-    requires tables { AreTables setting.now }
-    requires alike { AreAlikeWhere asked scope.old.locals (behind (declared_by setting.now) [] (map group_view groups.now)) }
-    requires asked { shared_in_meaning (meaning_view meaning.now) ≡ true → asked ≡ true }
-    ensures kind { IfOk result (λ r. kind_view r.0 ≡ kind_in (declared_by setting.now) (behind (declared_by setting.now) [] (map group_view groups.now)) (meaning_view meaning.now)) }
-    ensures body { IfOk result (λ r. option_map phrase_view r.1 ≡ body_in (declared_by setting.now) (behind (declared_by setting.now) [] (map group_view groups.now)) (meaning_view meaning.now)) }
+    requires { AreTables setting.now }
+    ensures kind { IfOk result (λ r. kind_view r.0 ≡ kind_in (declared_by setting.now) scope.old.locals (meaning_view meaning.now)) }
+    ensures body { IfOk result (λ r. option_map phrase_view r.1 ≡ body_in (declared_by setting.now) scope.old.locals (meaning_view meaning.now)) }
 {
     match meaning {
         Meaning::Formulas(_) => Ok((Kind::Formula, None)),
         Meaning::Value(range, body) => {
-            let range = relation_behind(alloc, setting, scope, asked, groups, range)?;
-            let body = body_known(alloc, setting, scope, asked, groups, body)?;
+            let range = known_relation(alloc, setting, scope, range)?;
+            let body = known_body(alloc, setting, scope, body)?;
             Ok((range_kind(&range), body))
         }
     }
@@ -96,25 +91,8 @@ fn range_kind(range: &Option<(Phrase, usize)>) -> Kind
     }
 }
 
-// A body behind groups, where it has no fault.
-fn body_known(
-    alloc: Global,
-    setting: &Setting,
-    scope: &mut Scope,
-    asked: bool,
-    groups: &[Group],
-    body: &Phrase,
-) -> Result<Option<Phrase>, AllocError>
-    requires tables { AreTables setting.now }
-    requires alike { AreAlikeWhere asked scope.old.locals (behind (declared_by setting.now) [] (map group_view groups.now)) }
-    requires asked { shared_in (phrase_view body.now) ≡ true → asked ≡ true }
-    ensures { IfOk result (λ b. option_map phrase_view b ≡ tree_of (settled (declared_by setting.now) (behind (declared_by setting.now) [] (map group_view groups.now)) [] (phrase_view body.now))) }
-{
-    let settled = settled_body(alloc, setting, scope, body)?;
-    Ok(settled)
-}
-
-fn settled_body(
+// A body, where it has no fault.
+fn known_body(
     alloc: Global,
     setting: &Setting,
     scope: &mut Scope,

@@ -1,10 +1,10 @@
 // Parameters of one domain.
-ghost use Rattle.std.specs.Prelude.{◌≡◌, ◌≢◌, [], map, true, option_map, IfOk, IfSome, OnOk};
+ghost use Rattle.std.specs.Prelude.{◌≡◌, ◌≢◌, [], map, true, option_map, IfOk, OnOk};
 ghost use Rattle.named_model.specs.Phrase.{domains_of};
 ghost use Rattle.named_model.specs.View.{phrase_view, domain_view};
 ghost use Rattle.model_types.specs.declared.fault.TypeFault.TheVariants.{Memory};
 ghost use Rattle.model_types.specs.Typing.{settled, onto};
-ghost use Rattle.shared_names.specs.Shared.{shared_in, shared_in_domains};
+ghost use Rattle.shared_names.specs.Shared.{shared_in_domains};
 ghost use Rattle.settling_rules.specs.Inside.{AreAlikeWhere};
 ghost use Rattle.typed_scopes.specs.Given.{settled_view};
 ghost use Rattle.typed_scopes.specs.Declaring.{declared_by, AreTables};
@@ -44,28 +44,25 @@ pub fn groups_in(
     scope.locals = Locals::new(alloc);
     let mut groups = Vec::new(alloc);
     for domain in domains {
-        let group = next_group(alloc, setting, scope, asked, groups.as_slice(), domain)?;
+        let group = next_group(alloc, setting, scope, asked, domain)?;
         groups.push(group)?;
     }
     Ok(groups)
 }
 
-// The group of a domain behind others. Its parameters are entered.
+// The group of a domain. Its parameters are entered.
 fn next_group(
     alloc: Global,
     setting: &Setting,
     scope: &mut Scope,
     asked: bool,
-    before: &[Group],
     domain: &Domain,
 ) -> Result<Group, AllocError>
-    requires tables { AreTables setting.now }
-    requires alike { AreAlikeWhere asked scope.old.locals (behind (declared_by setting.now) [] (map group_view before.now)) }
-    requires asked { shared_in (domain_view domain.now).domain ≡ true → asked ≡ true }
-    ensures value { IfOk result (λ g. group_view g ≡ group_in (declared_by setting.now) (behind (declared_by setting.now) [] (map group_view before.now)) (domain_view domain.now)) }
-    ensures locals { IfOk result (λ g. AreAlikeWhere asked scope.new.locals (entered (declared_by setting.now) (behind (declared_by setting.now) [] (map group_view before.now)) (group_view g))) }
+    requires { AreTables setting.now }
+    ensures value { IfOk result (λ g. group_view g ≡ group_in (declared_by setting.now) scope.old.locals (domain_view domain.now)) }
+    ensures locals { IfOk result (λ g. AreAlikeWhere asked scope.new.locals (entered (declared_by setting.now) scope.old.locals (group_view g))) }
 {
-    let relation = relation_behind(alloc, setting, scope, asked, before, &domain.domain)?;
+    let relation = known_relation(alloc, setting, scope, &domain.domain)?;
     let group = Group {
         count: domain.count,
         relation,
@@ -74,32 +71,8 @@ fn next_group(
     Ok(group)
 }
 
-// A part behind groups, with its arity, where it is a relation without a fault. The local names are as before.
-pub fn relation_behind(
-    alloc: Global,
-    setting: &Setting,
-    scope: &mut Scope,
-    asked: bool,
-    groups: &[Group],
-    phrase: &Phrase,
-) -> Result<Option<(Phrase, usize)>, AllocError>
-    requires tables { AreTables setting.now }
-    requires alike { AreAlikeWhere asked scope.old.locals (behind (declared_by setting.now) [] (map group_view groups.now)) }
-    requires asked { shared_in (phrase_view phrase.now) ≡ true → asked ≡ true }
-    ensures value { IfOk result (λ r. option_map relation_view r ≡ relation_of (settled (declared_by setting.now) (behind (declared_by setting.now) [] (map group_view groups.now)) [] (phrase_view phrase.now))) }
-    ensures alike { OnOk result (AreAlikeWhere asked scope.new.locals (behind (declared_by setting.now) [] (map group_view groups.now))) }
-{
-    match relation(alloc, setting, scope, phrase)? {
-        Some(relation) => Ok(Some(relation)),
-        None => {
-            enter_anew(alloc, setting, scope, asked, groups)?;
-            Ok(None)
-        }
-    }
-}
-
-// A part with its arity, where it is a relation without a fault. Else the local names may be any.
-fn relation(
+// A part with its arity, where it is a relation without a fault. The local names are as before.
+pub fn known_relation(
     alloc: Global,
     setting: &Setting,
     scope: &mut Scope,
@@ -107,7 +80,7 @@ fn relation(
 ) -> Result<Option<(Phrase, usize)>, AllocError>
     requires { AreTables setting.now }
     ensures value { IfOk result (λ r. option_map relation_view r ≡ relation_of (settled (declared_by setting.now) scope.old.locals [] (phrase_view phrase.now))) }
-    ensures locals { IfOk result (λ r. IfSome r (λ x. scope.new.locals ≡ scope.old.locals)) }
+    ensures locals { scope.new.locals ≡ scope.old.locals }
 {
     let none = Tops::new(alloc);
     match part(alloc, setting, scope, &none, phrase) {
@@ -137,24 +110,6 @@ pub fn unless_memory(fault: TypeFault) -> Result<(), AllocError>
         TypeFault::Memory => Err(AllocError),
         _ => Ok(()),
     }
-}
-
-// Enters the parameters of these groups as the only local names.
-fn enter_anew(
-    alloc: Global,
-    setting: &Setting,
-    scope: &mut Scope,
-    asked: bool,
-    groups: &[Group],
-) -> Result<(), AllocError>
-    requires { AreTables setting.now }
-    ensures { OnOk result (AreAlikeWhere asked scope.new.locals (behind (declared_by setting.now) [] (map group_view groups.now))) }
-{
-    scope.locals = Locals::new(alloc);
-    for group in groups {
-        enter(alloc, setting, scope, asked, group)?;
-    }
-    Ok(())
 }
 
 // Enters the parameters of a group, with types where these are asked for; those of an unknown domain with none.

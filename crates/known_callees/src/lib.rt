@@ -9,4 +9,3 @@ mod whole;
 
 pub use crate::groups::{Group, groups_in};
 pub use crate::whole::declared;
-pub use std::alloc::AllocError as NoMemory;

@@ -23,7 +23,7 @@ use Rattle.typed_scopes.specs.declared.setting.Setting.{Setting}
 use Rattle.typed_scopes.specs.Declaring.{types_by, declared_by}
 use Rattle.typed_scopes.specs.Given.{settled_view}
 use Rattle.settled_parts.specs.Views.{stepped_view}
-use Rattle.settled_parts.proofs.Heads.{settled_by, join_seen}
+use Rattle.settled_parts.proofs.PathHeads.{settled_by, join_seen}
 
 -- ---- calls
 

@@ -12,7 +12,7 @@ use Rattle.settling_rules.specs.Inside.{AreAlikeWhere}
 use Rattle.settling_rules.specs.Same.{AreSameTypes, Asks}
 use Rattle.settling_rules.specs.Single.{relation_settled, domain_settled, entered}
 use Rattle.settling_rules.specs.Told.{IsTold}
-use Rattle.settling_rules.proofs.Asked.{asks_right, alike_refl}
+use Rattle.settling_rules.proofs.SharedDeclarations.{asks_right, alike_refl}
 use Rattle.settling_rules.proofs.Loops.{ReachedBehind, behind_all, DomainsLeft, domains_more, domains_fault, ValuesLeft, values_more, values_fault}
 use Rattle.settling_rules.proofs.Reaching.{before_all, next_is, none_is, domain_first, phrases_are}
 use Rattle.typed_scopes.specs.Zipped.{IsInside}

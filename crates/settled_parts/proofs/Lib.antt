@@ -1,6 +1,6 @@
 pub mod Lists
 pub mod Operands
 pub mod Entered
-pub mod Heads
+pub mod PathHeads
 pub mod Arms
-pub mod Wholes
+pub mod WalkedParts

@@ -19,7 +19,7 @@ use Rattle.settling_rules.specs.Inside.{AreSameWhere}
 use Rattle.settling_rules.specs.Same.{Asks}
 use Rattle.settling_rules.specs.Single.{link_settled, step_settled, type_behind, link_first}
 use Rattle.settling_rules.specs.Told.{IsTold}
-use Rattle.settling_rules.proofs.Asked.{asks_right}
+use Rattle.settling_rules.proofs.SharedDeclarations.{asks_right}
 use Rattle.settling_rules.proofs.Loops.{OperandsLeft, before_links, operands_more, operands_fault, operands_all, StepsLeft, before_steps, steps_more, steps_fault, steps_all}
 use Rattle.settling_rules.proofs.Reaching.{next_is, none_is, reached_start}
 use Rattle.settled_parts.specs.Given.{IsGivenFirst, IsGivenBefore}

@@ -6,4 +6,3 @@
 mod settling;
 
 pub use crate::settling::{domains, formulas, part};
-pub use std::alloc::AllocError as NoMemory;

@@ -1,9 +1,9 @@
 // Parts.
-ghost use Rattle.std.specs.Prelude.{◌≡◌, [], map, true, option_map, OnOk};
+ghost use Rattle.std.specs.Prelude.{◌≡◌, List, [], map, length, true, option_map, OnOk, OnErr};
 ghost use Rattle.named_model.specs.Phrase as tree;
 ghost use Rattle.named_model.specs.Phrase.{links_of, steps_of, domains_of, no_steps};
 ghost use Rattle.named_model.specs.View.{phrase_view, phrases_view, link_view, step_view, domain_view};
-ghost use Rattle.model_types.specs.Typing.{settled, formulas_settled, arguments_settled, links_settled, steps_settled, domains_settled, values_settled, formula_from, type_in, tops_behind, ends_of};
+ghost use Rattle.model_types.specs.Typing.{Local, settled, formulas_settled, arguments_settled, links_settled, steps_settled, domains_settled, values_settled, formula_from, type_in, tops_behind, ends_of};
 ghost use Rattle.part_sorts.specs.Kinds.{kind_view};
 ghost use Rattle.shared_names.specs.Asking.{asks_in_links, asks_in_steps};
 ghost use Rattle.shared_names.specs.Shared.{shared_among, shared_in_domains};
@@ -37,6 +37,25 @@ use typed_scopes::names::referent_settled;
 use typed_scopes::types::{enter_all, leave_until, type_after, type_inside, type_where, type_with};
 use typed_scopes::{Scope, Setting};
 
+// What is returned where local names may have been entered; at a fault these are left, until so many are left.
+fn left_at_a_fault<T: Drop>(
+    scope: &mut Scope,
+    depth: usize,
+    made: Result<T, TypeFault>,
+) -> Result<T, TypeFault>
+    ensures made { result ≡ made }
+    ensures ok { OnOk result (scope.new.locals ≡ scope.old.locals) }
+    ensures err { OnErr result ((outer : List Local) → IsInside scope.old.locals outer → length outer ≡ depth → scope.new.locals ≡ outer) }
+{
+    match made {
+        Ok(made) => Ok(made),
+        Err(fault) => {
+            leave_until(scope, depth);
+            Err(fault)
+        }
+    }
+}
+
 /// A part, where a shared name in its place belongs to one of these signatures, and what it is; or the first fault.
 #[cycle(parts)]
 pub fn part(
@@ -48,7 +67,7 @@ pub fn part(
 ) -> Result<(Phrase, Kind), TypeFault>
     requires { AreTables setting.now }
     ensures value { Gives settled_view result (settled (declared_by setting.now) scope.old.locals tops.now (phrase_view phrase.now)) }
-    ensures locals { OnOk result (scope.new.locals ≡ scope.old.locals) }
+    ensures locals { scope.new.locals ≡ scope.old.locals }
 {
     match phrase {
         Phrase::Refers(place, referent) => {
@@ -125,9 +144,11 @@ pub fn part(
         Phrase::Quantified(quantifier, place, variables, inner) => {
             let depth = scope.locals.depth();
             let asked = is_in_domains(variables) || is_in(inner);
-            let variables = domains(alloc, setting, scope, true, asked, variables)?;
-            let inner = formula(alloc, setting, scope, inner)?;
+            let variables = domains(alloc, setting, scope, true, asked, variables);
+            let variables = left_at_a_fault(scope, depth, variables)?;
+            let inner = formula(alloc, setting, scope, inner);
             leave_until(scope, depth);
+            let inner = inner?;
             let inner = Box::new(alloc, inner)?;
             Ok((
                 Phrase::Quantified(*quantifier, *place, variables, inner),
@@ -137,9 +158,11 @@ pub fn part(
         Phrase::Let(place, phrases, inner) => {
             let depth = scope.locals.depth();
             let asked = is_among(phrases) || is_in(inner);
-            let values = values(alloc, setting, scope, asked, phrases)?;
-            let inner = formula(alloc, setting, scope, inner)?;
+            let values = values(alloc, setting, scope, asked, phrases);
+            let values = left_at_a_fault(scope, depth, values)?;
+            let inner = formula(alloc, setting, scope, inner);
             leave_until(scope, depth);
+            let inner = inner?;
             let inner = Box::new(alloc, inner)?;
             Ok((Phrase::Let(*place, values, inner), Kind::Formula))
         }
@@ -156,7 +179,7 @@ fn plain(
 ) -> Result<(Phrase, Kind), TypeFault>
     requires { AreTables setting.now }
     ensures value { Gives settled_view result (settled (declared_by setting.now) scope.old.locals [] (phrase_view phrase.now)) }
-    ensures locals { OnOk result (scope.new.locals ≡ scope.old.locals) }
+    ensures locals { scope.new.locals ≡ scope.old.locals }
 {
     let none = Tops::new(alloc);
     part(alloc, setting, scope, &none, phrase)
@@ -172,7 +195,7 @@ fn formula(
 ) -> Result<Phrase, TypeFault>
     requires { AreTables setting.now }
     ensures value { Gives phrase_view result (formula_from (phrase_view phrase.now) (settled (declared_by setting.now) scope.old.locals [] (phrase_view phrase.now))) }
-    ensures locals { OnOk result (scope.new.locals ≡ scope.old.locals) }
+    ensures locals { scope.new.locals ≡ scope.old.locals }
 {
     let (formula, kind) = plain(alloc, setting, scope, phrase)?;
     as_formula(first_place(phrase), kind)?;
@@ -189,7 +212,7 @@ pub fn formulas(
 ) -> Result<Vec<Phrase>, TypeFault>
     requires { AreTables setting.now }
     ensures value { Gives phrases_seen result (formulas_settled (declared_by setting.now) scope.old.locals (phrases_view phrases.now)) }
-    ensures locals { OnOk result (scope.new.locals ≡ scope.old.locals) }
+    ensures locals { scope.new.locals ≡ scope.old.locals }
 {
     let mut all = Vec::new(alloc);
     for phrase in phrases {
@@ -211,7 +234,7 @@ fn relation(
     requires tables { AreTables setting.now }
     requires given { IsGiven (declared_by setting.now) scope.old.locals given (phrase_view phrase.now) }
     ensures value { Gives relation_view result (relation_settled (declared_by setting.now) scope.old.locals (phrase_view phrase.now)) }
-    ensures locals { OnOk result (scope.new.locals ≡ scope.old.locals) }
+    ensures locals { scope.new.locals ≡ scope.old.locals }
 {
     let (relation, kind) = once(alloc, setting, scope, phrase, given)?;
     let arity = as_relation(first_place(phrase), kind)?;
@@ -230,7 +253,7 @@ fn once(
     requires tables { AreTables setting.now }
     requires given { IsGiven (declared_by setting.now) scope.old.locals given (phrase_view phrase.now) }
     ensures value { Gives settled_view result (settled (declared_by setting.now) scope.old.locals [] (phrase_view phrase.now)) }
-    ensures locals { OnOk result (scope.new.locals ≡ scope.old.locals) }
+    ensures locals { scope.new.locals ≡ scope.old.locals }
 {
     match given {
         Some(settled) => Ok(settled),
@@ -257,7 +280,7 @@ fn all_arguments(
     requires tables { AreTables setting.now }
     requires given { IsGivenFirst (declared_by setting.now) scope.old.locals given (phrases_view phrases.now) }
     ensures value { Gives arguments_view result (arguments_settled (declared_by setting.now) scope.old.locals (phrases_view phrases.now)) }
-    ensures locals { OnOk result (scope.new.locals ≡ scope.old.locals) }
+    ensures locals { scope.new.locals ≡ scope.old.locals }
 {
     let mut given = given;
     let mut all = Vec::new(alloc);
@@ -286,7 +309,7 @@ fn behind(
 ) -> Result<(Vec<Link>, Kind), TypeFault>
     requires { AreTables setting.now }
     ensures value { Gives links_seen result (links_settled (declared_by setting.now) scope.old.locals left (kind_view kind) (type_in (declared_by setting.now) scope.old.locals (phrase_view head.now)) (links_of (map link_view links.now))) }
-    ensures locals { OnOk result (scope.new.locals ≡ scope.old.locals) }
+    ensures locals { scope.new.locals ≡ scope.old.locals }
 {
     let asked = asks_in_links(links);
     let of = type_where(alloc, setting, scope, asked, head)?;
@@ -307,7 +330,7 @@ fn operands(
     requires tables { AreTables setting.now }
     requires asked { asks_in_links (links_of (map link_view links.now)) ≡ asked }
     ensures value { Gives links_seen result (links_settled (declared_by setting.now) scope.old.locals left (kind_view kind) of (links_of (map link_view links.now))) }
-    ensures locals { OnOk result (scope.new.locals ≡ scope.old.locals) }
+    ensures locals { scope.new.locals ≡ scope.old.locals }
 {
     let mut all = Vec::new(alloc);
     let mut kind = kind;
@@ -342,7 +365,7 @@ fn link_settled(
 ) -> Result<(Link, Kind), TypeFault>
     requires { AreTables setting.now }
     ensures value { Gives linked_view result (link_settled (declared_by setting.now) scope.old.locals left (kind_view kind) of.now (link_view link.now)) }
-    ensures locals { OnOk result (scope.new.locals ≡ scope.old.locals) }
+    ensures locals { scope.new.locals ≡ scope.old.locals }
 {
     if is_connective(link.operator) {
         connected(alloc, setting, scope, left, kind, link)
@@ -362,7 +385,7 @@ fn connected(
 ) -> Result<(Link, Kind), TypeFault>
     requires { AreTables setting.now }
     ensures value { Gives linked_view result (connected (declared_by setting.now) scope.old.locals left (kind_view kind) (link_view link.now)) }
-    ensures locals { OnOk result (scope.new.locals ≡ scope.old.locals) }
+    ensures locals { scope.new.locals ≡ scope.old.locals }
 {
     as_formula(left, kind)?;
     let operand = formula(alloc, setting, scope, &link.operand)?;
@@ -386,7 +409,7 @@ fn combined(
 ) -> Result<(Link, Kind), TypeFault>
     requires { AreTables setting.now }
     ensures value { Gives linked_view result (combined (declared_by setting.now) scope.old.locals left (kind_view kind) of.now (link_view link.now)) }
-    ensures locals { OnOk result (scope.new.locals ≡ scope.old.locals) }
+    ensures locals { scope.new.locals ≡ scope.old.locals }
 {
     let first = as_relation(left, kind)?;
     let (operand, kind) = operand(alloc, setting, scope, link.operator, of, &link.operand)?;
@@ -413,7 +436,7 @@ fn operand(
 ) -> Result<(Phrase, Kind), TypeFault>
     requires { AreTables setting.now }
     ensures value { Gives settled_view result (settled (declared_by setting.now) scope.old.locals (tops_behind operator of.now) (phrase_view phrase.now)) }
-    ensures locals { OnOk result (scope.new.locals ≡ scope.old.locals) }
+    ensures locals { scope.new.locals ≡ scope.old.locals }
 {
     let tops = tops_behind(alloc, operator, of)?;
     part(alloc, setting, scope, &tops, phrase)
@@ -430,7 +453,7 @@ fn argument_asked(
 ) -> Result<Option<(Phrase, Kind)>, TypeFault>
     requires { AreTables setting.now }
     ensures value { Gives (option_map settled_view) result (argument_asked (declared_by setting.now) scope.old.locals (phrase_view head.now) (steps_of (map step_view steps.now))) }
-    ensures locals { OnOk result (scope.new.locals ≡ scope.old.locals) }
+    ensures locals { scope.new.locals ≡ scope.old.locals }
 {
     if !is_shared(head) {
         return Ok(None);
@@ -451,7 +474,7 @@ fn argument_first(
 ) -> Result<Option<(Phrase, Kind)>, TypeFault>
     requires { AreTables setting.now }
     ensures value { Gives (option_map settled_view) result (argument_first (declared_by setting.now) scope.old.locals (phrases_view arguments.now)) }
-    ensures locals { OnOk result (scope.new.locals ≡ scope.old.locals) }
+    ensures locals { scope.new.locals ≡ scope.old.locals }
 {
     match arguments.first() {
         Some(first) => Ok(Some(plain(alloc, setting, scope, first)?)),
@@ -470,7 +493,7 @@ fn head_settled(
 ) -> Result<(Phrase, Kind), TypeFault>
     requires { AreTables setting.now }
     ensures value { Gives settled_view result (settled (declared_by setting.now) scope.old.locals (tops_of (declared_by setting.now) scope.old.locals (option_map settled_view given.now)) (phrase_view head.now)) }
-    ensures locals { OnOk result (scope.new.locals ≡ scope.old.locals) }
+    ensures locals { scope.new.locals ≡ scope.old.locals }
 {
     match given {
         Some(argument) => {
@@ -497,7 +520,7 @@ fn after(
     requires tables { AreTables setting.now }
     requires given { IsGivenBefore (declared_by setting.now) scope.old.locals given (steps_of (map step_view steps.now)) }
     ensures value { Gives steps_seen result (steps_settled (declared_by setting.now) scope.old.locals left (kind_view kind) (type_in (declared_by setting.now) scope.old.locals (phrase_view head.now)) (steps_of (map step_view steps.now))) }
-    ensures locals { OnOk result (scope.new.locals ≡ scope.old.locals) }
+    ensures locals { scope.new.locals ≡ scope.old.locals }
 {
     let asked = asks_in_steps(steps);
     let of = type_where(alloc, setting, scope, asked, head)?;
@@ -520,7 +543,7 @@ fn all_steps(
     requires asked { asks_in_steps (steps_of (map step_view steps.now)) ≡ asked }
     requires given { IsGivenBefore (declared_by setting.now) scope.old.locals given (steps_of (map step_view steps.now)) }
     ensures value { Gives steps_seen result (steps_settled (declared_by setting.now) scope.old.locals left (kind_view kind) of (steps_of (map step_view steps.now))) }
-    ensures locals { OnOk result (scope.new.locals ≡ scope.old.locals) }
+    ensures locals { scope.new.locals ≡ scope.old.locals }
 {
     let mut all = Vec::new(alloc);
     let mut kind = kind;
@@ -559,7 +582,7 @@ fn step_settled(
     requires tables { AreTables setting.now }
     requires given { IsGivenBefore (declared_by setting.now) scope.old.locals given (tree.step_first (step_view step.now) no_steps) }
     ensures value { Gives stepped_view result (step_settled (declared_by setting.now) scope.old.locals left (kind_view kind) of.now (step_view step.now)) }
-    ensures locals { OnOk result (scope.new.locals ≡ scope.old.locals) }
+    ensures locals { scope.new.locals ≡ scope.old.locals }
 {
     match step {
         Step::Join(place, operand) => {
@@ -588,7 +611,7 @@ fn joined(
 ) -> Result<(Phrase, Kind), TypeFault>
     requires { AreTables setting.now }
     ensures value { Gives settled_view result (join_settled (declared_by setting.now) scope.old.locals left (kind_view kind) of.now place (phrase_view phrase.now)) }
-    ensures locals { OnOk result (scope.new.locals ≡ scope.old.locals) }
+    ensures locals { scope.new.locals ≡ scope.old.locals }
 {
     let first = as_relation(left, kind)?;
     let (operand, kind) = member(alloc, setting, scope, of, phrase)?;
@@ -608,7 +631,7 @@ fn member(
 ) -> Result<(Phrase, Kind), TypeFault>
     requires { AreTables setting.now }
     ensures value { Gives settled_view result (settled (declared_by setting.now) scope.old.locals (ends_of of.now) (phrase_view phrase.now)) }
-    ensures locals { OnOk result (scope.new.locals ≡ scope.old.locals) }
+    ensures locals { scope.new.locals ≡ scope.old.locals }
 {
     let tops = ends_of(alloc, of)?;
     part(alloc, setting, scope, &tops, phrase)
@@ -628,7 +651,7 @@ fn bracketed(
     requires tables { AreTables setting.now }
     requires given { IsGivenFirst (declared_by setting.now) scope.old.locals given (phrases_view phrases.now) }
     ensures value { Gives bracketed_view result (brackets_settled (declared_by setting.now) scope.old.locals left (kind_view kind) place (phrases_view phrases.now)) }
-    ensures locals { OnOk result (scope.new.locals ≡ scope.old.locals) }
+    ensures locals { scope.new.locals ≡ scope.old.locals }
 {
     let first = as_relation(left, kind)?;
     let others = all_arguments(alloc, setting, scope, phrases, given)?;
@@ -650,7 +673,7 @@ pub fn domains(
     requires tables { AreTables setting.now }
     requires asked { shared_in_domains (domains_of (map domain_view variables.now)) ≡ true → asked ≡ true }
     ensures value { GivesBehind asked domains_seen result scope.new.locals (domains_settled single (declared_by setting.now) scope.old.locals (domains_of (map domain_view variables.now))) }
-    ensures inside { OnOk result (IsInside scope.new.locals scope.old.locals) }
+    ensures inside { IsInside scope.new.locals scope.old.locals }
 {
     let mut all = Vec::new(alloc);
     for variable in variables {
@@ -677,7 +700,7 @@ fn domain_settled(
 ) -> Result<(Phrase, usize), TypeFault>
     requires { AreTables setting.now }
     ensures value { Gives relation_view result (domain_settled single (declared_by setting.now) scope.old.locals (phrase_view phrase.now)) }
-    ensures locals { OnOk result (scope.new.locals ≡ scope.old.locals) }
+    ensures locals { scope.new.locals ≡ scope.old.locals }
 {
     let (domain, arity) = relation(alloc, setting, scope, phrase, None)?;
     if single && arity != 1 {
@@ -700,7 +723,7 @@ fn values(
     requires tables { AreTables setting.now }
     requires asked { shared_among (phrases_view phrases.now) ≡ true → asked ≡ true }
     ensures value { GivesBehind asked phrases_seen result scope.new.locals (values_settled (declared_by setting.now) scope.old.locals (phrases_view phrases.now)) }
-    ensures inside { OnOk result (IsInside scope.new.locals scope.old.locals) }
+    ensures inside { IsInside scope.new.locals scope.old.locals }
 {
     let mut all = Vec::new(alloc);
     for phrase in phrases {

@@ -1,16 +1,23 @@
--- Which fields fit, as far as a walk over them has come.
-use Rattle.std.proofs.Common.{◌≡◌, ℕ, ◌+◌, ◌<◌, ◌≤◌, Bool, true, false, ◌&&◌, ◌==◌, List, [], ◌∷◌, ◌++◌, map, length, drop, get_or, Option, Some, None, Ok, Err, Result, refl, sym, ap, ◌∙◌, if◌then◌else◌, true≢false, bytes_eq, arith}
-use Rattle.std.specs.List.{list_any, slice_get}
-use Rattle.std.specs.Option.{option_to_list, is_some, option_map}
+-- Which fields fit, by what is found.
+use Rattle.std.proofs.Common.{◌≡◌, ℕ, ◌+◌, ◌<◌, Bool, true, false, ◌&&◌, ◌==◌, List, [], ◌∷◌, map, length, Option, Some, None, Err, Result, inl, inr, refl, sym, ap, ◌∙◌, if◌then◌else◌, true≢false, bytes_eq, arith}
+use Rattle.std.specs.List.{list_any, slice_get, AllByRecursion}
+use Rattle.std.specs.Option.{option_map}
+use Rattle.std.specs.declared.alloc.Global.{Global}
+use Rattle.std.specs.declared.string.String.{String}
+use Rattle.std.proofs.lemmas.Bool.{cases_Bool, ne_eqb}
 use Rattle.std.proofs.lemmas.Option.{slice_get-map}
-use Rattle.std.proofs.lemmas.List.{get_or-map, drop_more, drop_all, length-map}
 use Rattle.alloy_lex.specs.declared.token.Place.{Place}
 use Rattle.model_types.specs.declared.fault.TypeFault.{TypeFault}
 use Rattle.model_types.specs.declared.fault.TypeFault.TheVariants as fault
 use Rattle.model_types.specs.Typing.{Declared, Field, fitting, field_name, the_one, chosen}
 use Rattle.shared_fields.specs.declared.fields.Row.{Row}
+use Rattle.shared_fields.specs.declared.found.Found.{Found}
+use Rattle.shared_fields.specs.declared.found.Found.TheVariants.{Nothing, One, Several}
 use Rattle.shared_fields.specs.Alike.{AreAlike}
 use Rattle.shared_fields.specs.Entries.{Entry, entry_of, entry_view, entry_name, entry_fits}
+use Rattle.shared_fields.specs.Found.{both, the_found, found_by}
+use Rattle.shared_fields.specs.Seen.{is_under, IsNumberOf}
+use Rattle.shared_fields.proofs.Founds.{found_by-same, found_by-map}
 
 module _ (tops name : List ℕ) where
   -- a field that fits, and one that doesn't
@@ -30,56 +37,48 @@ module _ (tops name : List ℕ) where
       go true false e = refl
       go false c e = refl
 
-  -- so far this one fits, if any, of the fields before a number
-  abbrev pub FitsSoFar : List Row → Option ℕ → ℕ → Type 0
-  FitsSoFar rows found i = (fields : List Field) → map entry_of fields ≡ map entry_view rows → fitting tops name 0 fields ≡ option_to_list found ++ fitting tops name i (drop i fields)
-
-  module _ (rows : List Row) (i : ℕ) (row : Row) (l : i < length rows) (is : row ≡ get_or rows i row) where
-    next : (fields : List Field) → map entry_of fields ≡ map entry_view rows → (f : Field) × (drop i fields ≡ f ∷ drop (i + 1) fields) × (entry_of f ≡ entry_view row)
-    next fields same = go fields refl
+  module _ (p : Place) where
+    -- a field before one that fits
+    two : (m n : ℕ) (found : Found) → m < n → the_found p (both (One m) (both (One n) found)) ≡ Err (fault.Ambiguous p)
+    two m n found l = go found
       where
-        long : length fields ≡ length rows
-        long = sym (length-map fields entry_of) ∙ ap length same ∙ length-map rows entry_view
+        apart : (m == n) ≡ false
+        apart = ne_eqb m n (λ e. absurd (omega (arith, l, e)))
 
-        go : (fs : List Field) → fields ≡ fs → (f : Field) × (drop i fields ≡ f ∷ drop (i + 1) fields) × (entry_of f ≡ entry_view row)
-        go [] none = absurd (omega (arith, l, long, ap length none))
-        go (d ∷ rest) some =
-            let inside : i < length fields = omega (arith, l, long) in (
-              get_or fields i d,
-              drop_more fields i d inside,
-              sym (get_or-map entry_of fields i d (entry_view row) inside) ∙ ap (λ (es : List Entry). get_or es i (entry_view row)) same ∙ get_or-map entry_view rows i row (entry_view row) l ∙ ap entry_view (sym is),
-            )
+        one : (b : Bool) → the_found p (both (One m) (if b then One n else Several)) ≡ Err (fault.Ambiguous p)
+        one true = rw apart refl
+        one false = refl
 
-    pub passed : (found : Option ℕ) → entry_fits tops name (entry_view row) ≡ false → FitsSoFar rows found i → FitsSoFar rows found (i + 1)
-    passed found fails before = λ fields same.
-        let n = next fields same in
-        before fields same ∙ ap (λ ns. option_to_list found ++ ns) (ap (fitting tops name i) n.1 ∙ passes i n.0 (drop (i + 1) fields) (ap (entry_fits tops name) n.2 ∙ fails))
+        go : (found : Found) → the_found p (both (One m) (both (One n) found)) ≡ Err (fault.Ambiguous p)
+        go Nothing = rw apart refl
+        go (One k) = one (n == k)
+        go Several = refl
 
-    fit : (found : Option ℕ) → entry_fits tops name (entry_view row) ≡ true → FitsSoFar rows found i
-        → (fields : List Field) → map entry_of fields ≡ map entry_view rows → fitting tops name 0 fields ≡ option_to_list found ++ i ∷ fitting tops name (i + 1) (drop (i + 1) fields)
-    fit found holds before = λ fields same.
-        let n = next fields same in
-        before fields same ∙ ap (λ ns. option_to_list found ++ ns) (ap (fitting tops name i) n.1 ∙ takes i n.0 (drop (i + 1) fields) (ap (entry_fits tops name) n.2 ∙ holds))
+    with_one : (m n : ℕ) (fs : List Field) → m < n → the_one p (m ∷ fitting tops name n fs) ≡ the_found p (both (One m) (found_by (λ f. entry_fits tops name (entry_of f)) n fs))
+    with_one m n [] l = refl
+    with_one m n (f ∷ fs) l =
+        elim (cases_Bool (entry_fits tops name (entry_of f))) [
+          | inl e ↦ ap (λ ns. the_one p (m ∷ ns)) (takes n f fs e)
+              ∙ sym (ap (λ b. the_found p (both (One m) (if b then both (One n) (rest n fs) else rest n fs))) e ∙ two m n (rest n fs) l)
+          | inr e ↦ ap (λ ns. the_one p (m ∷ ns)) (passes n f fs e) ∙ with_one m (n + 1) fs (omega (arith, l))
+              ∙ sym (ap (λ b. the_found p (both (One m) (if b then both (One n) (rest n fs) else rest n fs))) e)
+        ]
+      where
+        rest : ℕ → List Field → Found
+        rest n fs = found_by (λ (g : Field). entry_fits tops name (entry_of g)) (n + 1) fs
 
-    pub taken : (found : Option ℕ) → is_some found ≡ false → entry_fits tops name (entry_view row) ≡ true → FitsSoFar rows found i → FitsSoFar rows (Some i) (i + 1)
-    taken None none holds before = fit None holds before
-    taken (Some n) none holds before = absurd (true≢false none)
-
-    pub again : (p : Place) (found : Option ℕ) → is_some found ≡ true → entry_fits tops name (entry_view row) ≡ true → FitsSoFar rows found i
-        → (fields : List Field) → map entry_of fields ≡ map entry_view rows → Err (fault.Ambiguous p) ≡ the_one p (fitting tops name 0 fields)
-    again p None some holds before = absurd (true≢false (sym some))
-    again p (Some n) some holds before = λ fields same. ap (the_one p) (sym (fit (Some n) holds before fields same))
-
-  only : (p : Place) (found : Option ℕ) (result : Result ℕ TypeFault) → result ≡ elim found [ None ↦ Err (fault.Ambiguous p) | Some n ↦ Ok n ] → result ≡ the_one p (option_to_list found ++ [])
-  only p None result e = e
-  only p (Some n) result e = e
-
-  pub ended : (p : Place) (rows : List Row) (i : ℕ) (found : Option ℕ) (result : Result ℕ TypeFault) → length rows ≤ i → FitsSoFar rows found i
-      → result ≡ elim found [ None ↦ Err (fault.Ambiguous p) | Some n ↦ Ok n ]
-      → (fields : List Field) → map entry_of fields ≡ map entry_view rows → result ≡ the_one p (fitting tops name 0 fields)
-  ended p rows i found result long before e = λ fields same.
-      let length_is : length fields ≡ length rows = sym (length-map fields entry_of) ∙ ap length same ∙ length-map rows entry_view in
-      only p found result e ∙ ap (the_one p) (sym (before fields same ∙ ap (λ fs. option_to_list found ++ fitting tops name i fs) (drop_all i fields (omega (arith, long, length_is)))))
+    pub the_one_is : (n : ℕ) (fs : List Field) → the_one p (fitting tops name n fs) ≡ the_found p (found_by (λ f. entry_fits tops name (entry_of f)) n fs)
+    the_one_is n [] = refl
+    the_one_is n (f ∷ fs) =
+        elim (cases_Bool (entry_fits tops name (entry_of f))) [
+          | inl e ↦ ap (the_one p) (takes n f fs e) ∙ with_one n (n + 1) fs (omega arith)
+              ∙ sym (ap (λ b. the_found p (if b then both (One n) (rest n fs) else rest n fs)) e)
+          | inr e ↦ ap (the_one p) (passes n f fs e) ∙ the_one_is (n + 1) fs
+              ∙ sym (ap (λ b. the_found p (if b then both (One n) (rest n fs) else rest n fs)) e)
+        ]
+      where
+        rest : ℕ → List Field → Found
+        rest n fs = found_by (λ (g : Field). entry_fits tops name (entry_of g)) (n + 1) fs
 
 -- ---- the same signatures choose the same field
 
@@ -95,9 +94,29 @@ name_same fields n = ap entry_name (slice_get-map entry_of fields n) ∙ go (sli
     go None = refl
     go (Some f) = refl
 
-pub chosen_is : (d : Declared) (tops ts : List ℕ) (p : Place) (number : ℕ) (name : List ℕ) (rows : List Row) (result : Result ℕ TypeFault)
-    → map entry_of d.fields ≡ map entry_view rows → AreAlike tops ts → name ≡ entry_name (slice_get (map entry_view rows) number)
-    → result ≡ the_one p (fitting tops name 0 d.fields) → result ≡ chosen d ts p number
-chosen_is d tops ts p number name rows result same alike named is =
-    is ∙ ap (λ m. the_one p (fitting tops m 0 d.fields)) (named ∙ ap (λ (es : List Entry). entry_name (slice_get es number)) (sym same) ∙ name_same d.fields number)
+-- ---- by the numbers of names
+
+-- rows have the name of a number where their entries have the text
+under_fits : (names : List (String Global)) (tops text : List ℕ) (name : ℕ) → IsNumberOf names text name
+    → (rows : List Row) → AllByRecursion (λ (r : Row). r.key.name < length names) rows
+    → AllByRecursion (λ (r : Row). is_under name tops r ≡ entry_fits tops text (entry_view names r)) rows
+under_fits names tops text name is [] inside = tt
+under_fits names tops text name is (r ∷ rows) inside =
+    (ap (λ b. b && list_any (λ t. t == r.key.top) tops) (sym (is r.key.name inside.0)), under_fits names tops text name is rows inside.1)
+
+pub chosen_is : (d : Declared) (tops ts : List ℕ) (p : Place) (number : ℕ) (names : List (String Global)) (rows : List Row) (name : ℕ) (result : Result ℕ TypeFault)
+    → map entry_of d.fields ≡ map (entry_view names) rows → AreAlike tops ts
+    → AllByRecursion (λ (r : Row). r.key.name < length names) rows
+    → IsNumberOf names (entry_name (slice_get (map (entry_view names) rows) number)) name
+    → result ≡ the_found p (found_by (is_under name tops) 0 rows) → result ≡ chosen d ts p number
+chosen_is d tops ts p number names rows name result same alike inside is told =
+    let text : List ℕ = entry_name (slice_get (map (entry_view names) rows) number) in
+    told
+    ∙ ap (the_found p) (
+    found_by-same (is_under name tops) (λ r. entry_fits tops text (entry_view names r)) 0 rows (under_fits names tops text name is rows inside)
+    ∙ sym (found_by-map (entry_view names) (entry_fits tops text) 0 rows)
+    ∙ ap (found_by (entry_fits tops text) 0) (sym same)
+    ∙ found_by-map entry_of (entry_fits tops text) 0 d.fields)
+    ∙ sym (the_one_is tops text p 0 d.fields)
+    ∙ ap (λ m. the_one p (fitting tops m 0 d.fields)) (ap (λ (es : List Entry). entry_name (slice_get es number)) (sym same) ∙ name_same d.fields number)
     ∙ ap (the_one p) (same_fitting tops ts (field_name (slice_get d.fields number)) alike 0 d.fields)

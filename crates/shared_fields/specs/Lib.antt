@@ -1,2 +1,4 @@
 pub mod Alike
 pub mod Entries
+pub mod Found
+pub mod Seen

@@ -1,20 +1,25 @@
 // The fields of a model, as far as shared names ask.
-ghost use Rattle.std.specs.Prelude.{◌≡◌, ◌++◌, ℕ, List, [], ◌∷◌, map, slice_get, option_map, OnOk, OnErr, bytes_eq};
-ghost use Rattle.model_types.specs.Typing.{Declared, Field, chosen, fitting, the_one};
+ghost use Rattle.std.specs.Prelude.{◌≡◌, ◌++◌, ◌<◌, ◌==◌, ℕ, List, [], ◌∷◌, map, length, slice_get, option_map, IfOk, OnOk, OnErr, string_bytes, bytes_eq};
+ghost use Rattle.model_types.specs.Typing.{Declared, chosen};
 ghost use Rattle.shared_fields.specs.Alike.{AreAlike};
-ghost use Rattle.shared_fields.specs.Entries.{Entry, entry_of, entry_view, entry_name, entry_fits};
+ghost use Rattle.shared_fields.specs.Entries.{Entry, entry_of, entry_view, entry_name, name_at, AreBefore};
+ghost use Rattle.shared_fields.specs.Seen.{HaveNames, IsNumberOf};
+ghost use Rattle.std.specs.List.{IsDistinct};
+ghost use Rattle.std.specs.String.{string_eq};
 
+use crate::found::Found;
+use crate::seen::{Key, put, under};
 use crate::tops::Tops;
 use alloy_lex::Place;
+use indexmap::{IndexMap, IndexSet};
 use model_types::TypeFault;
 use std::alloc::{AllocError, Global};
 use std::marker::Model;
 
-// A field: its name, the top-level signature that it belongs to, and its arity.
+// A field: its name and the top-level signature that it belongs to, and its arity.
 #[derive(Drop)]
 pub struct Row {
-    pub name: String,
-    pub top: usize,
+    pub key: Key,
     pub arity: usize,
 }
 
@@ -22,16 +27,21 @@ pub struct Row {
 /// see the list of these.
 #[derive(Drop)]
 pub struct Fields {
+    names: IndexSet<String>,
     rows: Vec<Row>,
+    seen: IndexMap<Key, Found>,
 }
 
 impl Model for Fields {
     ghost use Rattle.std.specs.Prelude.{List, map};
     ghost use Rattle.shared_fields.specs.Entries.{Entry, entry_view};
+    ghost use Rattle.shared_fields.specs.Seen.{AreKept};
 
     ghost Value = { List Entry };
 
-    ghost view = { λ f. map entry_view f.rows.items };
+    ghost view = { λ f. map (entry_view f.names.keys) f.rows.items };
+
+    ghost invariant = { λ f. AreKept f.names.keys f.rows.items f.seen.entries };
 }
 
 impl Fields {
@@ -40,7 +50,9 @@ impl Fields {
         ensures { result ≡ [] }
     {
         Fields {
+            names: IndexSet::new(alloc),
             rows: Vec::new(alloc),
+            seen: IndexMap::new(alloc),
         }
     }
 
@@ -55,8 +67,11 @@ impl Fields {
         ensures ok { OnOk result (self.new ≡ self.old ++ record { name = name.now; top = top; arity = arity } ∷ []) }
         ensures err { OnErr result (self.new ≡ self.old) }
     {
-        let name = String::from_str(alloc, name)?;
-        self.rows.push(Row { name, top, arity })?;
+        self.rows.reserve(1)?;
+        let name = numbered(alloc, &mut self.names, name)?;
+        let key = Key { name, top };
+        put(&mut self.seen, key, self.rows.len())?;
+        let _pushed = self.rows.push(Row { key, arity });
         Ok(())
     }
 
@@ -75,41 +90,41 @@ impl Fields {
     pub fn chosen(&self, tops: &Tops, place: Place, number: usize) -> Result<usize, TypeFault>
         ensures { (d : Declared) (ts : List ℕ) → map entry_of d.fields ≡ self.now → AreAlike tops.now ts → result ≡ chosen d ts place number }
     {
-        let rows = self.rows.as_slice();
-        the_one(rows, tops, place, name_of(rows, number))
+        let name = name_of(&self.names, self.rows.as_slice(), number);
+        under(&self.seen, name, tops.as_slice()).only(place)
     }
 }
 
-// The name of the field of a number; where there is none, the empty one.
-fn name_of(rows: &[Row], number: usize) -> &str
-    ensures { result.now ≡ entry_name (slice_get (map entry_view rows.now) number) }
+// The number of a name, which is put behind the others if it is none of them.
+fn numbered(alloc: Global, names: &mut IndexSet<String>, name: &str) -> Result<usize, AllocError>
+    ensures grown { OnOk result (AreBefore names.old.keys names.new.keys) }
+    ensures once { OnOk result (IsDistinct string_eq names.new.keys) }
+    ensures number { IfOk result (λ n. (n < length names.new.keys) × (name_at names.new.keys n ≡ name.now)) }
+    ensures err { OnErr result (names.new.keys ≡ names.old.keys) }
+{
+    let name = String::from_str(alloc, name)?;
+    let (number, _) = names.insert_full(name)?;
+    Ok(number)
+}
+
+// The number of the name of the field of a number; where there is no field, that of the empty name.
+fn name_of(names: &IndexSet<String>, rows: &[Row], number: usize) -> usize
+    requires { HaveNames names.now.keys rows.now }
+    ensures { IsNumberOf names.now.keys (entry_name (slice_get (map (entry_view names.now.keys) rows.now) number)) result }
 {
     match rows.get(number) {
-        Some(row) => row.name.as_str(),
-        None => "",
+        Some(row) => row.key.name,
+        None => number_in(names, ""),
     }
 }
 
-// The one row with the name that belongs to one of the signatures.
-fn the_one(rows: &[Row], tops: &Tops, place: Place, name: &str) -> Result<usize, TypeFault>
-    ensures { (fields : List Field) → map entry_of fields ≡ map entry_view rows.now → result ≡ the_one place (fitting tops.now name.now 0 fields) }
+// The number of a name among names; where it is none of them, one that is no name's.
+fn number_in(names: &IndexSet<String>, name: &str) -> usize
+    requires { IsDistinct string_eq names.now.keys }
+    ensures { IsNumberOf names.now.keys name.now result }
 {
-    let mut found = None;
-    for number in 0..rows.len() {
-        if !fits(&rows[number], tops, name) {
-            continue;
-        }
-        if found.is_some() {
-            return Err(TypeFault::Ambiguous { place });
-        }
-        found = Some(number);
+    match names.get_index_of(name) {
+        Some(number) => number,
+        None => names.len(),
     }
-    found.ok_or(TypeFault::Ambiguous { place })
-}
-
-// Whether a row has the name, and belongs to one of the signatures.
-fn fits(row: &Row, tops: &Tops, name: &str) -> bool
-    ensures { result ≡ entry_fits tops.now name.now (entry_view row.now) }
-{
-    row.name.as_str() == name && tops.contains(row.top)
 }

@@ -2,10 +2,11 @@
 #![tactic(auto)]
 
 mod fields;
+mod found;
+mod seen;
 #[cfg(test)]
 mod tests;
 pub mod tops;
 
 pub use crate::fields::Fields;
 pub use crate::tops::Tops;
-pub use std::alloc::AllocError as NoMemory;

@@ -17,6 +17,15 @@ fn fields(alloc: Global) -> Result<Fields, AllocError> {
     Ok(fields)
 }
 
+// So many fields of one name, of the top-level signatures from 0.
+fn many(alloc: Global, count: usize) -> Result<Fields, AllocError> {
+    let mut fields = Fields::new(alloc);
+    for top in 0..count {
+        fields.push(alloc, "f", top, 2)?;
+    }
+    Ok(fields)
+}
+
 // A type of one list.
 fn of(alloc: Global, list: &[usize]) -> Result<BoundingType, AllocError> {
     let mut lists = BoundingType::new(alloc);
@@ -36,6 +45,18 @@ fn ambiguous() -> Result<usize, TypeFault> {
 fn at_the_end(alloc: Global, list: &[usize]) -> Result<Result<usize, TypeFault>, AllocError> {
     let tops = ends_of(alloc, &of(alloc, list)?)?;
     Ok(fields(alloc)?.chosen(&tops, place(), 0))
+}
+
+// Which of many fields of one name is chosen that belongs to the end of a list, or to that of another one.
+fn of_many(
+    alloc: Global,
+    list: &[usize],
+    other: &[usize],
+) -> Result<Result<usize, TypeFault>, AllocError> {
+    let mut lists = of(alloc, list)?;
+    lists.put(Vec::from_slice(alloc, other)?)?;
+    let tops = ends_of(alloc, &lists)?;
+    Ok(many(alloc, 200)?.chosen(&tops, place(), 5))
 }
 
 // Which field is chosen behind an operator.
@@ -61,6 +82,22 @@ fn a_single_signature_tells_the_field_behind_a_restriction(rt: HostRuntime) -> R
     assert_eq!(rt; behind(rt.alloc(), Operator::Domain, &[1])?, Ok(2));
     assert_eq!(rt; behind(rt.alloc(), Operator::Domain, &[0, 1])?, ambiguous());
     assert_eq!(rt; behind(rt.alloc(), Operator::Range, &[1])?, ambiguous());
+    Ok(())
+}
+
+#[test]
+fn one_of_many_fields_is_told(rt: HostRuntime) -> Result<(), Fail> {
+    assert_eq!(rt; of_many(rt.alloc(), &[150], &[3, 150])?, Ok(150));
+    assert_eq!(rt; of_many(rt.alloc(), &[150], &[200])?, Ok(150));
+    assert_eq!(rt; of_many(rt.alloc(), &[150], &[3])?, ambiguous());
+    Ok(())
+}
+
+#[test]
+fn a_number_of_no_field_has_no_name(rt: HostRuntime) -> Result<(), Fail> {
+    let tops = ends_of(rt.alloc(), &of(rt.alloc(), &[0])?)?;
+    let fields = fields(rt.alloc())?;
+    assert_eq!(rt; fields.chosen(&tops, place(), 3), ambiguous());
     Ok(())
 }
 

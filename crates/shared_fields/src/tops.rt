@@ -43,6 +43,13 @@ impl Tops {
         self.numbers.contains(&number)
     }
 
+    /// The signatures.
+    pub fn as_slice(&self) -> &[usize]
+        ensures { result.now ≡ self.now }
+    {
+        self.numbers.as_slice()
+    }
+
     // Puts these signatures into the set.
     fn put_all(&mut self, numbers: &[usize]) -> Result<(), AllocError>
         ensures { OnOk result (AreAlike self.new (self.old ++ numbers.now)) }

@@ -2,7 +2,7 @@
 use Rattle.std.proofs.Common.{◌≡◌, ℕ, ◌+◌, ◌<◌, ◌≤◌, Bool, List, [], ◌∷◌, ◌++◌, length, drop, refl, sym, ap, subst, ◌∙◌, arith, add-one, length-append}
 use Rattle.model_types.specs.Typing.{Local, onto}
 use Rattle.settling_rules.specs.Inside.{AreSameWhere, AreAlikeWhere}
-use Rattle.settling_rules.proofs.Asked.{alike_refl}
+use Rattle.settling_rules.proofs.SharedDeclarations.{alike_refl}
 use Rattle.typed_scopes.specs.Zipped.{IsInside}
 
 -- the innermost one is left

@@ -9,4 +9,3 @@ pub mod types;
 
 pub use crate::scope::{Locals, Scope};
 pub use crate::setting::Setting;
-pub use std::alloc::AllocError as NoMemory;

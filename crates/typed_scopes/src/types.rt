@@ -143,7 +143,7 @@ pub fn enter_all(
 ) -> Result<(), AllocError>
     requires { AreTables setting.now }
     ensures alike { OnOk result (AreAlikeWhere asked scope.new.locals (onto count (record { arity = arity; type = type_in (declared_by setting.now) scope.old.locals (phrase_view phrase.now) }) scope.old.locals)) }
-    ensures inside { OnOk result (IsInside scope.new.locals scope.old.locals) }
+    ensures inside { IsInside scope.new.locals scope.old.locals }
 {
     let of = type_where(alloc, setting, scope, asked, phrase)?;
     for _ in 0..count {

@@ -4,7 +4,7 @@ use Rattle.model_types.specs.Bounding.{Lists}
 use Rattle.expression_types.specs.Types.{AreEachSame}
 use Rattle.typed_scopes.specs.Declaring.{declared_by}
 use Rattle.known_callees.specs.Fields.{field_type}
-use Rattle.known_callees.proofs.Moved.{fields_more}
+use Rattle.known_callees.proofs.OutcomeLemmas.{fields_more}
 use Rattle.known_callees.proofs.fields.field_types.Goals as goal
 
 pub loop-field-preserved : goal.loop-field-preserved

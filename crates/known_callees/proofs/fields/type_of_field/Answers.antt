@@ -1,6 +1,6 @@
 use Rattle.named_model.specs.View.{field_view}
 use Rattle.typed_scopes.specs.Declaring.{declared_by}
-use Rattle.known_callees.proofs.Moved.{field_typed}
+use Rattle.known_callees.proofs.OutcomeLemmas.{field_typed}
 use Rattle.known_callees.proofs.fields.type_of_field.Goals as goal
 
 pub returns-clause-value : goal.returns-clause-value

@@ -3,7 +3,7 @@ use Rattle.std.specs.Option.{option_map}
 use Rattle.typed_scopes.specs.Declaring.{declared_by}
 use Rattle.known_callees.specs.Groups.{group_view}
 use Rattle.settled_parts.specs.Given.{relation_view}
-use Rattle.known_callees.proofs.Moved.{unknown_entered}
+use Rattle.known_callees.proofs.OutcomeLemmas.{unknown_entered}
 use Rattle.known_callees.proofs.groups.enter.Goals as goal
 
 pub returns-in_ok-enter_unknown-in-None : goal.returns-in_ok-enter_unknown-in-None

@@ -1,4 +1,4 @@
-use Rattle.std.proofs.Common.{rules, ◌+◌, ◌||◌, List, [], map, drop, ap, ◌∙◌, sym, subst, refl, Ok, Err, inr, Bor, Vec, Global}
+use Rattle.std.proofs.Common.{◌≡◌, rules, ◌+◌, ◌||◌, Bool, Result, List, [], map, drop, ap, ◌∙◌, sym, subst, refl, Ok, Err, inr, Bor, Vec, Global}
 use denote.Param.Weighed.{at_most}
 use Rattle.std.specs.Option.{option_copied, option_map}
 use Rattle.std.proofs.lemmas.Result.{err_from_is_err_and}
@@ -10,9 +10,11 @@ use Rattle.named_model.specs.Phrase.{links_of, steps_of, domains_of, no_steps}
 use Rattle.named_model.specs.View.{phrase_view, phrases_view, link_view, step_view, domain_view}
 use Rattle.model_types.specs.Typing.{Local, type_in, links_settled, steps_settled, domains_settled, values_settled, tops_behind, ends_of}
 use Rattle.part_sorts.specs.Kinds.{kind_view}
+use Rattle.model_types.specs.declared.fault.TypeFault.{TypeFault}
+use Rattle.settling_rules.specs.Inside.{AreAlikeWhere}
 use Rattle.settling_rules.specs.Told.{Gives}
 use Rattle.settling_rules.specs.Single.{argument_first}
-use Rattle.settling_rules.proofs.Asked.{asks_left}
+use Rattle.settling_rules.proofs.SharedDeclarations.{asks_left}
 use Rattle.shared_names.specs.declared.headers.Header.{Header}
 use Rattle.settling_rules.specs.Same.{Asks}
 use Rattle.shared_names.specs.Shared.{shared_in, shared_among, shared_in_domains}
@@ -22,14 +24,15 @@ use Rattle.settling_rules.proofs.Loops.{FormulasLeft, OperandsLeft, StepsLeft, R
 use Rattle.typed_scopes.specs.Declaring.{declared_by}
 use Rattle.typed_scopes.specs.Given.{settled_view}
 use Rattle.typed_scopes.proofs.Standing.{same_types}
-use Rattle.settled_parts.specs.Given.{IsGiven, IsGivenFirst, IsGivenBefore}
-use Rattle.settled_parts.specs.Views.{links_seen, steps_seen}
+use Rattle.typed_scopes.specs.Zipped.{IsInside}
+use Rattle.settled_parts.specs.Given.{GivesBehind, IsGiven, IsGivenFirst, IsGivenBefore}
+use Rattle.settled_parts.specs.Views.{phrases_seen, domains_seen, links_seen, steps_seen}
 use Rattle.settled_parts.proofs.Lists.{ArgumentsFound, formula_start, formula_more, formula_fault, formula_all, given_here, argument_start, argument_more, argument_fault, argument_all}
 use Rattle.settled_parts.proofs.Operands.{links_ask, operand_start, operand_more, operand_fault, operand_all, steps_ask, given_step, none_given, step_start, step_more, step_fault, step_all}
 use Rattle.settled_parts.proofs.Entered.{behind_start, domains_ask, values_ask, domain_more, domain_fault, domain_all, value_more, value_fault, value_all, inside_then}
-use Rattle.settled_parts.proofs.Heads.{settled_by, brackets_come, join_comes, join_seen, given_brackets}
+use Rattle.settled_parts.proofs.PathHeads.{settled_by, brackets_come, join_comes, join_seen, given_brackets}
 use Rattle.settled_parts.proofs.Arms.{head_by, asked_brackets, asked_join, join_stepped}
-use Rattle.settled_parts.proofs.Wholes.{asks_then, asks_else, entry_read, call_fault, call_is, steps_fault, steps_are, body_fault, body_is, let_body_fault, let_body_is}
+use Rattle.settled_parts.proofs.WalkedParts.{asks_then, asks_else, entry_read, call_fault, call_is, steps_fault, steps_are, body_fault, body_is, let_body_fault, let_body_is}
 use Rattle.settled_parts.proofs.settling.+parts.Goals.{part-then-is_in_domains, part-else-is_in_domains, part-then-is_among, part-else-is_among}
 use Rattle.settled_parts.proofs.settling.+parts.Goals as goal
 
@@ -244,6 +247,17 @@ domains-returns-in_err-domain-clause-value t c =
     let p = err_from_is_err_and c.from_residual.result c.from_residual.ensures.1 in
     rw (p.1, p.2) (domain_fault c.args.asked d (same_types s c.requires.tables) c.args.single whole c.args.variables.now l.scope.locals l.variable-index l.all.items l.invariant.left c.variable-item.result c.loop-variable-test.true c.variable-item.is c.in_err-domain.field-0.0 c.in_err-domain.ensures.value)
 
+pub domains-returns-in_err-domain-clause-inside : goal.domains-returns-in_err-domain-clause-inside
+domains-returns-in_err-domain-clause-inside t c = subst (λ (ls : List Local). IsInside ls c.args.scope.now.locals) (sym c.in_err-domain.ensures.locals) c.loop-variable.invariant.inside
+
+pub domains-returns-in_err-enter_all-clause-inside : goal.domains-returns-in_err-enter_all-clause-inside
+domains-returns-in_err-enter_all-clause-inside t c =
+    inside_then c.enter_all.new.scope.locals c.domain_settled.new.scope.locals c.loop-variable.scope.locals c.args.scope.now.locals c.in_err-enter_all.ensures.inside c.in_ok-domain.ensures.locals c.loop-variable.invariant.inside
+
+pub domains-returns-in_err-push-clause-inside : goal.domains-returns-in_err-push-clause-inside
+domains-returns-in_err-push-clause-inside t c =
+    inside_then c.enter_all.new.scope.locals c.domain_settled.new.scope.locals c.loop-variable.scope.locals c.args.scope.now.locals c.in_ok-enter_all.ensures.inside c.in_ok-domain.ensures.locals c.loop-variable.invariant.inside
+
 pub domains-returns-clause-value : goal.domains-returns-clause-value
 domains-returns-clause-value t c =
     let s = c.args.setting.now in
@@ -282,6 +296,17 @@ values-returns-in_err-value-clause-value t c =
     let whole = values_settled d c.args.scope.now.locals (phrases_view c.args.phrases.now) in
     let p = err_from_is_err_and c.from_residual.result c.from_residual.ensures.1 in
     rw (p.1, p.2) (value_fault c.args.asked d (same_types s c.requires.tables) whole c.args.phrases.now l.scope.locals l.phrase-index l.all.items l.invariant.left c.phrase-item.result c.loop-phrase-test.true c.phrase-item.is c.in_err-value.field-0.0 c.in_err-value.ensures.value)
+
+pub values-returns-in_err-value-clause-inside : goal.values-returns-in_err-value-clause-inside
+values-returns-in_err-value-clause-inside t c = subst (λ (ls : List Local). IsInside ls c.args.scope.now.locals) (sym c.in_err-value.ensures.locals) c.loop-phrase.invariant.inside
+
+pub values-returns-in_err-enter_all-clause-inside : goal.values-returns-in_err-enter_all-clause-inside
+values-returns-in_err-enter_all-clause-inside t c =
+    inside_then c.enter_all.new.scope.locals c.relation.new.scope.locals c.loop-phrase.scope.locals c.args.scope.now.locals c.in_err-enter_all.ensures.inside c.in_ok-value.ensures.locals c.loop-phrase.invariant.inside
+
+pub values-returns-in_err-push-clause-inside : goal.values-returns-in_err-push-clause-inside
+values-returns-in_err-push-clause-inside t c =
+    inside_then c.enter_all.new.scope.locals c.relation.new.scope.locals c.loop-phrase.scope.locals c.args.scope.now.locals c.in_ok-enter_all.ensures.inside c.in_ok-value.ensures.locals c.loop-phrase.invariant.inside
 
 pub values-returns-clause-value : goal.values-returns-clause-value
 values-returns-clause-value t c =
@@ -373,8 +398,15 @@ head_settled-returns-in_ok-tops-in-Some-clause-value t c =
     (head_by d ls c.type_inside.new.scope.locals c.args.given.now c.in-Some.argument c.in_ok-of-in-Some.of c.in_ok-tops-in-Some.tops (phrase_view c.args.head.now) c.in_ok-of-in-Some.ensures.locals c.in-Some.is c.in_ok-of-in-Some.ensures.value c.in_ok-tops-in-Some.ensures)
     c.part.ensures.value
 
-pub part-domains-requires : goal.part-domains-requires
-part-domains-requires t c =
+-- what was entered where there was no fault
+entered_behind : {X Y : Type 0} (asked : Bool) (see : X → Y) (made : Result X TypeFault) (x : X) (new now : List Local) (whole : Result (Y × List Local) TypeFault)
+    → Ok x ≡ made → now ≡ new → GivesBehind asked see made new whole → (behind : List Local) × (whole ≡ Ok (see x, behind)) × AreAlikeWhere asked now behind
+entered_behind asked see made x new now whole is same gives =
+    let at : GivesBehind asked see (Ok x) new whole = subst (λ r. GivesBehind asked see r new whole) (sym is) gives in
+    (at.0, at.1, subst (λ (ls : List Local). AreAlikeWhere asked ls at.0) (sym same) at.2)
+
+pub part-domains-variables-requires : goal.part-domains-variables-requires
+part-domains-variables-requires t c =
     let asked = c.if-is_in_domains.asked in
     let test = shared_in_domains (domains_of (map domain_view c.in-Quantified.variables.items)) in
     let other = shared_in (phrase_view c.in-Quantified.inner.value) in
@@ -391,8 +423,8 @@ part-domains-requires t c =
       ),
     )
 
-pub part-values-requires : goal.part-values-requires
-part-values-requires t c =
+pub part-values-values-requires : goal.part-values-values-requires
+part-values-values-requires t c =
     let asked = c.if-is_among.asked in
     let test = shared_among (phrases_view c.in-Let.phrases.items) in
     let other = shared_in (phrase_view c.in-Let.inner.value) in
@@ -424,8 +456,8 @@ part-returns-in_err-inner-in-Quantified-clause-value t c =
           (w.if-is_in_domains.ensures ∙ ap (λ (vs : List Domain). shared_in_domains (domains_of (map domain_view vs))) c.deref-in-Quantified.ensures.value)
     ] in
     let p = err_from_is_err_and c.from_residual-in_err-inner-in-Quantified.result c.from_residual-in_err-inner-in-Quantified.ensures.1 in
-    rw (p.1, p.2) (body_fault d (same_types s c.requires) ls c.args.tops.now c.args.phrase.now asked c.domains.new.scope.locals c.in-Quantified.place c.in-Quantified.inner c.deref-in-Quantified-3.result.now c.deref-in-Quantified-3.ensures
-    c.in-Quantified.quantifier c.in-Quantified.variables c.deref-in-Quantified-2.result.now c.in-Quantified.is c.deref-in-Quantified-2.ensures.value c.in_ok-variables-in-Quantified.variables asks c.in_ok-variables-in-Quantified.ensures.value
+    rw (p.1, p.2) (body_fault d (same_types s c.requires) ls c.args.tops.now c.args.phrase.now asked _ c.in-Quantified.place c.in-Quantified.inner c.deref-in-Quantified-3.result.now c.deref-in-Quantified-3.ensures
+    c.in-Quantified.quantifier c.in-Quantified.variables c.deref-in-Quantified-2.result.now c.in-Quantified.is c.deref-in-Quantified-2.ensures.value c.in_ok-variables-in-Quantified.variables asks (entered_behind asked domains_seen c.domains-variables.result c.in_ok-variables-in-Quantified.variables c.domains-variables.new.scope.locals _ _ c.in_ok-variables-in-Quantified.ensures.made c.in_ok-variables-in-Quantified.ensures.ok c.domains-variables.ensures.value)
     c.in_err-inner-in-Quantified.field-0.0 c.in_err-inner-in-Quantified.ensures.value)
 
 pub part-returns-in_err-inner-in-Let-clause-value : goal.part-returns-in_err-inner-in-Let-clause-value
@@ -443,8 +475,8 @@ part-returns-in_err-inner-in-Let-clause-value t c =
           (w.if-is_among.ensures ∙ ap (λ (vs : List Phrase). shared_among (phrases_view vs)) c.deref-in-Let.ensures.value)
     ] in
     let p = err_from_is_err_and c.from_residual-in_err-inner-in-Let.result c.from_residual-in_err-inner-in-Let.ensures.1 in
-    rw (p.1, p.2) (let_body_fault d (same_types s c.requires) ls c.args.tops.now c.args.phrase.now asked c.values.new.scope.locals c.in-Let.place c.in-Let.inner c.deref-in-Let-3.result.now c.deref-in-Let-3.ensures
-    c.in-Let.phrases c.deref-in-Let-2.result.now c.in-Let.is c.deref-in-Let-2.ensures.value c.in_ok-values-in-Let.values asks c.in_ok-values-in-Let.ensures.value
+    rw (p.1, p.2) (let_body_fault d (same_types s c.requires) ls c.args.tops.now c.args.phrase.now asked _ c.in-Let.place c.in-Let.inner c.deref-in-Let-3.result.now c.deref-in-Let-3.ensures
+    c.in-Let.phrases c.deref-in-Let-2.result.now c.in-Let.is c.deref-in-Let-2.ensures.value c.in_ok-values-in-Let.values asks (entered_behind asked phrases_seen c.values-values.result c.in_ok-values-in-Let.values c.values-values.new.scope.locals _ _ c.in_ok-values-in-Let.ensures.made c.in_ok-values-in-Let.ensures.ok c.values-values.ensures.value)
     c.in_err-inner-in-Let.field-0.0 c.in_err-inner-in-Let.ensures.value)
 
 pub part-returns-in_ok-inner-in-Quantified-2-clause-value : goal.part-returns-in_ok-inner-in-Quantified-2-clause-value
@@ -461,8 +493,8 @@ part-returns-in_ok-inner-in-Quantified-2-clause-value t c =
           asks_else test other asked (w.asked-is ∙ w.is_in-asked.ensures ∙ ap (λ (y : Phrase). shared_in (phrase_view y)) w.deref-else-is_in_domains.ensures)
           (w.if-is_in_domains.ensures ∙ ap (λ (vs : List Domain). shared_in_domains (domains_of (map domain_view vs))) c.deref-in-Quantified.ensures.value)
     ] in
-    body_is d (same_types s c.requires) ls c.args.tops.now c.args.phrase.now asked c.domains.new.scope.locals c.in-Quantified.place c.in-Quantified.inner c.deref-in-Quantified-3.result.now c.deref-in-Quantified-3.ensures
-    c.in-Quantified.quantifier c.in-Quantified.variables c.deref-in-Quantified-2.result.now c.in-Quantified.is c.deref-in-Quantified-2.ensures.value c.in_ok-variables-in-Quantified.variables asks c.in_ok-variables-in-Quantified.ensures.value
+    body_is d (same_types s c.requires) ls c.args.tops.now c.args.phrase.now asked _ c.in-Quantified.place c.in-Quantified.inner c.deref-in-Quantified-3.result.now c.deref-in-Quantified-3.ensures
+    c.in-Quantified.quantifier c.in-Quantified.variables c.deref-in-Quantified-2.result.now c.in-Quantified.is c.deref-in-Quantified-2.ensures.value c.in_ok-variables-in-Quantified.variables asks (entered_behind asked domains_seen c.domains-variables.result c.in_ok-variables-in-Quantified.variables c.domains-variables.new.scope.locals _ _ c.in_ok-variables-in-Quantified.ensures.made c.in_ok-variables-in-Quantified.ensures.ok c.domains-variables.ensures.value)
     c.in_ok-inner-in-Quantified.inner c.in_ok-inner-in-Quantified-2.inner c.in_ok-inner-in-Quantified-2.ensures.ok c.in_ok-inner-in-Quantified.ensures.value
 
 pub part-returns-in_ok-inner-in-Let-2-clause-value : goal.part-returns-in_ok-inner-in-Let-2-clause-value
@@ -479,8 +511,8 @@ part-returns-in_ok-inner-in-Let-2-clause-value t c =
           asks_else test other asked (w.asked-is ∙ w.is_in-asked-else-is_among.ensures ∙ ap (λ (y : Phrase). shared_in (phrase_view y)) w.deref-else-is_among.ensures)
           (w.if-is_among.ensures ∙ ap (λ (vs : List Phrase). shared_among (phrases_view vs)) c.deref-in-Let.ensures.value)
     ] in
-    let_body_is d (same_types s c.requires) ls c.args.tops.now c.args.phrase.now asked c.values.new.scope.locals c.in-Let.place c.in-Let.inner c.deref-in-Let-3.result.now c.deref-in-Let-3.ensures
-    c.in-Let.phrases c.deref-in-Let-2.result.now c.in-Let.is c.deref-in-Let-2.ensures.value c.in_ok-values-in-Let.values asks c.in_ok-values-in-Let.ensures.value
+    let_body_is d (same_types s c.requires) ls c.args.tops.now c.args.phrase.now asked _ c.in-Let.place c.in-Let.inner c.deref-in-Let-3.result.now c.deref-in-Let-3.ensures
+    c.in-Let.phrases c.deref-in-Let-2.result.now c.in-Let.is c.deref-in-Let-2.ensures.value c.in_ok-values-in-Let.values asks (entered_behind asked phrases_seen c.values-values.result c.in_ok-values-in-Let.values c.values-values.new.scope.locals _ _ c.in_ok-values-in-Let.ensures.made c.in_ok-values-in-Let.ensures.ok c.values-values.ensures.value)
     c.in_ok-inner-in-Let.inner c.in_ok-inner-in-Let-2.inner c.in_ok-inner-in-Let-2.ensures.ok c.in_ok-inner-in-Let.ensures.value
 
 pub part-returns-in_err-kind-in-Called-clause-value : goal.part-returns-in_err-kind-in-Called-clause-value

@@ -2,7 +2,7 @@ use Rattle.std.proofs.Common.{◌≡◌, ◌+◌, List, [], ◌∷◌, refl, sym
 use Rattle.named_model.specs.View.{phrase_view}
 use Rattle.model_types.specs.Typing.{Local, type_in, onto}
 use Rattle.settling_rules.specs.Inside.{AreAlikeWhere}
-use Rattle.settling_rules.proofs.Asked.{alike_refl}
+use Rattle.settling_rules.proofs.SharedDeclarations.{alike_refl}
 use Rattle.typed_scopes.specs.Declaring.{declared_by}
 use Rattle.typed_scopes.specs.Zipped.{IsInside}
 use Rattle.typed_scopes.proofs.Insides.{inside_more, alike_more}
@@ -26,3 +26,12 @@ loop-preserved c =
           (alike_more c.args.asked c.loop.counter l m c.loop.scope.locals outer refl (λ a t. c.in_ok-copy.ensures.value t ∙ c.in_ok-of.ensures.value a t) c.loop.invariant.alike);
       inside = subst (λ (ls : List Local). IsInside ls outer) (sym entered) (inside_more l c.loop.scope.locals outer c.loop.invariant.inside);
     }
+
+pub returns-in_err-of-clause-inside : goal.returns-in_err-of-clause-inside
+returns-in_err-of-clause-inside c = ([], c.in_err-of.ensures.locals)
+
+pub returns-in_err-copy-clause-inside : goal.returns-in_err-copy-clause-inside
+returns-in_err-copy-clause-inside c = subst (λ (ls : List Local). IsInside ls c.args.scope.now.locals) (sym c.in_err-copy.ensures.locals) c.loop.invariant.inside
+
+pub returns-in_err-enter-clause-inside : goal.returns-in_err-enter-clause-inside
+returns-in_err-enter-clause-inside c = subst (λ (ls : List Local). IsInside ls c.args.scope.now.locals) (sym (c.in_err-enter.ensures.err ∙ c.in_ok-copy.ensures.locals)) c.loop.invariant.inside

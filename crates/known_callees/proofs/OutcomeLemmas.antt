@@ -13,7 +13,7 @@ use Rattle.model_types.specs.Models.{or_unknown}
 use Rattle.bounding_types.specs.Same.{AreSame}
 use Rattle.expression_types.specs.Types.{AreEachSame}
 use Rattle.settling_rules.specs.Inside.{AreAlikeWhere}
-use Rattle.settling_rules.proofs.Asked.{alike_refl}
+use Rattle.settling_rules.proofs.SharedDeclarations.{alike_refl}
 use Rattle.known_callees.specs.Groups.{GroupTree, local_with, entered}
 use Rattle.known_callees.specs.Fields.{field_type}
 use Rattle.known_callees.proofs.Bounds.{each_more}

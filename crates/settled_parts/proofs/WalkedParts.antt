@@ -23,7 +23,7 @@ use Rattle.part_sorts.specs.Kinds.{kind_view}
 use Rattle.shared_names.specs.declared.headers.Header.{Header}
 use Rattle.shared_names.specs.Headers.{with_type}
 use Rattle.shared_names.specs.Shared.{shared_in, shared_among, shared_in_domains}
-use Rattle.expression_types.proofs.Seen.{called_seen, path_seen}
+use Rattle.expression_types.proofs.SeenPhrases.{called_seen, path_seen}
 use Rattle.settling_rules.specs.Inside.{AreAlikeWhere}
 use Rattle.settling_rules.specs.Same.{AreSameTypes, Asks}
 use Rattle.settling_rules.specs.Single.{argument_asked, tops_of}
@@ -33,7 +33,7 @@ use Rattle.typed_scopes.specs.Declaring.{declared_by}
 use Rattle.typed_scopes.specs.Given.{settled_view}
 use Rattle.settled_parts.specs.declared.settling.Arguments.{Arguments}
 use Rattle.settled_parts.specs.Views.{phrases_seen, domains_seen, arguments_view, steps_seen}
-use Rattle.settled_parts.proofs.Heads.{path_steps_fault, path_is, quantified_fault, quantified_is, let_fault, let_is}
+use Rattle.settled_parts.proofs.PathHeads.{path_steps_fault, path_is, quantified_fault, quantified_is, let_fault, let_is}
 use Rattle.settled_parts.proofs.Arms.{called_fault, called_is}
 
 quantified_seen : (q : Quantifier) (p : Place) (ds : Vec Domain Global) (x : Box Phrase Global) → phrase_view (Quantified q p ds x) ≡ quantified q p (domains_of (map domain_view ds.items)) (phrase_view x.value)

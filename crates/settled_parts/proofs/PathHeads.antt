@@ -21,8 +21,8 @@ use Rattle.settling_rules.specs.Inside.{AreAlikeWhere}
 use Rattle.settling_rules.specs.Same.{AreSameTypes, Asks}
 use Rattle.settling_rules.specs.Single.{argument_before, argument_asked, tops_of}
 use Rattle.settling_rules.specs.Told.{IsTold}
-use Rattle.settling_rules.proofs.Alike.{settled_alike}
-use Rattle.settling_rules.proofs.Asked.{asks_right}
+use Rattle.settling_rules.proofs.SettledAlike.{settled_alike}
+use Rattle.settling_rules.proofs.SharedDeclarations.{asks_right}
 use Rattle.settling_rules.proofs.Asking.{tops_alike}
 use Rattle.settling_rules.proofs.Reaching.{told_then}
 use Rattle.settled_parts.specs.Given.{IsGivenFirst, IsGivenBefore}
