@@ -5,7 +5,7 @@ use Rattle.std.proofs.lemmas.List.{same_lists, length-map, get_or-map, get_or_pa
 use Rattle.std.proofs.lemmas.List.Edits.{Swapped}
 use Rattle.activity_order.specs.declared.heap.VarHeap.{VarHeap}
 use Rattle.activity_order.specs.OrderState.{Waits, NoneWaits, IsFirst}
-use Rattle.activity_order.specs.Heap.{rank, rank_at, var_at, place_of, waiting_of, IsBelow, IsIndexed, IsRankedFrom, IsRising, IsSinking, IsTopBelow, IsHeap, IsSwapped, IsRearranged}
+use Rattle.activity_order.specs.Heap.{rank, rank_at, var_at, place_of, waiting_of, IsBelow, ArePlaces, IsIndexed, IsRankedFrom, IsRising, IsSinking, IsTopBelow, IsHeap, IsSwapped, IsRearranged}
 use Rattle.activity_order.proofs.Ranks.{rising_step, sinking_step, top_rank, before_from_rank}
 use Rattle.activity_order.proofs.Places.{ranks_swapped, waits_same}
 
@@ -181,3 +181,20 @@ all_wait h n count long own =
     same_lists (map f h.places.items) (replicate n true) (long' ∙ sym (length-replicate n true)) (λ i d h'.
     let in' : i < n = omega (arith, h', long') in
     get_or-map f h.places.items i 0 d (omega (arith, in', long)) ∙ (lt-ltb (place_of h i) h.waiting (omega (arith, own i in', in', count)) ∙ sym (get_or-replicate n i true d in')))
+
+module _ (activities : List ℕ) (old new : VarHeap) (variables : new.variables.items ≡ old.variables.items) (places : new.places.items ≡ old.places.items) (count : new.waiting ≡ old.waiting) where
+  -- a copy of a heap is one by the same activities
+  pub heap_copied : IsHeap activities old → IsHeap activities new
+  heap_copied was = record {
+    indexed = record {
+      places = subst (λ (vs : List ℕ). ArePlaces vs new.places.items) (sym variables) (subst (ArePlaces old.variables.items) (sym places) was.indexed.places);
+      few = omega (arith, ap length variables, was.indexed.few);
+      front = omega (arith, ap length variables, count, was.indexed.front);
+    };
+    long = was.long ∙ sym (ap length variables);
+    ranked = subst (λ (vs : List ℕ). IsRankedFrom 0 new.waiting (λ i. rank activities (get_or vs i 0))) (sym variables) (subst (λ (n : ℕ). IsRankedFrom 0 n (rank_at activities old)) (sym count) was.ranked);
+  }
+
+  -- and the same variables wait in it
+  pub waiting_copied : waiting_of new ≡ waiting_of old
+  waiting_copied = ap (λ (ps : List ℕ). map (λ p. ltb p new.waiting) ps) places ∙ ap (λ (n : ℕ). map (λ p. ltb p n) old.places.items) count

@@ -1,8 +1,9 @@
-ghost use Rattle.std.specs.Prelude.{◌≡◌, ◌↔◌, ◌+◌, ◌*◌, ◌<◌, ◌≤◌, ℕ, true, false, IfOk, IsTrue, MatchOption, length, replicate, slice_index_or, slice_set};
+// The heap of the variables that wait.
+ghost use Rattle.std.specs.Prelude.{◌≡◌, ◌↔◌, ◌+◌, ◌*◌, ◌<◌, ◌≤◌, ℕ, List, true, false, IfOk, IsTrue, MatchOption, length, replicate, slice_index_or, slice_set};
 ghost use Rattle.activity_order.specs.OrderState.{NoneWaits, IsFirst};
 ghost use Rattle.activity_order.specs.Heap.{rank, place_of, rank_at, waiting_of, IsBelow, IsIndexed, IsRankedFrom, IsRising, IsTopBelow, IsHeap, IsSwapped, IsRearranged};
 
-use std::alloc::{AllocError as NoMemory, Global};
+use std::alloc::{AllocError, Global};
 
 /// The variables, the waiting ones first and in a heap, and the place of each of them.
 #[derive(Debug, Drop)]
@@ -12,7 +13,7 @@ pub(crate) struct VarHeap {
     waiting: usize,
 }
 
-/// Whether a variable comes before another: its activity is greater, or the same and it is the lower one.
+// Whether a variable comes before another: its activity is greater, or the same and it is the lower one.
 fn comes_before(activities: &[u64], var: u32, other: u32) -> bool
     requires var { var < length activities.now }
     requires other { other < length activities.now }
@@ -23,8 +24,8 @@ fn comes_before(activities: &[u64], var: u32, other: u32) -> bool
     own > its || (own == its && var < other)
 }
 
-/// The numbers from 0 to the one below this.
-fn numbers(alloc: Global, count: u32) -> Result<Vec<u32>, NoMemory>
+// The numbers from 0 to the one below this.
+fn numbers(alloc: Global, count: u32) -> Result<Vec<u32>, AllocError>
     ensures long { IfOk result (λ v. length v.items ≡ count) }
     ensures own { IfOk result (λ v. (i : ℕ) → i < count → slice_index_or v.items i 0 ≡ i) }
 {
@@ -33,7 +34,7 @@ fn numbers(alloc: Global, count: u32) -> Result<Vec<u32>, NoMemory>
 
 impl VarHeap {
     /// All variables below this number wait, in order, as long as their activities are 0.
-    pub(crate) fn all(alloc: Global, vars: u32) -> Result<VarHeap, NoMemory>
+    pub(crate) fn all(alloc: Global, vars: u32) -> Result<VarHeap, AllocError>
         ensures heap { IfOk result (IsHeap (replicate vars 0)) }
         ensures waiting { IfOk result (λ h. waiting_of h ≡ replicate vars true) }
     {
@@ -41,6 +42,20 @@ impl VarHeap {
             variables: numbers(alloc, vars)?,
             places: numbers(alloc, vars)?,
             waiting: vars as usize,
+        })
+    }
+
+    /// The same variables, each at the same place.
+    pub(crate) fn copy(&self, alloc: Global) -> Result<VarHeap, AllocError>
+        ensures heap { (activities : List ℕ) → IsHeap activities self.now → IfOk result (IsHeap activities) }
+        ensures waiting { IfOk result (λ h. waiting_of h ≡ waiting_of self.now) }
+    {
+        let variables = Vec::from_slice(alloc, self.variables.as_slice())?;
+        let places = Vec::from_slice(alloc, self.places.as_slice())?;
+        Ok(VarHeap {
+            variables,
+            places,
+            waiting: self.waiting,
         })
     }
 
@@ -52,7 +67,7 @@ impl VarHeap {
         (self.places[var as usize] as usize) < self.waiting
     }
 
-    /// The variables at two places change places.
+    // The variables at two places change places.
     fn swap(&mut self, one: usize, other: usize)
         requires indexed { IsIndexed self.old }
         requires one { one < length self.old.variables.items }
@@ -67,7 +82,7 @@ impl VarHeap {
         self.places[var as usize] = other as u32;
     }
 
-    /// The place above this one, where its variable doesn't come before this one's.
+    // The place above this one, where its variable doesn't come before this one's.
     fn later_above(&self, activities: &[u64], at: usize) -> Option<usize>
         requires indexed { IsIndexed self.now }
         requires long { length activities.now ≡ length self.now.variables.items }
@@ -82,7 +97,7 @@ impl VarHeap {
         if is_before { None } else { Some(above) }
     }
 
-    /// Brings the variable at this place up, until the one above it comes before it.
+    // Brings the variable at this place up, until the one above it comes before it.
     fn rise(&mut self, activities: &[u64], from: usize)
         requires indexed { IsIndexed self.old }
         requires long { length activities.now ≡ length self.old.variables.items }
@@ -98,7 +113,7 @@ impl VarHeap {
         }
     }
 
-    /// Of the places right below this one, the one whose variable comes first.
+    // Of the places right below this one, the one whose variable comes first.
     fn first_below(&self, activities: &[u64], at: usize) -> Option<usize>
         requires indexed { IsIndexed self.now }
         requires long { length activities.now ≡ length self.now.variables.items }
@@ -117,7 +132,7 @@ impl VarHeap {
         Some(if is_left { left } else { right })
     }
 
-    /// The place of the first variable below this place, where this one's doesn't come before it.
+    // The place of the first variable below this place, where this one's doesn't come before it.
     fn earlier_below(&self, activities: &[u64], at: usize) -> Option<usize>
         requires indexed { IsIndexed self.now }
         requires long { length activities.now ≡ length self.now.variables.items }
@@ -129,7 +144,7 @@ impl VarHeap {
         if is_before { None } else { Some(below) }
     }
 
-    /// Brings the variable at this place down, until it comes before those below it.
+    // Brings the variable at this place down, until it comes before those below it.
     fn sink(&mut self, activities: &[u64], from: usize)
         requires indexed { IsIndexed self.old }
         requires long { length activities.now ≡ length self.old.variables.items }

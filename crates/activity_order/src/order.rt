@@ -1,8 +1,9 @@
+// Activities, and the variable that is decided next.
 ghost use Rattle.std.specs.Prelude.{◌≡◌, ◌+◌, ◌/◌, ◌<◌, ◌≤◌, ◌^◌, true, false, IfOk, MatchOption, length, map, replicate, slice_index_or};
 ghost use Rattle.activity_order.specs.OrderState.{activity_of, with_waiting, with_room, raised, next_increment, decayed, NoneWaits, IsFirst, IsBounded};
 
-use super::heap::VarHeap;
-use std::alloc::{AllocError as NoMemory, Global};
+use crate::heap::VarHeap;
+use std::alloc::{AllocError, Global};
 use std::marker::Model;
 
 /// No activity and no increment is above this.
@@ -30,7 +31,7 @@ impl Model for ActivityOrder {
     ghost invariant = { IsKept };
 }
 
-fn zeros(alloc: Global, vars: u32) -> Result<Vec<u64>, NoMemory>
+fn zeros(alloc: Global, vars: u32) -> Result<Vec<u64>, AllocError>
     ensures { IfOk result (λ v. v.items ≡ replicate vars 0) }
 {
     vec![in alloc; 0; vars as usize]
@@ -44,7 +45,7 @@ fn halve(activities: &mut [u64])
     }
 }
 
-/// The increment after this one.
+// The increment after this one.
 fn after(increment: u64) -> u64
     requires { increment ≤ 2 ^ 62 }
     ensures { result ≡ next_increment increment }
@@ -54,13 +55,26 @@ fn after(increment: u64) -> u64
 
 impl ActivityOrder {
     /// All variables below this number wait, their activities are 0, and the increment is 1.
-    pub fn new(alloc: Global, vars: u32) -> Result<ActivityOrder, NoMemory>
+    pub fn new(alloc: Global, vars: u32) -> Result<ActivityOrder, AllocError>
         ensures { IfOk result (λ o. o ≡ record { activities = replicate vars 0; increment = 1; waiting = replicate vars true }) }
     {
         Ok(ActivityOrder {
             activities: zeros(alloc, vars)?,
             increment: 1,
             heap: VarHeap::all(alloc, vars)?,
+        })
+    }
+
+    /// An equal order.
+    pub fn copy(&self, alloc: Global) -> Result<ActivityOrder, AllocError>
+        ensures { IfOk result (λ o. o ≡ self.now) }
+    {
+        let activities = Vec::from_slice(alloc, self.activities.as_slice())?;
+        let heap = self.heap.copy(alloc)?;
+        Ok(ActivityOrder {
+            activities,
+            increment: self.increment,
+            heap,
         })
     }
 
@@ -105,7 +119,7 @@ impl ActivityOrder {
         self.heap.put_back(self.activities.as_slice(), var);
     }
 
-    /// Halves the increment and all activities, where this sum is too great.
+    // Halves the increment and all activities, where this sum is too great.
     fn make_room(&mut self, sum: u64)
         ensures { self.new ≡ with_room self.old sum }
     {

@@ -1,4 +1,4 @@
 pub mod Holding
 pub mod Looks
-pub mod Marked
+pub mod TrailMarks
 pub mod Trails

@@ -1,3 +1,4 @@
+// A literal that is true, with its cause.
 use cnf_core::Lit;
 
 /// A literal that is true, its level, and the number of the clause that forced it; a decision has none.

@@ -1,3 +1,4 @@
+// The trail: which literals are true, since when and why.
 ghost use Rattle.std.specs.Prelude.{◌≡◌, List, ◌+◌, ◌/◌, ◌<◌, ◌≤◌, ◌^◌, ◌++◌, ◌∷◌, [], ℕ, All, Contains, IfOk, None, Some, length, slice_index_or, slice_set, take, vec_len, vec_capacity};
 ghost use Rattle.cnf_core.specs.declared.literal.Lit.{Lit};
 ghost use Rattle.assignment_trail.specs.declared.assigned.Assigned.{Assigned};
@@ -9,11 +10,11 @@ ghost use Rattle.clause_store.specs.Codes.{literal_of as literal, literals_of};
 ghost use Rattle.assignment_trail.specs.Cutting.{AreFresh, IsMarking};
 ghost use Rattle.assignment_trail.specs.AssignmentState.{IsValueOf, IsConsistent};
 
-use super::assigned::Assigned;
+use crate::assigned::Assigned;
 use clause_store::literal_of;
-use cnf_core::{Lit, NoMemory};
+use cnf_core::Lit;
 use refutation_check::Sight;
-use std::alloc::Global;
+use std::alloc::{AllocError, Global};
 use std::marker::Model;
 
 /// The literals that are true, in the order in which they became so, and the values and levels of the variables.
@@ -38,7 +39,7 @@ impl Model for Assignment {
     ghost invariant = { IsHeld };
 }
 
-/// The value of the literal of this number, by the values of the variables.
+// The value of the literal of this number, by the values of the variables.
 fn value_in(marks: &[Option<bool>], code: u32) -> Option<bool>
     requires { code / 2 < length marks.now }
     ensures { (falses : List Lit) → Marks marks.now falses → IsValueOf falses (literal code) result }
@@ -50,7 +51,7 @@ fn value_in(marks: &[Option<bool>], code: u32) -> Option<bool>
     }
 }
 
-/// Looks once at each literal of a clause, by the numbers of its literals.
+// Looks once at each literal of a clause, by the numbers of its literals.
 fn look_in(marks: &[Option<bool>], codes: &[u32]) -> Sight
     requires clause { IsClause (literals_of codes.now) }
     requires in_range { IsWithin (length marks.now) (literals_of codes.now) }
@@ -72,7 +73,7 @@ fn look_in(marks: &[Option<bool>], codes: &[u32]) -> Sight
     }
 }
 
-/// Marks a literal as true, with its level, and puts it at the end, where there is room for it.
+// Marks a literal as true, with its level, and puts it at the end, where there is room for it.
 fn put(
     marks: &mut Vec<Option<bool>>,
     levels: &mut Vec<u32>,
@@ -92,7 +93,7 @@ fn put(
     let _ = assigned.push(a);
 }
 
-/// Undoes the newest literals, so that the oldest so many stay.
+// Undoes the newest literals, so that the oldest so many stay.
 fn cut_to(marks: &mut Vec<Option<bool>>, assigned: &mut Vec<Assigned>, count: usize)
     requires fresh { AreFresh assigned.old.items }
     requires marking { IsMarking marks.old.items assigned.old.items }
@@ -108,7 +109,7 @@ fn cut_to(marks: &mut Vec<Option<bool>>, assigned: &mut Vec<Assigned>, count: us
     }
 }
 
-/// The level of the newest literal, or 0.
+// The level of the newest literal, or 0.
 fn newest_level(assigned: &[Assigned]) -> u32
     ensures { result ≡ level_of_trail assigned.now }
 {
@@ -117,7 +118,7 @@ fn newest_level(assigned: &[Assigned]) -> u32
 
 impl Assignment {
     /// No literal is true, of the variables up to this one, which is at most 2,147,483,647.
-    pub fn none(alloc: Global, vars: u32) -> Result<Assignment, NoMemory>
+    pub fn none(alloc: Global, vars: u32) -> Result<Assignment, AllocError>
         requires { vars < 2 ^ 31 }
         ensures { IfOk result (λ t. t ≡ record { vars = vars; assigned = [] }) }
     {
@@ -126,6 +127,22 @@ impl Assignment {
         let assigned = Vec::with_capacity(alloc, vars as usize + 1)?;
         Ok(Assignment {
             vars,
+            marks,
+            levels,
+            assigned,
+        })
+    }
+
+    /// The same literals are true, of as many variables.
+    pub fn copy(&self, alloc: Global) -> Result<Assignment, AllocError>
+        ensures { IfOk result (λ t. t ≡ self.now) }
+    {
+        let marks = Vec::from_slice(alloc, self.marks.as_slice())?;
+        let levels = Vec::from_slice(alloc, self.levels.as_slice())?;
+        let mut assigned = Vec::with_capacity(alloc, self.marks.len())?;
+        assigned.extend_from_slice(self.assigned.as_slice())?;
+        Ok(Assignment {
+            vars: self.vars,
             marks,
             levels,
             assigned,

@@ -4,7 +4,7 @@ use Rattle.std.specs.Prelude.{IfSome, if◌then◌else◌, ◌==◌}
 use Rattle.cnf_core.specs.declared.literal.Lit.{Lit}
 use Rattle.cnf_core.specs.Literal.{HasVarsUpTo, HasSameLiterals}
 use Rattle.cnf_core.specs.Valuation.{literal_value, value_of}
-use Rattle.cnf_core.proofs.Same.{All-same}
+use Rattle.cnf_core.proofs.SameLiterals.{All-same}
 use Rattle.refutation_check.specs.declared.log.Step.{Step}
 use Rattle.sat_core.specs.declared.search.Answer.{Answer}
 use Rattle.sat_core.specs.declared.search.Answer.TheVariants.{Found, Refuted, Spent}

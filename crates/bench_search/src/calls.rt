@@ -7,12 +7,12 @@ use crate::dimacs::text_of;
 use crate::formulas::{MOST, clause_of, generator, random, random_literal};
 use crate::found::{Called, End, Found};
 use crate::searches::{is_right, size_of};
-use cnf_core::{Clause, Cnf, NoMemory};
+use cnf_core::{Clause, Cnf};
 use refutation_check::Log;
 use sat_core::{Answer, solve};
-use std::alloc::Global;
+use std::alloc::{AllocError, Global};
 
-/// The most steps of a call.
+// The most steps of a call.
 const BUDGET: u64 = 100_000_000;
 
 /// What is found where this is done with so many random clauses, two for each variable, and so many calls, each of which
@@ -23,7 +23,7 @@ pub fn found(
     done: &str,
     clauses: u32,
     calls: u32,
-) -> Result<Option<Found>, NoMemory> {
+) -> Result<Option<Found>, AllocError> {
     if clauses < 100 || clauses > MOST {
         return Ok(None);
     }
@@ -47,7 +47,7 @@ pub fn found(
 }
 
 // What the call of this number assumes: a literal of each fiftieth variable.
-fn units_of(alloc: Global, vars: u32, call: u32) -> Result<Vec<Clause>, NoMemory>
+fn units_of(alloc: Global, vars: u32, call: u32) -> Result<Vec<Clause>, AllocError>
     requires some { 50 ≤ vars }
     requires few { vars ≤ 1000000 }
     ensures few { IfOk result (λ units. length units.items ≤ 20000) }
@@ -86,7 +86,7 @@ fn count(called: &mut Called, answer: &Answer) {
 }
 
 // What so many calls come to.
-fn called(alloc: Global, f: &Cnf, calls: u32) -> Result<Called, NoMemory>
+fn called(alloc: Global, f: &Cnf, calls: u32) -> Result<Called, AllocError>
     requires some { 50 ≤ f.now.vars }
     requires few { f.now.vars ≤ 1000000 }
     requires few_clauses { length f.now.clauses ≤ 1000000 }
@@ -101,7 +101,7 @@ fn called(alloc: Global, f: &Cnf, calls: u32) -> Result<Called, NoMemory>
 }
 
 // The same, where each answer is accepted.
-fn checked(alloc: Global, f: &Cnf, calls: u32) -> Result<Option<Called>, NoMemory>
+fn checked(alloc: Global, f: &Cnf, calls: u32) -> Result<Option<Called>, AllocError>
     requires some { 50 ≤ f.now.vars }
     requires few { f.now.vars ≤ 1000000 }
     requires few_clauses { length f.now.clauses ≤ 1000000 }
@@ -119,7 +119,12 @@ fn checked(alloc: Global, f: &Cnf, calls: u32) -> Result<Option<Called>, NoMemor
 }
 
 // Whether the answer is one for the formula with further clauses behind its own, as `is_right` says.
-fn is_right_with(alloc: Global, f: &Cnf, more: &[Clause], answer: &Answer) -> Result<bool, NoMemory>
+fn is_right_with(
+    alloc: Global,
+    f: &Cnf,
+    more: &[Clause],
+    answer: &Answer,
+) -> Result<bool, AllocError>
     requires few { length f.now.clauses ≤ 1000000 }
     requires few_more { length more.now ≤ 20000 }
     requires vars { All (HasVarsUpTo f.now.vars) more.now }
@@ -131,7 +136,7 @@ fn is_right_with(alloc: Global, f: &Cnf, more: &[Clause], answer: &Answer) -> Re
 }
 
 // The formula with further clauses behind its own.
-fn with(alloc: Global, f: &Cnf, more: &[Clause]) -> Result<Cnf, NoMemory>
+fn with(alloc: Global, f: &Cnf, more: &[Clause]) -> Result<Cnf, AllocError>
     requires few { length f.now.clauses ≤ 1000000 }
     requires few_more { length more.now ≤ 20000 }
     requires vars { All (HasVarsUpTo f.now.vars) more.now }

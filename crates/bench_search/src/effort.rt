@@ -5,27 +5,28 @@ ghost use Rattle.assignment_trail.specs.Trail.{falses_of};
 ghost use Rattle.sat_trail.specs.Closed.{IsPropagated};
 
 use crate::found::Effort;
-use cnf_core::{Cnf, NoMemory};
+use cnf_core::Cnf;
 use refutation_check::Log;
-use sat_trail::{Propagated, Trail, learn};
-use std::alloc::Global;
+use sat_trail::{Leaning, Propagated, Trail, learn};
+use std::alloc::{AllocError, Global};
 
-/// The most conflicts that are counted.
+// The most conflicts that are counted.
 const MOST_CONFLICTS: u32 = 100_000_000;
 
 /// How many variables the search in these clauses decides, how many it is forced to, and from how many conflicts it learns.
-pub fn effort(alloc: Global, f: &Cnf) -> Result<Effort, NoMemory>
+pub fn effort(alloc: Global, f: &Cnf) -> Result<Effort, AllocError>
     requires { length f.now.clauses ≤ 1000000 }
 {
     let mut trail = Trail::of(alloc, f, &Log::new(alloc), &[])?;
+    let leaning = Leaning::towards(alloc, false);
     let mut effort = Effort {
         decided: 0,
         forced: 0,
         conflicts: 0,
     };
     for turn in 0..MOST_CONFLICTS {
-        let _ = turn;
-        let Some(conflict) = descend(&mut trail, &mut effort) else {
+        let _ = turn; // for the proof
+        let Some(conflict) = descend(&mut trail, &leaning, &mut effort) else {
             return Ok(effort);
         };
         if !go_on(alloc, &mut trail, conflict)? {
@@ -37,17 +38,17 @@ pub fn effort(alloc: Global, f: &Cnf) -> Result<Effort, NoMemory>
 }
 
 // Propagates and decides, until a clause is falsified: its number; or until each variable has a value.
-fn descend(trail: &mut Trail, effort: &mut Effort) -> Option<u32>
+fn descend(trail: &mut Trail, leaning: &Leaning, effort: &mut Effort) -> Option<u32>
     ensures conflict { IfSome result (Refutes trail.new.clauses (falses_of trail.new.assigned)) }
     ensures vars { trail.new.vars ≡ trail.old.vars }
     ensures clauses { trail.new.clauses ≡ trail.old.clauses }
 {
     for turn in 0..trail.vars() + 1 {
-        let _ = turn;
+        let _ = turn; // for the proof
         if let Propagated::Conflict(number) = propagate(trail, effort) {
             return Some(number);
         }
-        if trail.decide_next(false).is_none() {
+        if trail.decide_next(leaning).is_none() {
             return None;
         }
         effort.decided = effort.decided.saturating_add(1);
@@ -82,12 +83,12 @@ fn valued(trail: &Trail) -> u32 {
 }
 
 // Learns from a conflict and goes back, as far as the learnt clause asks; false where that is empty.
-fn go_on(alloc: Global, trail: &mut Trail, conflict: u32) -> Result<bool, NoMemory>
+fn go_on(alloc: Global, trail: &mut Trail, conflict: u32) -> Result<bool, AllocError>
     requires conflict { Refutes trail.old.clauses (falses_of trail.old.assigned) conflict }
     requires room { length trail.old.clauses + 1 < 2 ^ 30 }
     ensures { OnOk result (length trail.new.clauses ≤ length trail.old.clauses + 1) }
 {
-    let _level = trail.level();
+    let _level = trail.level(); // for the proof
     let step = learn(alloc, trail, conflict)?;
     if step.clause.lits().is_empty() {
         return Ok(false);

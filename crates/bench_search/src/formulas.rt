@@ -3,16 +3,16 @@ ghost use Rattle.std.specs.Prelude.{◌≡◌, ◌+◌, ◌<◌, ◌≤◌, All,
 ghost use Rattle.cnf_core.specs.Literal.{HasVarsUpTo};
 ghost use Rattle.bench_search.specs.Formulas.{IsSmall};
 
-use cnf_core::{Clause, Cnf, Lit, NoMemory};
+use cnf_core::{Clause, Cnf, Lit};
 use rand_core::Rng;
 use rand_pcg::Pcg32;
-use std::alloc::Global;
+use std::alloc::{AllocError, Global};
 
 /// The most variables and clauses.
 pub const MOST: u32 = 1_000_000;
 
 /// The clauses of this kind, of which there are at most a million; `None` where there is no such kind or size.
-pub fn of_kind(alloc: Global, kind: &str, size: u32, seed: u32) -> Result<Option<Cnf>, NoMemory>
+pub fn of_kind(alloc: Global, kind: &str, size: u32, seed: u32) -> Result<Option<Cnf>, AllocError>
     ensures { IfOk result (λ made. IfSome made (λ f. length f.clauses ≤ 1000000)) }
 {
     match kind {
@@ -54,7 +54,7 @@ pub fn literal(place: u32, vars: u32, positive: bool) -> Lit
 }
 
 /// So many clauses of three literals, each of another of these variables, by a seed.
-pub fn random(alloc: Global, vars: u32, clauses: u32, seed: u32) -> Result<Option<Cnf>, NoMemory>
+pub fn random(alloc: Global, vars: u32, clauses: u32, seed: u32) -> Result<Option<Cnf>, AllocError>
     requires some { 3 ≤ vars }
     requires few { vars ≤ 1000000 }
     requires few_clauses { clauses ≤ 1000000 }
@@ -64,7 +64,7 @@ pub fn random(alloc: Global, vars: u32, clauses: u32, seed: u32) -> Result<Optio
     let mut rng = generator(seed);
     let mut formula = Cnf::new(alloc, vars);
     for made in 0..clauses {
-        let _ = made;
+        let _ = made; // for the proof
         let Some(clause) = random_clause(alloc, &mut rng, vars)? else {
             return Ok(None);
         };
@@ -74,7 +74,7 @@ pub fn random(alloc: Global, vars: u32, clauses: u32, seed: u32) -> Result<Optio
 }
 
 // A clause of three literals, each of another variable.
-fn random_clause(alloc: Global, rng: &mut Pcg32, vars: u32) -> Result<Option<Clause>, NoMemory>
+fn random_clause(alloc: Global, rng: &mut Pcg32, vars: u32) -> Result<Option<Clause>, AllocError>
     requires some { 3 ≤ vars }
     requires few { vars ≤ 1000000 }
     ensures { IfOk result (λ made. IfSome made (HasVarsUpTo vars)) }
@@ -101,17 +101,17 @@ pub fn random_literal(rng: &mut Pcg32, place: u32, vars: u32) -> Lit
 }
 
 /// The clause of these literals, or none where a variable has both signs.
-pub fn clause_of(alloc: Global, lits: &[Lit], vars: u32) -> Result<Option<Clause>, NoMemory>
+pub fn clause_of(alloc: Global, lits: &[Lit], vars: u32) -> Result<Option<Clause>, AllocError>
     requires few { vars ≤ 1000000 }
     requires lits { All (λ l. (1 ≤ l.var) × (l.var ≤ vars)) lits.now }
     ensures { IfOk result (λ made. IfSome made (HasVarsUpTo vars)) }
 {
-    let _vars = vars;
+    let _vars = vars; // for the proof
     Ok(Clause::of(alloc, lits)?)
 }
 
-/// Puts the clause of these literals at the end; false where it is none, or where the formula has its most clauses.
-fn add(alloc: Global, formula: &mut Cnf, lits: &[Lit], vars: u32) -> Result<bool, NoMemory>
+// Puts the clause of these literals at the end; false where it is none, or where the formula has its most clauses.
+fn add(alloc: Global, formula: &mut Cnf, lits: &[Lit], vars: u32) -> Result<bool, AllocError>
     requires few { vars ≤ 1000000 }
     requires lits { All (λ l. (1 ≤ l.var) × (l.var ≤ vars)) lits.now }
     requires small { IsSmall vars formula.old }
@@ -128,7 +128,7 @@ fn add(alloc: Global, formula: &mut Cnf, lits: &[Lit], vars: u32) -> Result<bool
 }
 
 // One pigeon more than holes: each pigeon has a hole, and no two have one.
-fn pigeons(alloc: Global, holes: u32) -> Result<Option<Cnf>, NoMemory>
+fn pigeons(alloc: Global, holes: u32) -> Result<Option<Cnf>, AllocError>
     requires some { 1 ≤ holes }
     requires few { holes ≤ 100 }
     ensures { IfOk result (λ made. IfSome made (λ f. length f.clauses ≤ 1000000)) }
@@ -169,7 +169,7 @@ fn add_hole(
     pigeon: u32,
     holes: u32,
     vars: u32,
-) -> Result<bool, NoMemory>
+) -> Result<bool, AllocError>
     requires some { 1 ≤ vars }
     requires few { vars ≤ 1000000 }
     requires small { IsSmall vars formula.old }
@@ -189,7 +189,7 @@ fn add_conflicts(
     pigeon: u32,
     holes: u32,
     vars: u32,
-) -> Result<bool, NoMemory>
+) -> Result<bool, AllocError>
     requires some { 1 ≤ vars }
     requires few { vars ≤ 1000000 }
     requires few_holes { holes ≤ 100 }
@@ -213,7 +213,7 @@ fn add_pair(
     other: u32,
     holes: u32,
     vars: u32,
-) -> Result<bool, NoMemory>
+) -> Result<bool, AllocError>
     requires some { 1 ≤ vars }
     requires few { vars ≤ 1000000 }
     requires small { IsSmall vars formula.old }
@@ -230,7 +230,7 @@ fn add_pair(
 }
 
 // The first variable is true, and each implies the next: so many implications.
-fn chain(alloc: Global, implications: u32) -> Result<Option<Cnf>, NoMemory>
+fn chain(alloc: Global, implications: u32) -> Result<Option<Cnf>, AllocError>
     requires { implications < 1000000 }
     ensures { IfOk result (λ made. IfSome made (λ f. length f.clauses ≤ 1000000)) }
 {

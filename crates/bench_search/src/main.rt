@@ -9,7 +9,7 @@ mod formulas;
 mod found;
 mod searches;
 
-use found::Found;
+use crate::found::Found;
 use std::alloc::{AllocError, Global};
 use std::{env, io};
 

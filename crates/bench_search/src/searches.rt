@@ -10,10 +10,10 @@ use crate::dimacs::text_of;
 use crate::effort::effort;
 use crate::formulas::of_kind;
 use crate::found::{End, Found, Searched};
-use cnf_core::{Cnf, Lit, NoMemory, Valuation};
+use cnf_core::{Cnf, Lit, Valuation};
 use refutation_check::{Log, Scratch, Verdict, accepted_is_entailed, check};
 use sat_core::{Answer, solve};
-use std::alloc::Global;
+use std::alloc::{AllocError, Global};
 
 /// The most steps of a search.
 pub const BUDGET: u64 = 100_000_000;
@@ -26,7 +26,7 @@ pub fn found(
     kind: &str,
     size: u32,
     seed: u32,
-) -> Result<Option<Found>, NoMemory> {
+) -> Result<Option<Found>, AllocError> {
     let Some(formula) = of_kind(alloc, kind, size, seed)? else {
         return Ok(None);
     };
@@ -44,7 +44,7 @@ pub fn found(
 }
 
 // What the search comes to.
-fn searched(alloc: Global, f: &Cnf) -> Result<Searched, NoMemory>
+fn searched(alloc: Global, f: &Cnf) -> Result<Searched, AllocError>
     requires { length f.now.clauses ≤ 1000000 }
 {
     let answer = solve(alloc, f, &Log::new(alloc), &[], BUDGET)?;
@@ -52,11 +52,11 @@ fn searched(alloc: Global, f: &Cnf) -> Result<Searched, NoMemory>
 }
 
 // The same, where the answer is accepted.
-fn checked(alloc: Global, f: &Cnf) -> Result<Option<Searched>, NoMemory>
+fn checked(alloc: Global, f: &Cnf) -> Result<Option<Searched>, AllocError>
     requires { length f.now.clauses ≤ 1000000 }
     ensures { IfOk result (λ told. IfSome told (λ s. IsTold f.now.clauses s.end)) }
 {
-    let _vars = f.vars();
+    let _vars = f.vars(); // for the proof
     let answer = solve(alloc, f, &Log::new(alloc), &[], BUDGET)?;
     if is_right(alloc, f, &answer)? {
         return Ok(Some(size_of(&answer)));
@@ -65,7 +65,7 @@ fn checked(alloc: Global, f: &Cnf) -> Result<Option<Searched>, NoMemory>
 }
 
 /// Whether the valuation satisfies the formula, or the log refutes it; true of a spent budget.
-pub fn is_right(alloc: Global, f: &Cnf, answer: &Answer) -> Result<bool, NoMemory>
+pub fn is_right(alloc: Global, f: &Cnf, answer: &Answer) -> Result<bool, AllocError>
     requires { IsOver f.now.vars answer.now }
     ensures { IfOk result (λ is. IsTrue is → IsTold f.now.clauses (end_of answer.now)) }
 {
@@ -77,7 +77,7 @@ pub fn is_right(alloc: Global, f: &Cnf, answer: &Answer) -> Result<bool, NoMemor
 }
 
 // Whether the log refutes the formula.
-fn is_refuted(alloc: Global, f: &Cnf, log: &Log) -> Result<bool, NoMemory>
+fn is_refuted(alloc: Global, f: &Cnf, log: &Log) -> Result<bool, AllocError>
     requires { All (λ s. HasVarsUpTo f.now.vars s.clause) log.now }
     ensures log { IfOk result (λ is. IsTrue is ↔ IsRefutation f.now.clauses log.now) }
     ensures none { IfOk result (λ is. IsTrue is → (v : ℕ → Bool) → ¬ Satisfies v f.now.clauses) }
@@ -93,7 +93,7 @@ fn is_satisfied(f: &Cnf, valuation: &Valuation) -> bool
     requires { f.now.vars ≤ length valuation.now }
     ensures { IsTrue result → Satisfies (value_of valuation.now) f.now.clauses }
 {
-    let _vars = f.vars();
+    let _vars = f.vars(); // for the proof
     for i in 0..f.len() {
         if !is_true(f.clause(i + 1).lits(), valuation) {
             return false;

@@ -1,11 +1,12 @@
+// Clauses one behind the other.
 ghost use Rattle.std.specs.Prelude.{◌≡◌, ◌+◌, ◌-◌, ◌<◌, ◌≤◌, ◌^◌, ◌++◌, ◌∷◌, [], All, IfOk, OnOk, OnErr, length, map, slice_get, slice_index, slice_range, Some, take, vec_len, vec_capacity};
 ghost use Rattle.cnf_core.specs.Literal.{IsClause};
 ghost use Rattle.clause_store.specs.Codes as codes;
 ghost use Rattle.clause_store.specs.Parts.{EndsAt, start_at};
 
-use super::code::code_of;
-use cnf_core::{Clause, Lit, NoMemory};
-use std::alloc::Global;
+use crate::code::code_of;
+use cnf_core::{Clause, Lit};
+use std::alloc::{AllocError, Global};
 use std::marker::Model;
 
 /// Clauses, numbered from 1, in one list of the numbers of their literals. Contracts see the clauses.
@@ -28,8 +29,8 @@ impl Model for Store {
     ghost invariant = { IsStore };
 }
 
-/// Puts the numbers of the literals at the end. After an error the list is as before.
-fn put_codes(into: &mut Vec<u32>, lits: &[Lit]) -> Result<(), NoMemory>
+// Puts the numbers of the literals at the end. After an error the list is as before.
+fn put_codes(into: &mut Vec<u32>, lits: &[Lit]) -> Result<(), AllocError>
     requires { All (λ l. l.var < 2 ^ 31) lits.now }
     ensures ok { OnOk result (into.new.items ≡ into.old.items ++ map codes.code_of lits.now) }
     ensures err { OnErr result (into.new.items ≡ into.old.items) }
@@ -41,7 +42,7 @@ fn put_codes(into: &mut Vec<u32>, lits: &[Lit]) -> Result<(), NoMemory>
     Ok(())
 }
 
-/// Puts an end where there is room for it.
+// Puts an end where there is room for it.
 fn put_end(ends: &mut Vec<u32>, end: u32)
     requires { vec_len ends.old < vec_capacity ends.old }
     ensures { ends.new.items ≡ ends.old.items ++ end ∷ [] }
@@ -49,7 +50,7 @@ fn put_end(ends: &mut Vec<u32>, end: u32)
     let _ = ends.push(end);
 }
 
-/// Where the clause of this place, from 0, starts.
+// Where the clause of this place, from 0, starts.
 fn start_of(ends: &[u32], n: usize) -> u32
     requires { n < length ends.now }
     ensures { result ≡ start_at 0 ends.now n }
@@ -57,7 +58,7 @@ fn start_of(ends: &[u32], n: usize) -> u32
     if n == 0 { 0 } else { ends[n - 1] }
 }
 
-/// The numbers of the literals of the clause of this place, from 0.
+// The numbers of the literals of the clause of this place, from 0.
 fn part<'a>(codes: &'a [u32], ends: &[u32], n: usize) -> &'a [u32]
     requires ends { EndsAt (length codes.now) 0 ends.now }
     requires in_range { n < length ends.now }
@@ -67,7 +68,7 @@ fn part<'a>(codes: &'a [u32], ends: &[u32], n: usize) -> &'a [u32]
     &codes[start as usize..ends[n] as usize]
 }
 
-/// Takes the last end away, with the numbers of the literals from where its clause starts.
+// Takes the last end away, with the numbers of the literals from where its clause starts.
 fn cut_last(codes: &mut Vec<u32>, ends: &mut Vec<u32>)
     requires { 0 < length ends.old.items }
     ensures codes { codes.new.items ≡ take (start_at 0 ends.old.items (length ends.old.items - 1)) codes.old.items }
@@ -90,16 +91,25 @@ impl Store {
         }
     }
 
+    /// Equal clauses.
+    pub fn copy(&self, alloc: Global) -> Result<Store, AllocError>
+        ensures { IfOk result (λ s. s ≡ self.now) }
+    {
+        let codes = Vec::from_slice(alloc, self.codes.as_slice())?;
+        let ends = Vec::from_slice(alloc, self.ends.as_slice())?;
+        Ok(Store { codes, ends })
+    }
+
     /// Puts a clause at the end. There are at most 1,073,741,823; at 4,294,967,295 literals it answers that
     /// memory is wanting. After an error the store is as before.
-    pub fn push(&mut self, c: &Clause) -> Result<(), NoMemory>
+    pub fn push(&mut self, c: &Clause) -> Result<(), AllocError>
         requires { length self.old + 1 < 2 ^ 30 }
         ensures ok { OnOk result (self.new ≡ self.old ++ c.now ∷ []) }
         ensures err { OnErr result (self.new ≡ self.old) }
     {
         let lits = c.lits();
         if lits.len() > u32::MAX as usize - self.codes.len() {
-            return Err(NoMemory);
+            return Err(AllocError);
         }
         self.ends.reserve(1)?;
         put_codes(&mut self.codes, lits)?;

@@ -1,3 +1,3 @@
 pub mod Stepping
-pub mod Shown
+pub mod ShownScenarios
 pub mod Transcribed

@@ -7,4 +7,3 @@ mod showing;
 mod steps;
 
 pub use crate::serving::{answer, serve};
-pub use std::alloc::AllocError as NoMemory;

@@ -10,16 +10,14 @@ ghost use Rattle.session_rules.specs.Steps.{Exchange};
 ghost use Rattle.session_rules.specs.Transcripts.{IsTranscript};
 ghost use Rattle.explorer_run.specs.Serving.{AreBacked, CommandStep, IsOn, IsPrintable};
 
-use crate::NoMemory;
 use crate::showing::show_all;
 use crate::steps::take_step;
 use refutation_check::Log;
-use session_rules::answers::Reply;
 use session_rules::laws::a_run_is_sound;
-use session_rules::{Replies, Scenarios, Transcript};
+use session_rules::{Replies, Reply, Scenarios, Transcript};
 use session_search::Session;
 use session_words::Command;
-use std::alloc::Global;
+use std::alloc::{AllocError, Global};
 use translation::Translation;
 
 /// Answers a command of a session, which takes the answer in. `all` asks for the next scenario again and again; what was shown
@@ -64,7 +62,7 @@ pub fn serve(
     translation: &Translation,
     pool: &Log,
     commands: &[Command],
-) -> Result<Transcript, NoMemory>
+) -> Result<Transcript, AllocError>
     requires pool { IsAccepted translation.now.cnf.clauses pool.now }
     requires few { length pool.now ≤ 20000 }
     requires budget { budget ≤ 100000 }

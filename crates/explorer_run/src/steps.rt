@@ -15,14 +15,13 @@ ghost use Rattle.session_search.specs.Fits.{FitsProblem};
 ghost use Rattle.session_search.specs.Proposed.{IsProposal};
 ghost use Rattle.explorer_run.specs.Serving.{IsOn, IsPrintable};
 
-use crate::NoMemory;
 use proof_lines::laws::covered_scenarios_are_cells;
 use refutation_check::Log;
-use session_rules::answers::Reply;
+use session_rules::Reply;
 use session_rules::laws::{a_run_is_sound, nothing_done_is_work};
 use session_search::{Proposal, Session};
 use session_words::Step;
-use std::alloc::Global;
+use std::alloc::{AllocError, Global};
 use translation::Translation;
 
 /// Answers a step, and takes the answer in. After want of memory the session is as before.
@@ -55,17 +54,18 @@ pub(crate) fn take_step(
 // What the session proposes for a step.
 fn proposed(
     alloc: Global,
-    session: &Session,
+    session: &mut Session,
     translation: &Translation,
     pool: &Log,
     step: &Step,
-) -> Result<Proposal, NoMemory>
-    requires fits { FitsProblem translation.now.problem session.now.kept }
-    requires few_shown { length session.now.kept.state.shown ≤ 20000 }
+) -> Result<Proposal, AllocError>
+    requires fits { FitsProblem translation.now.problem session.old.kept }
+    requires few_shown { length session.old.kept.state.shown ≤ 20000 }
     requires pool { IsAccepted translation.now.cnf.clauses pool.now }
     requires few { length pool.now ≤ 20000 }
     requires allowed { IsAllowed (ToStep step.now) }
-    ensures { IfOk result (IsProposal translation.now pool.now session.now.kept.state step.now) }
+    ensures proposal { IfOk result (IsProposal translation.now pool.now session.old.kept.state step.now) }
+    ensures same { session.new ≡ session.old }
 {
     nothing_done_is_work();
     match step {

@@ -11,10 +11,10 @@ use Rattle.cnf_core.specs.Literal.{negation_of}
 use Rattle.rel_formula.specs.Bounds.{Bounded, cells_of}
 use Rattle.rel_formula.specs.Instance.{Includes, with_cell}
 use Rattle.rel_formula.proofs.Counts.{no_longer}
-use Rattle.rel_formula.proofs.Open.{cons_cases}
-use Rattle.rel_formula.proofs.Single.{filter_shorter}
+use Rattle.rel_formula.proofs.OpenCells.{cons_cases}
+use Rattle.rel_formula.proofs.OneSetOfAtoms.{filter_shorter}
 use Rattle.rel_formula.proofs.WithCell.{with_cell_has}
-use Rattle.swap_symmetry.proofs.Tried.{tried}
+use Rattle.swap_symmetry.proofs.ListSearches.{tried}
 use Rattle.translation_rules.specs.Translation.{var_of}
 use Rattle.translation_rules.specs.Descents.{IsProperPart, outside, descent_locals}
 use Rattle.translation_rules.specs.Locals.{literal_of, units_of, absence_in}

@@ -3,16 +3,16 @@ ghost use Rattle.std.specs.Prelude.{◌≡◌, ◌↔◌, ◌<◌, ◌≤◌, �
 ghost use Rattle.cnf_core.specs.Valuation.{value_of};
 ghost use Rattle.refutation_check.specs.Chain.{IsAccepted};
 ghost use Rattle.rel_formula.specs.Instance.{AreCells, IsInstance, Includes};
+ghost use Rattle.sat_trail.specs.Trailed.{IsBase};
 ghost use Rattle.translation_rules.specs.Translation.{var_of};
 ghost use Rattle.minimiser.specs.Down.{parts_of, IsDescent, IsRight};
 
-use crate::NoMemory;
 use cnf_core::Valuation;
 use local_clauses::descent_locals;
 use refutation_check::{Log, Part};
 use rel_formula::Scenario;
-use sat_core::{Answer, solve};
-use std::alloc::Global;
+use sat_core::{Answer, Leaning, Trail, solve_from};
+use std::alloc::{AllocError, Global};
 use translation::Translation;
 use translation_rules::laws::descent_clauses_say_what_is_smaller;
 
@@ -42,7 +42,33 @@ pub fn minimise(
     floor: &Scenario,
     start: &Scenario,
     budget: u64,
-) -> Result<Down, NoMemory>
+) -> Result<Down, AllocError>
+    requires pool { IsAccepted translation.now.cnf.clauses pool.now }
+    requires few { length pool.now ≤ 20000 }
+    requires floor { AreCells translation.now.problem floor.now }
+    requires start { IsInstance translation.now.problem start.now }
+    requires above { Includes start.now floor.now }
+    requires budget { budget ≤ 100000000 }
+    ensures parts { IfOk result (λ down. IsDescent translation.now pool.now floor.now start.now budget (parts_of down)) }
+    ensures answer { IfOk result (IsRight translation.now pool.now floor.now start.now budget) }
+{
+    let cnf = translation.cnf();
+    let base = Trail::over(alloc, cnf, cnf.vars())?;
+    minimise_from(alloc, translation, &base, pool, floor, start, budget)
+}
+
+/// Goes down as `minimise` does, and to the same end, from a trail of the translation's formula, which serves any number of
+/// descents.
+pub fn minimise_from(
+    alloc: Global,
+    translation: &Translation,
+    base: &Trail,
+    pool: &Log,
+    floor: &Scenario,
+    start: &Scenario,
+    budget: u64,
+) -> Result<Down, AllocError>
+    requires base { IsBase translation.now.cnf base.now }
     requires pool { IsAccepted translation.now.cnf.clauses pool.now }
     requires few { length pool.now ≤ 20000 }
     requires floor { AreCells translation.now.problem floor.now }
@@ -54,14 +80,23 @@ pub fn minimise(
 {
     descent_clauses_say_what_is_smaller();
     let problem = translation.problem();
-    let _ = problem.relations();
-    let _ = floor.numbers();
+    let _ = problem.relations(); // for the proof
+    let _ = floor.numbers(); // for the proof
     let mut scenario = start.copy(alloc)?;
     let mut parts = Vec::new(alloc);
     let mut left = budget;
     'descent: loop {
         let local = descent_locals(alloc, problem, floor, &scenario)?;
-        match solve(alloc, translation.cnf(), pool, local.as_slice(), left)? {
+        let mut leaning = Leaning::towards(alloc, false);
+        match solve_from(
+            alloc,
+            translation.cnf(),
+            base,
+            pool,
+            local.as_slice(),
+            left,
+            &mut leaning,
+        )? {
             Answer::Found { valuation, log } => {
                 left -= log.steps().len() as u64;
                 parts.push(Part::of(local, log))?;
@@ -80,7 +115,7 @@ pub fn minimise(
 }
 
 // The scenario of the cells whose variables are true.
-fn scenario_in(alloc: Global, cells: u32, valuation: &Valuation) -> Result<Scenario, NoMemory>
+fn scenario_in(alloc: Global, cells: u32, valuation: &Valuation) -> Result<Scenario, AllocError>
     requires { cells ≤ length valuation.now }
     ensures cells { IfOk result (λ s. (cell : ℕ) → Contains s cell → cell < cells) }
     ensures values { IfOk result (λ s. (cell : ℕ) → cell < cells → IsTrue (value_of valuation.now (var_of cell)) ↔ Contains s cell) }

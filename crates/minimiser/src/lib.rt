@@ -3,5 +3,4 @@
 
 mod descent;
 
-pub use crate::descent::{Down, minimise};
-pub use std::alloc::AllocError as NoMemory;
+pub use crate::descent::{Down, minimise, minimise_from};

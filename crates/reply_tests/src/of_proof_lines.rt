@@ -9,7 +9,7 @@ use refutation_check::{Log, Scratch, Verdict, check, read_proof};
 use rel_formula::{Expression, Formula, Scenario};
 use sample_problems::set_of;
 use sample_translations::translation_of;
-use search_rounds::{Found, NextAt, next_at};
+use search_rounds::{Found, Leaning, NextAt, next_at};
 use session_rules::{EndProof, ProofKind};
 use std::alloc::Global;
 use std::test::Fail;
@@ -29,7 +29,8 @@ fn ended(alloc: Global, made: &Translation) -> Result<EndProof, Fail>
     covered_scenarios_are_cells();
     let pool = Log::new(alloc);
     let floor = Scenario::new(alloc);
-    let next = next_at(alloc, made, &pool, &floor, &[], &[], 1000)?;
+    let mut leaning = Leaning::towards(alloc, false);
+    let next = next_at(alloc, made, &pool, &floor, &[], &[], 1000, &mut leaning)?;
     let NextAt {
         found,
         parts: _,

@@ -11,7 +11,7 @@ use refutation_check::{Log, Part, Scratch, Verdict, check};
 use rel_formula::Scenario;
 use sample_problems::{bits_of, scenario_of};
 use sample_translations::translated_sets;
-use search_rounds::{Found, NextAt, locals_of, next_at};
+use search_rounds::{Found, Leaning, NextAt, locals_of, next_at};
 use session_rules::EndProof;
 use std::alloc::{AllocError, Global};
 use std::process::Abort;
@@ -44,6 +44,7 @@ fn ask(
 {
     assert!(rt; shown.len() <= 1000 && copies.len() <= 1000 && budget <= 1000);
     let pool = Log::new(alloc);
+    let mut leaning = Leaning::towards(alloc, false);
     let next = next_at(
         alloc,
         made,
@@ -52,6 +53,7 @@ fn ask(
         shown.as_slice(),
         copies.as_slice(),
         budget,
+        &mut leaning,
     )?;
     let NextAt {
         found,

@@ -8,7 +8,7 @@ use outside_io::{MemSink, MemSource};
 use std::io::Write;
 use std::{env, fs, io};
 
-/// More bytes than any example's output has.
+// More bytes than any example's output has.
 const ROOM: usize = 65536;
 
 fn main(rt: HostRuntime) -> io::Result<()> {

@@ -1,6 +1,6 @@
 pub mod Descents
 pub mod Assumes
 pub mod Stops
-pub mod Kept
+pub mod SearchClauses
 pub mod Numbers
 pub mod Searches

@@ -26,7 +26,7 @@ use Rattle.sat_core.specs.Assuming.{AreTrue, IsAssumedFirst, IsClash}
 use Rattle.sat_core.specs.Search.{Searching, AreValues, IsStuck, IsProgress, IsVarIn}
 use Rattle.sat_core.proofs.Descents.{closed_no_chain, flat_or_above, full_model}
 use Rattle.sat_core.proofs.Assumes.{consistent, first_cut, front_true}
-use Rattle.sat_core.proofs.Kept.{Keeps, keeps_more, given_closed, never_closed, given_novel, given_clauses, given_vars}
+use Rattle.sat_core.proofs.SearchClauses.{Keeps, keeps_more, given_closed, never_closed, given_novel, given_clauses, given_vars}
 
 -- the members with one more step
 pub members_more : (given : List (List Lit)) (log : List Step) (s : Step) → members_of given (log ++ s ∷ []) ≡ members_of given log ++ s.clause ∷ []

@@ -1,10 +1,11 @@
 -- What an answer of a search says of the clauses that it was asked for.
-use Rattle.std.specs.Prelude.{◌≡◌, ◌≢◌, ◌<◌, ◌≤◌, ◌-◌, ◌∷◌, [], ℕ, Bool, List, All, length, take}
+use Rattle.std.specs.Prelude.{◌≡◌, ◌≢◌, ◌<◌, ◌≤◌, ◌-◌, ◌^◌, ◌∷◌, [], ℕ, Bool, List, All, length, take}
 use Rattle.cnf_core.specs.declared.literal.Lit.{Lit}
 use Rattle.cnf_core.specs.Literal.{HasVarsUpTo}
 use Rattle.cnf_core.specs.Valuation.{Satisfies, value_of}
 use Rattle.refutation_check.specs.declared.log.Step.{Step}
 use Rattle.refutation_check.specs.Chain.{members_of, Names, EndsEmpty}
+use Rattle.sat_trail.specs.Leaned.{Leaned}
 use Rattle.refutation_check.specs.SearchLog.{HasNoEmpty, IsAllNovel}
 use Rattle.sat_core.specs.declared.search.Answer.{Answer}
 use Rattle.sat_core.specs.declared.search.Answer.TheVariants.{Found, Refuted, Spent}
@@ -14,6 +15,18 @@ abbrev pub log_of : Answer → List Step
 log_of (Found valuation log) = log
 log_of (Refuted log) = log
 log_of (Spent log) = log
+
+-- a valuation that was found has few values
+abbrev pub HasFewValues : Answer → Type 0
+HasFewValues (Found valuation log) = length valuation < 2 ^ 31
+HasFewValues (Refuted log) = Unit {0}
+HasFewValues (Spent log) = Unit {0}
+
+-- what is leant to behind an answer: the valuation that was found, or what was leant to before
+abbrev pub leaned_behind : Answer → Leaned → Leaned
+leaned_behind (Found valuation log) leaned = record leaned { values = valuation }
+leaned_behind (Refuted log) leaned = leaned
+leaned_behind (Spent log) leaned = leaned
 
 -- the valuation has at least these variables and those of the clauses, and satisfies the clauses
 pub record IsModel (vars : ℕ) (clauses : List (List Lit)) (valuation : List Bool) : Type 0 where

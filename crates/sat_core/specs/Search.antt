@@ -1,5 +1,5 @@
 -- What holds while a search goes on.
-use Rattle.std.specs.Prelude.{◌≡◌, ◌≢◌, ◌++◌, ◌∷◌, All, false, ◌≤◌, ◌<◌, [], ℕ, Bool, not, List, Contains, length, map, take, slice_index_or, ◌+◌, ◌-◌}
+use Rattle.std.specs.Prelude.{◌≡◌, ◌≢◌, ◌++◌, ◌∷◌, All, false, ◌≤◌, ◌<◌, [], ℕ, Bool, not, List, Contains, length, map, take, slice_index_or, ◌+◌, ◌-◌, ◌^◌}
 use Rattle.cnf_core.specs.declared.literal.Lit.{Lit}
 use Rattle.cnf_core.specs.Literal.{HasVarsUpTo, IsClause}
 use Rattle.refutation_check.specs.declared.log.Step.{Step}
@@ -70,6 +70,7 @@ pub record IsFound (trail : Trailed) (assumed : List Lit) (valuation : List Bool
   pub each : All IsClause trail.clauses
   pub within : All (HasVarsUpTo trail.vars) trail.clauses
   pub long : length valuation ≡ trail.vars
+  pub small : trail.vars < 2 ^ 31
   pub values : AreValues (falses_of trail.assigned) valuation
 
 -- the log has one more step: a chain over the trail's clauses with only their variables, novel and not empty, each of its literals false,

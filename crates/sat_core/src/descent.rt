@@ -1,12 +1,13 @@
+// Decisions, down to a valuation or a conflict.
 ghost use Rattle.std.specs.Prelude.{◌≡◌, ◌+◌, ◌<◌, All, MatchBool, MatchOption, IfOk, length};
 ghost use Rattle.assignment_trail.specs.Trail.{IsTrail, falses_of};
 ghost use Rattle.sat_trail.specs.Closed.{IsClosedBelow};
 ghost use Rattle.sat_core.specs.Assuming.{AreTrue, IsAssumedFirst, IsClash};
 ghost use Rattle.sat_core.specs.Search.{AreValues, IsDeadEnd, IsAssumedTo, IsFull, IsVarIn};
 
-use cnf_core::{Lit, NoMemory, Valuation};
-use sat_trail::{Propagated, Trail};
-use std::alloc::Global;
+use cnf_core::{Lit, Valuation};
+use sat_trail::{Leaning, Propagated, Trail};
+use std::alloc::{AllocError, Global};
 
 /// Why a descent can't go on.
 #[derive(Drop)]
@@ -17,7 +18,7 @@ pub(crate) enum DeadEnd {
     Clash,
 }
 
-/// Decides the assumed literal at this place where it is open, and propagates. True where it can't hold with the others.
+// Decides the assumed literal at this place where it is open, and propagates. True where it can't hold with the others.
 fn assume_at(trail: &mut Trail, assumed: &[Lit], depth: &mut u32, place: usize) -> bool
     requires place { place < length assumed.now }
     requires in_range { All (IsVarIn trail.old.vars) assumed.now }
@@ -43,7 +44,7 @@ fn assume_at(trail: &mut Trail, assumed: &[Lit], depth: &mut u32, place: usize) 
     }
 }
 
-/// Decides what is assumed, in turn, and propagates, until all of it is true.
+// Decides what is assumed, in turn, and propagates, until all of it is true.
 fn assume(trail: &mut Trail, assumed: &[Lit], depth: &mut u32) -> Option<DeadEnd>
     requires in_range { All (IsVarIn trail.old.vars) assumed.now }
     requires closed_below { IsClosedBelow trail.old.clauses trail.old.assigned }
@@ -74,7 +75,7 @@ pub(crate) fn descend(
     trail: &mut Trail,
     assumed: &[Lit],
     depth: &mut u32,
-    value: bool,
+    leaning: &Leaning,
 ) -> Option<DeadEnd>
     requires in_range { All (IsVarIn trail.old.vars) assumed.now }
     requires closed_below { IsClosedBelow trail.old.clauses trail.old.assigned }
@@ -89,7 +90,7 @@ pub(crate) fn descend(
         return Some(end);
     }
     *depth = (*depth).min(trail.level());
-    'deciding: while let Some(_var) = trail.decide_next(value) {
+    'deciding: while let Some(_lit) = trail.decide_next(leaning) {
         if let Propagated::Conflict(number) = trail.propagate() {
             return Some(DeadEnd::Conflict(number));
         }
@@ -98,7 +99,7 @@ pub(crate) fn descend(
 }
 
 /// The values of the variables of a full trail.
-pub(crate) fn values_of(alloc: Global, trail: &Trail) -> Result<Valuation, NoMemory>
+pub(crate) fn values_of(alloc: Global, trail: &Trail) -> Result<Valuation, AllocError>
     requires { IsFull trail.now }
     ensures long { IfOk result (λ v. length v ≡ trail.now.vars) }
     ensures values { IfOk result (AreValues (falses_of trail.now.assigned)) }

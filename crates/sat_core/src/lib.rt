@@ -5,4 +5,5 @@ mod descent;
 mod locals;
 mod search;
 
-pub use search::{Answer, solve, solve_towards};
+pub use crate::search::{Answer, solve, solve_from, solve_towards};
+pub use sat_trail::{Leaning, Trail};

@@ -1,11 +1,12 @@
+// The local clauses of a search, and how an answer numbers them.
 ghost use Rattle.std.specs.Prelude.{◌≡◌, ◌+◌, ◌≤◌, ◌<◌, ◌^◌, ◌++◌, ◌∷◌, [], List, All, IfOk, OnOk, length, map};
 ghost use Rattle.cnf_core.specs.declared.literal.Lit.{Lit};
 ghost use Rattle.cnf_core.specs.Literal.{IsVariable};
 ghost use Rattle.sat_core.specs.Assuming.{IsSplit, number_of};
 
-use cnf_core::{Clause, Lit, NoMemory};
+use cnf_core::{Clause, Lit};
 use refutation_check::{Hints, Step};
-use std::alloc::Global;
+use std::alloc::{AllocError, Global};
 
 /// How the members of a trail are numbered in an answer: so many clauses of the formula, then so many local clauses, of which
 /// those at these places are clauses of the trail, and then the steps.
@@ -24,7 +25,7 @@ pub(crate) struct Locals {
     pub numbering: Numbering,
 }
 
-/// Puts the local clause at this place where it belongs.
+// Puts the local clause at this place where it belongs.
 fn put(
     alloc: Global,
     assumed: &mut Vec<Lit>,
@@ -32,7 +33,7 @@ fn put(
     places: &mut Vec<u32>,
     clause: &Clause,
     place: u32,
-) -> Result<(), NoMemory>
+) -> Result<(), AllocError>
     requires place { place + 1 < 2 ^ 30 }
     ensures split { OnOk result ((local : List (List Lit)) → length local ≡ place → IsSplit local assumed.old.items others.old.items places.old.items → IsSplit (local ++ clause.now ∷ []) assumed.new.items others.new.items places.new.items) }
     ensures vars { OnOk result (All (λ l. IsVariable l.var) assumed.old.items → All (λ l. IsVariable l.var) assumed.new.items) }
@@ -48,7 +49,7 @@ fn put(
 }
 
 /// Splits the local clauses, which come after so many clauses of the formula.
-pub(crate) fn split(alloc: Global, clauses: u32, local: &[Clause]) -> Result<Locals, NoMemory>
+pub(crate) fn split(alloc: Global, clauses: u32, local: &[Clause]) -> Result<Locals, AllocError>
     requires { clauses + length local.now < 2 ^ 30 }
     ensures split { IfOk result (λ s. IsSplit local.now s.assumed.items s.others.items s.numbering.places.items) }
     ensures vars { IfOk result (λ s. All (λ l. IsVariable l.var) s.assumed.items) }
@@ -81,7 +82,7 @@ pub(crate) fn split(alloc: Global, clauses: u32, local: &[Clause]) -> Result<Loc
 }
 
 impl Numbering {
-    /// The number in an answer of the member that has this number on the trail.
+    // The number in an answer of the member that has this number on the trail.
     fn number(&self, hint: u32) -> u32
         requires hint { hint < 2 ^ 30 }
         requires clauses { self.now.clauses + self.now.local < 2 ^ 30 }
@@ -98,7 +99,7 @@ impl Numbering {
     }
 
     /// The step with the numbers of an answer.
-    pub(crate) fn step(&self, alloc: Global, step: &Step) -> Result<Step, NoMemory>
+    pub(crate) fn step(&self, alloc: Global, step: &Step) -> Result<Step, AllocError>
         requires hints { All (λ hint. hint < 2 ^ 30) step.now.hints }
         requires clauses { self.now.clauses + self.now.local < 2 ^ 30 }
         requires places { All (λ place. place ≤ self.now.local) self.now.places.items }

@@ -1,20 +1,22 @@
+// The search: descents and learning in turn.
 ghost use Rattle.std.specs.Prelude.{◌≡◌, ◌+◌, ◌≤◌, ◌<◌, ◌^◌, ◌++◌, [], ℕ, List, All, IfOk, OnOk, length};
 ghost use Rattle.cnf_core.specs.Literal.{HasVarsUpTo, IsVariable};
 ghost use Rattle.refutation_check.specs.Chain.{members_of, IsAccepted, IsChain, Refutes};
 ghost use Rattle.refutation_check.specs.SearchLog.{IsSearchLog, HasVarsOf};
 ghost use Rattle.assignment_trail.specs.Trail.{falses_of};
+ghost use Rattle.sat_trail.specs.Trailed.{IsBase};
 ghost use Rattle.sat_trail.specs.Closed.{IsClosed, IsClosedBelow};
-ghost use Rattle.sat_core.specs.Answers.{log_of, HasEmptyOnlyLast, IsRight, NamesNoUnits};
-ghost use Rattle.sat_core.specs.Assuming.{AreTrue, number_of};
+ghost use Rattle.sat_core.specs.Answers.{log_of, leaned_behind, HasEmptyOnlyLast, HasFewValues, IsRight, NamesNoUnits};
+ghost use Rattle.sat_core.specs.Assuming.{AreTrue, IsSplit, number_of};
 ghost use Rattle.sat_core.specs.Search.{IsFound, IsFull, IsProgress, IsVarIn};
 ghost use Rattle.cnf_core.specs.declared.literal.Lit.{Lit};
 
-use super::descent::{DeadEnd, descend, values_of};
-use super::locals::{Numbering, split};
-use cnf_core::{Clause, Cnf, Lit, NoMemory, Valuation};
+use crate::descent::{DeadEnd, descend, values_of};
+use crate::locals::{Locals, Numbering, split};
+use cnf_core::{Clause, Cnf, Lit, Valuation};
 use refutation_check::{Log, Step};
-use sat_trail::{Propagated, Trail, learn};
-use std::alloc::Global;
+use sat_trail::{Leaning, Propagated, Trail, learn};
+use std::alloc::{AllocError, Global};
 
 /// What a search comes to, with the steps that were learnt.
 #[derive(Debug, Drop)]
@@ -40,7 +42,7 @@ pub fn solve(
     pool: &Log,
     local: &[Clause],
     budget: u64,
-) -> Result<Answer, NoMemory>
+) -> Result<Answer, AllocError>
     requires pool { IsAccepted f.now.clauses pool.now }
     requires few { length f.now.clauses + length local.now + length pool.now + budget < 2 ^ 30 }
     ensures log { IfOk result (λ a. IsSearchLog (members_of (f.now.clauses ++ local.now) pool.now) (log_of a)) }
@@ -62,7 +64,7 @@ pub fn solve_towards(
     local: &[Clause],
     budget: u64,
     value: bool,
-) -> Result<Answer, NoMemory>
+) -> Result<Answer, AllocError>
     requires pool { IsAccepted f.now.clauses pool.now }
     requires few { length f.now.clauses + length local.now + length pool.now + budget < 2 ^ 30 }
     ensures log { IfOk result (λ a. IsSearchLog (members_of (f.now.clauses ++ local.now) pool.now) (log_of a)) }
@@ -72,15 +74,94 @@ pub fn solve_towards(
     ensures units { IfOk result (λ a. NamesNoUnits (length f.now.clauses) local.now (log_of a)) }
     ensures last { IfOk result (λ a. HasEmptyOnlyLast (log_of a)) }
 {
+    let base = Trail::over(alloc, f, f.vars())?;
+    let mut leaning = Leaning::towards(alloc, value);
+    solve_from(alloc, f, &base, pool, local, budget, &mut leaning)
+}
+
+/// Searches as `solve_towards` does, from a trail of the formula, which serves any number of searches. A variable that
+/// is open is decided to the value to which it leans. What is found is leant to from then on.
+pub fn solve_from(
+    alloc: Global,
+    f: &Cnf,
+    base: &Trail,
+    pool: &Log,
+    local: &[Clause],
+    budget: u64,
+    leaning: &mut Leaning,
+) -> Result<Answer, AllocError>
+    requires base { IsBase f.now base.now }
+    requires pool { IsAccepted f.now.clauses pool.now }
+    requires few { length f.now.clauses + length local.now + length pool.now + budget < 2 ^ 30 }
+    ensures log { IfOk result (λ a. IsSearchLog (members_of (f.now.clauses ++ local.now) pool.now) (log_of a)) }
+    ensures in_range { (n : ℕ) → All (HasVarsUpTo n) f.now.clauses → All (HasVarsUpTo n) local.now → All (λ s. HasVarsUpTo n s.clause) pool.now → IfOk result (λ a. All (λ s. HasVarsUpTo n s.clause) (log_of a)) }
+    ensures budget { IfOk result (λ a. length (log_of a) ≤ budget) }
+    ensures answer { IfOk result (IsRight f.now.vars (f.now.clauses ++ local.now) pool.now budget) }
+    ensures units { IfOk result (λ a. NamesNoUnits (length f.now.clauses) local.now (log_of a)) }
+    ensures last { IfOk result (λ a. HasEmptyOnlyLast (log_of a)) }
+    ensures leaning { IfOk result (λ a. leaning.new ≡ leaned_behind a leaning.old) }
+{
     let locals = split(alloc, f.len(), local)?;
+    let others = locals.others.as_slice();
+    let assumed = locals.assumed.as_slice();
+    let mut trail = trail_of(alloc, f, base, pool, others, assumed)?;
+    let answer = search_on(
+        alloc, f, base, pool, local, budget, &locals, leaning, &mut trail,
+    )?;
+    follow(alloc, leaning, &answer)?;
+    Ok(answer)
+}
+
+// What was found is leant to from now on.
+fn follow(alloc: Global, leaning: &mut Leaning, answer: &Answer) -> Result<(), AllocError>
+    requires { HasFewValues answer.now }
+    ensures { OnOk result (leaning.new ≡ leaned_behind answer.now leaning.old) }
+{
+    match answer {
+        Answer::Found { valuation, .. } => leaning.follow(alloc, valuation),
+        Answer::Refuted { .. } => Ok(()),
+        Answer::Spent { .. } => Ok(()),
+    }
+}
+
+// Searches on a trail over the formula, the local clauses of more than one literal, and the pool, where no literal is true yet.
+fn search_on(
+    alloc: Global,
+    f: &Cnf,
+    base: &Trail,
+    pool: &Log,
+    local: &[Clause],
+    budget: u64,
+    locals: &Locals,
+    leaning: &Leaning,
+    trail: &mut Trail,
+) -> Result<Answer, AllocError>
+    requires base { IsBase f.now base.now }
+    requires pool { IsAccepted f.now.clauses pool.now }
+    requires few { length f.now.clauses + length local.now + length pool.now + budget < 2 ^ 30 }
+    requires split { IsSplit local.now locals.now.assumed.items locals.now.others.items locals.now.numbering.places.items }
+    requires variables { All (λ l. IsVariable l.var) locals.now.assumed.items }
+    requires formula { locals.now.numbering.clauses ≡ length f.now.clauses }
+    requires local { locals.now.numbering.local ≡ length local.now }
+    requires clauses { trail.old.clauses ≡ members_of (f.now.clauses ++ locals.now.others.items) pool.now }
+    requires vars { f.now.vars ≤ trail.old.vars }
+    requires in_range { All (IsVarIn trail.old.vars) locals.now.assumed.items }
+    requires assigned { trail.old.assigned ≡ [] }
+    ensures log { IfOk result (λ a. IsSearchLog (members_of (f.now.clauses ++ local.now) pool.now) (log_of a)) }
+    ensures in_range { (n : ℕ) → All (HasVarsUpTo n) f.now.clauses → All (HasVarsUpTo n) local.now → All (λ s. HasVarsUpTo n s.clause) pool.now → IfOk result (λ a. All (λ s. HasVarsUpTo n s.clause) (log_of a)) }
+    ensures budget { IfOk result (λ a. length (log_of a) ≤ budget) }
+    ensures answer { IfOk result (IsRight f.now.vars (f.now.clauses ++ local.now) pool.now budget) }
+    ensures units { IfOk result (λ a. NamesNoUnits (length f.now.clauses) local.now (log_of a)) }
+    ensures last { IfOk result (λ a. HasEmptyOnlyLast (log_of a)) }
+    ensures small { IfOk result HasFewValues }
+{
     let numbering = &locals.numbering;
     let assumed = locals.assumed.as_slice();
-    let mut trail = trail_of(alloc, f, pool, locals.others.as_slice(), assumed)?;
     let mut depth = 0;
     let mut log = Log::new(alloc);
     'learning: loop {
-        let Some(end) = descend(&mut trail, assumed, &mut depth, value) else {
-            let valuation = found(alloc, &trail, assumed)?;
+        let Some(end) = descend(trail, assumed, &mut depth, leaning) else {
+            let valuation = found(alloc, trail, assumed)?;
             return Ok(Answer::Found { valuation, log });
         };
         if log.steps().len() as u64 == budget {
@@ -88,10 +169,10 @@ pub fn solve_towards(
         }
         match end {
             DeadEnd::Conflict(number) => {
-                learn_from(alloc, &mut trail, &mut log, numbering, number)?;
+                learn_from(alloc, trail, &mut log, numbering, number)?;
             }
             DeadEnd::Clash => {
-                let step = last_step(alloc, f, pool, local, &log)?;
+                let step = last_step(alloc, f, base, pool, local, &log)?;
                 log.push(step)?;
                 return Ok(Answer::Refuted { log });
             }
@@ -99,18 +180,18 @@ pub fn solve_towards(
     }
 }
 
-/// The values of a full trail in which all that is assumed is true.
-fn found(alloc: Global, trail: &Trail, assumed: &[Lit]) -> Result<Valuation, NoMemory>
+// The values of a full trail in which all that is assumed is true.
+fn found(alloc: Global, trail: &Trail, assumed: &[Lit]) -> Result<Valuation, AllocError>
     requires full { IsFull trail.now }
     requires assumed { AreTrue (falses_of trail.now.assigned) assumed.now }
     ensures { IfOk result (IsFound trail.now assumed.now) }
 {
-    let _assumed = assumed;
-    let _vars = trail.vars();
+    let _assumed = assumed; // for the proof
+    let _ = trail.vars(); // for the proof
     values_of(alloc, trail)
 }
 
-/// The highest variable of the literals, or this one where it is higher.
+// The highest variable of the literals, or this one where it is higher.
 fn highest_in(lits: &[Lit], first: u32) -> u32
     requires first { first < 2 ^ 31 }
     requires lits { All (λ l. IsVariable l.var) lits.now }
@@ -125,8 +206,8 @@ fn highest_in(lits: &[Lit], first: u32) -> u32
     highest
 }
 
-/// The formula over more variables.
-fn raised(alloc: Global, f: &Cnf, vars: u32) -> Result<Cnf, NoMemory>
+// The formula over more variables.
+fn raised(alloc: Global, f: &Cnf, vars: u32) -> Result<Cnf, AllocError>
     requires more { f.now.vars ≤ vars }
     requires small { vars < 2 ^ 31 }
     ensures { IfOk result (λ g. g ≡ record { vars = vars; clauses = f.now.clauses }) }
@@ -138,14 +219,16 @@ fn raised(alloc: Global, f: &Cnf, vars: u32) -> Result<Cnf, NoMemory>
     Ok(formula)
 }
 
-/// The trail over the formula, these local clauses and the pool, with the variables of what is assumed too.
+// The trail over the formula, these local clauses and the pool, with the variables of what is assumed too.
 fn trail_of(
     alloc: Global,
     f: &Cnf,
+    base: &Trail,
     pool: &Log,
     others: &[Clause],
     assumed: &[Lit],
-) -> Result<Trail, NoMemory>
+) -> Result<Trail, AllocError>
+    requires base { IsBase f.now base.now }
     requires few { length f.now.clauses + length others.now + length pool.now < 2 ^ 30 }
     requires assumed { All (λ l. IsVariable l.var) assumed.now }
     ensures clauses { IfOk result (λ t. t.clauses ≡ members_of (f.now.clauses ++ others.now) pool.now) }
@@ -154,22 +237,22 @@ fn trail_of(
     ensures assigned { IfOk result (λ t. t.assigned ≡ []) }
 {
     let highest = highest_in(assumed, f.vars());
-    if highest == f.vars() {
-        return Trail::of(alloc, f, pool, others);
+    if highest <= base.vars() {
+        return base.grown(alloc, f, pool, others);
     }
     let formula = raised(alloc, f, highest)?;
     Trail::of(alloc, &formula, pool, others)
 }
 
-/// Learns a step from the conflict of a stuck trail, which goes back to the second highest level of its clause, and has the
-/// clause too.
+// Learns a step from the conflict of a stuck trail, which goes back to the second highest level of its clause, and has the
+// clause too.
 fn learn_from(
     alloc: Global,
     trail: &mut Trail,
     log: &mut Log,
     numbering: &Numbering,
     conflict: u32,
-) -> Result<(), NoMemory>
+) -> Result<(), AllocError>
     requires conflict { Refutes trail.old.clauses (falses_of trail.old.assigned) conflict }
     requires closed_below { IsClosedBelow trail.old.clauses trail.old.assigned }
     requires deep { (hints : List ℕ) → ¬ IsChain trail.old.clauses [] hints }
@@ -179,7 +262,7 @@ fn learn_from(
     requires places { All (λ place. place ≤ numbering.now.local) numbering.now.places.items }
     ensures { OnOk result (IsProgress (number_of numbering.now.clauses numbering.now.local numbering.now.places.items) trail.old trail.new log.old log.new) }
 {
-    let _level = trail.level();
+    let _ = trail.level(); // for the proof
     let step = learn(alloc, trail, conflict)?;
     let level = trail.back_level(step.clause.lits());
     log.push(numbering.step(alloc, &step)?)?;
@@ -188,14 +271,16 @@ fn learn_from(
     Ok(())
 }
 
-/// The empty step, a chain over all that was given, the local clauses of one literal too, and the steps that were learnt.
+// The empty step, a chain over all that was given, the local clauses of one literal too, and the steps that were learnt.
 fn last_step(
     alloc: Global,
     f: &Cnf,
+    base: &Trail,
     pool: &Log,
     local: &[Clause],
     log: &Log,
-) -> Result<Step, NoMemory>
+) -> Result<Step, AllocError>
+    requires base { IsBase f.now base.now }
     requires few { length f.now.clauses + length local.now + length pool.now + length log.now < 2 ^ 30 }
     requires accepted { IsAccepted (members_of (f.now.clauses ++ local.now) pool.now) log.now }
     requires vars { HasVarsOf (members_of (f.now.clauses ++ local.now) pool.now) log.now }
@@ -203,7 +288,8 @@ fn last_step(
     ensures empty { IfOk result (λ s. s.clause ≡ []) }
     ensures chain { IfOk result (λ s. IsChain (members_of (members_of (f.now.clauses ++ local.now) pool.now) log.now) s.clause s.hints) }
 {
-    let mut trail = Trail::of(alloc, f, pool, local)?;
+    let mut trail = base.grown(alloc, f, pool, local)?;
+    let _ = trail.vars(); // for the proof
     for step in log.steps() {
         trail.add(step.copy(alloc)?)?;
     }

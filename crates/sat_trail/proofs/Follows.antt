@@ -12,7 +12,7 @@ use Rattle.assignment_trail.specs.AssignmentState.{AssignmentState}
 use Rattle.assignment_trail.specs.Trail.{IsPlaced, IsVarUpTo, falses_of, level_of}
 use Rattle.watched_literals.specs.PendingState.{IsMarkList}
 use Rattle.watched_literals.specs.Walk.{IsReady}
-use Rattle.watched_literals.proofs.Marking.{marked_in}
+use Rattle.watched_literals.proofs.MarkLists.{marked_in}
 use Rattle.watched_literals.proofs.Slots.{clause_is}
 use Rattle.sat_trail.specs.Rounds.{IsQuiet, IsFollowed}
 

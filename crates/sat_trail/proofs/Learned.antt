@@ -9,7 +9,7 @@ use Rattle.std.specs.List.{Contains}
 use Rattle.cnf_core.specs.declared.literal.Lit.{Lit}
 use Rattle.cnf_core.specs.Literal.{negation_of, IsTautology, HasSameLiterals}
 use Rattle.refutation_check.specs.Chain.{IsUnit, Names, Refutes, Forces, IsChain, IsNovel}
-use Rattle.refutation_check.proofs.Sights.{not_fixed}
+use Rattle.cnf_core.proofs.Literals.{not_itself}
 use Rattle.refutation_check.proofs.Chains.{names_one}
 use Rattle.refutation_check.specs.SearchLog.{IsVarOf}
 use Rattle.assignment_trail.specs.declared.assigned.Assigned.{Assigned}
@@ -371,7 +371,7 @@ module _ (clauses : List (List Lit)) (xs : List Assigned) (trail : IsTrail claus
         let v : (get_or xs r.0 d).lit.var ≡ l.var = ap (λ (x : Lit). x.var) (r.3 d) in
         let w : (get_or xs s.0 d).lit.var ≡ l.var = ap (λ (x : Lit). x.var) (s.3 d) in
         elim (cases_order r.0 s.0) [
-          | inl same ↦ not_fixed l.positive (ap (λ (x : Lit). x.positive) (sym (r.3 d) ∙ (ap (λ (k : ℕ). negation_of (get_or xs k d).lit) same ∙ s.3 d)))
+          | inl same ↦ not_itself l.positive (ap (λ (x : Lit). x.positive) (sym (r.3 d) ∙ (ap (λ (k : ℕ). negation_of (get_or xs k d).lit) same ∙ s.3 d)))
           | inr differ ↦ elim differ [
             | inl less ↦ vars_differ clauses xs trail r.0 s.0 d d less s.2 (v ∙ sym w)
             | inr more ↦ vars_differ clauses xs trail s.0 r.0 d d more r.2 (w ∙ sym v)

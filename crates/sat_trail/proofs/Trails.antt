@@ -5,6 +5,7 @@ use Rattle.std.proofs.lemmas.List.{get_or_default, take_more}
 use Rattle.std.proofs.lemmas.Option.{get_or_from_slice_get}
 use Rattle.std.specs.List.{Contains, slice_get}
 use Rattle.cnf_core.specs.declared.literal.Lit.{Lit}
+use Rattle.cnf_core.specs.Formula.{Formula}
 use Rattle.clause_store.specs.Codes.{literal_of}
 use Rattle.clause_store.proofs.Coded.{literal_of-code_of}
 use Rattle.refutation_check.specs.declared.log.Step.{Step}
@@ -15,7 +16,7 @@ use Rattle.assignment_trail.specs.Trail.{ForcesMore}
 use Rattle.watched_literals.specs.Closed.{IsClosedBut}
 use Rattle.sat_trail.specs.Closed.{IsClosed}
 use Rattle.sat_trail.specs.Rounds.{IsQuiet, AreQuiet}
-use Rattle.sat_trail.specs.Trailed.{Trailed, IsValue}
+use Rattle.sat_trail.specs.Trailed.{Trailed, IsBase, IsValue}
 
 -- the value of a variable is that of its positive literal
 value_of_var : (falses : List Lit) (var : ℕ) (o : Option Bool) → IsValueOf falses (record { var = var; positive = true }) o → IsValue falses var o
@@ -75,3 +76,24 @@ named_is clauses i c is =
 pub steps_long : (extra : List Step) → length (map (λ (s : Step). s.clause) extra) ≡ length extra
 steps_long [] = refl
 steps_long (s ∷ ss) = let e = steps_long ss in omega (arith, e)
+
+-- what a trail is behind a base, with the local clauses and those of the steps
+pub record Grown (f : Formula) (base last : Trailed) (local : List (List Lit)) (steps : List Step) : Type 0 where
+  pub clauses_are : last.clauses ≡ members_of (f.clauses ++ local) steps
+  pub vars_are : last.vars ≡ base.vars
+  pub none : last.assigned ≡ []
+
+-- the local clauses and those of the steps are put behind those of a formula
+pub grown_all : (f : Formula) (base first second last : Trailed) (local : List (List Lit)) (steps : List Step) → IsBase f base → first ≡ base → second ≡ with_clauses first (first.clauses ++ local)
+    → last ≡ with_clauses second (second.clauses ++ map (λ s. s.clause) steps) → Grown f base last local steps
+grown_all f base first second last local steps is one two three =
+    let clauses_of : Trailed → List (List Lit) = λ t. t.clauses in
+    let vars_of : Trailed → ℕ = λ t. t.vars in
+    let assigned_of : Trailed → List Assigned = λ t. t.assigned in
+    let start : first.clauses ≡ f.clauses = ap clauses_of one ∙ is.clauses_are in
+    let middle : second.clauses ≡ f.clauses ++ local = ap clauses_of two ∙ ap (λ (cs : List (List Lit)). cs ++ local) start in
+    record {
+      clauses_are = ap clauses_of three ∙ ap (λ (cs : List (List Lit)). cs ++ map (λ (s : Step). s.clause) steps) middle;
+      vars_are = ap vars_of three ∙ (ap vars_of two ∙ ap vars_of one);
+      none = ap assigned_of three ∙ (ap assigned_of two ∙ (ap assigned_of one ∙ is.none));
+    }

@@ -9,7 +9,7 @@ use Rattle.clause_store.specs.Codes.{literal_of, literals_of}
 use Rattle.watched_literals.specs.Rule.{IsMarked}
 use Rattle.watched_literals.specs.Walk.{IsReady}
 use Rattle.watched_literals.proofs.Keeping.{marked_more}
-use Rattle.watched_literals.proofs.Marking.{flag_stays}
+use Rattle.watched_literals.proofs.MarkLists.{flag_stays}
 use Rattle.watched_literals.proofs.Slots.{literal_of-same}
 use Rattle.sat_trail.specs.Filling.{IsPair, IsFlagged}
 

@@ -9,3 +9,4 @@ pub mod Learning
 pub mod Rounds
 pub mod Settling
 pub mod Waiting
+pub mod Leaned

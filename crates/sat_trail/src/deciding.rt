@@ -1,3 +1,4 @@
+// Which variable is decided next.
 ghost use Rattle.std.specs.Prelude.{◌≡◌, ◌++◌, ◌∷◌, [], ◌≤◌, Bool, List, All, MatchOption, length};
 ghost use Rattle.cnf_core.specs.Literal.{HasVarsUpTo};
 ghost use Rattle.clause_store.specs.Codes.{literals_of};
@@ -16,7 +17,7 @@ pub(crate) fn take_open(order: &mut ActivityOrder, now: &Assignment) -> Option<u
     ensures next { MatchOption result (HasAllValues now.now.vars (falses_of now.now.assigned)) (IsOpenVar now.now.vars (falses_of now.now.assigned)) }
     ensures order { MatchOption result (IsOrderOf now.now.vars (falses_of now.now.assigned) order.new) (λ var. (value : Bool) → IsOrderOf now.now.vars (falses_of now.now.assigned ++ record { var = var; positive = value } ∷ []) order.new) }
 {
-    let _vars = now.vars();
+    let _ = now.vars(); // for the proof
     'taking: while let Some(place) = order.take_first() {
         let var = place + 1;
         if now.value(2 * var).is_none() {
@@ -42,7 +43,7 @@ pub(crate) fn put_back_above(order: &mut ActivityOrder, now: &Assignment, level:
     }
 }
 
-/// Raises the variables of a clause, by the numbers of its literals, but for those that this step met already.
+// Raises the variables of a clause, by the numbers of its literals, but for those that this step met already.
 fn raise_in(order: &mut ActivityOrder, met_by: &mut [u32], codes: &[u32], step: u32)
     requires vars { All (λ l. (1 ≤ l.var) × (l.var ≤ length order.old.activities)) (literals_of codes.now) }
     requires long { length met_by.old ≡ length order.old.activities }
@@ -73,7 +74,7 @@ pub(crate) fn raise_met(
     ensures waiting { order.new.waiting ≡ order.old.waiting }
     ensures long { length order.new.activities ≡ length order.old.activities }
 {
-    let _clauses = store.len();
+    let _ = store.len(); // for the proof
     for hint in hints {
         raise_in(order, met_by, store.codes(*hint), step);
     }

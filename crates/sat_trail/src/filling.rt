@@ -1,3 +1,4 @@
+// A trail made from clauses.
 ghost use Rattle.std.specs.Prelude.{◌≡◌, ◌≢◌, ◌+◌, ◌*◌, ◌/◌, ◌<◌, ◌≤◌, ◌^◌, ◌++◌, ◌∷◌, [], All, Contains, IsTrue, IfSome, MatchBool, OnOk, OnErr, false, length};
 ghost use Rattle.cnf_core.specs.Literal.{HasVarsUpTo};
 ghost use Rattle.watch_lists.specs.WatchState.{with_slot};
@@ -7,11 +8,12 @@ ghost use Rattle.sat_trail.specs.Filling.{IsPair, IsFlagged};
 
 use assignment_trail::Assignment;
 use clause_store::Store;
-use cnf_core::{Clause, NoMemory};
+use cnf_core::Clause;
+use std::alloc::AllocError;
 use watch_lists::WatchLists;
 use watched_literals::Pending;
 
-/// The numbers that the two slots of a clause watch. Those of a short clause are 0 and 1, which are no literal's.
+// The numbers that the two slots of a clause watch. Those of a short clause are 0 and 1, which are no literal's.
 #[derive(Clone, Copy, Debug)]
 struct Pair {
     one: u32,
@@ -19,8 +21,8 @@ struct Pair {
     is_short: bool,
 }
 
-/// How good it is to watch this literal: best where it isn't false, else the better the higher its level. It is 0 for the
-/// literal that is watched already.
+// How good it is to watch this literal: best where it isn't false, else the better the higher its level. It is 0 for the
+// literal that is watched already.
 fn rank(now: &Assignment, code: u32, beside: u32) -> u64
     requires { code / 2 ≤ now.now.vars }
     ensures { 0 < result → code ≢ beside }
@@ -34,7 +36,7 @@ fn rank(now: &Assignment, code: u32, beside: u32) -> u64
     }
 }
 
-/// The best literal of the clause to watch beside this one, or none where there is no other.
+// The best literal of the clause to watch beside this one, or none where there is no other.
 fn best(codes: &[u32], now: &Assignment, beside: u32) -> Option<u32>
     requires { All (λ c. c / 2 ≤ now.now.vars) codes.now }
     ensures { IfSome result (λ code. Contains codes.now code × (code ≢ beside)) }
@@ -51,7 +53,7 @@ fn best(codes: &[u32], now: &Assignment, beside: u32) -> Option<u32>
     best
 }
 
-/// Two literals of the clause to watch.
+// Two literals of the clause to watch.
 fn pair_of(codes: &[u32], now: &Assignment) -> Pair
     requires { All (λ c. c / 2 ≤ now.now.vars) codes.now }
     ensures { IsPair codes.now result }
@@ -72,14 +74,14 @@ fn pair_of(codes: &[u32], now: &Assignment) -> Pair
     }
 }
 
-/// The slots and the mark of a clause more, at this place. After an error all is as before.
+// The slots and the mark of a clause more, at this place. After an error all is as before.
 fn put_slots(
     watches: &mut WatchLists,
     pending: &mut Pending,
     n: u32,
     pair: Pair,
     is_marked: bool,
-) -> Result<(), NoMemory>
+) -> Result<(), AllocError>
     requires place { n ≡ length pending.old.flags }
     requires few { n + 1 < 2 ^ 32 }
     requires one { pair.one < length watches.old.lists }
@@ -113,7 +115,7 @@ pub(crate) fn append(
     drawn: usize,
     clause: &Clause,
     is_marked: bool,
-) -> Result<(), NoMemory>
+) -> Result<(), AllocError>
     requires ready { IsReady store.old watches.old now.now pending.old.flags drawn }
     requires vars { HasVarsUpTo now.now.vars clause.now }
     requires few { length store.old + 1 < 2 ^ 30 }

@@ -1,3 +1,4 @@
+// The highest variable of clauses.
 ghost use Rattle.std.specs.Prelude.{◌≤◌, ◌<◌, ◌^◌, ℕ, map};
 ghost use Rattle.cnf_core.specs.Literal.{HasVarsUpTo};
 ghost use Rattle.sat_trail.specs.Trailed.{IsVarLimit};
@@ -5,7 +6,7 @@ ghost use Rattle.sat_trail.specs.Trailed.{IsVarLimit};
 use cnf_core::{Clause, Lit};
 use refutation_check::Step;
 
-/// The highest variable of a clause, or the given one where that is higher.
+// The highest variable of a clause, or the given one where that is higher.
 fn highest_in(lits: &[Lit], given: u32) -> u32
     ensures at_least { given ≤ result }
     ensures within { HasVarsUpTo result lits.now }

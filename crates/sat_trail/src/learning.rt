@@ -1,3 +1,4 @@
+// What is learnt from a conflict.
 ghost use Rattle.std.specs.Prelude.{◌≡◌, false, ◌<◌, ◌+◌, [], All, length, IfOk, OnOk, MatchBool};
 ghost use Rattle.cnf_core.specs.Literal.{HasVarsUpTo};
 ghost use Rattle.clause_store.specs.Codes.{literals_of};
@@ -9,13 +10,13 @@ ghost use Rattle.sat_trail.specs.Closed.{IsClosedBelow};
 ghost use Rattle.sat_trail.specs.Learnt.{IsAbove, IsAsserting, IsFlat};
 ghost use Rattle.sat_trail.specs.Learning.{Learning, Marking, IsResolved, HasAnother, HasNoOther};
 
-use super::trail::Trail;
+use crate::trail::Trail;
 use assignment_trail::Assigned;
-use cnf_core::{Clause, Lit, NoMemory};
+use cnf_core::{Clause, Lit};
 use refutation_check::{Hints, Step};
-use std::alloc::Global;
+use std::alloc::{AllocError, Global};
 
-/// Marks the variables of a clause, by the numbers of its literals.
+// Marks the variables of a clause, by the numbers of its literals.
 fn mark(seen: &mut Vec<bool>, codes: &[u32])
     requires { IsWithin (length seen.old.items) (literals_of codes.now) }
     ensures marking { Marking seen.old.items seen.new.items (literals_of codes.now) }
@@ -26,7 +27,7 @@ fn mark(seen: &mut Vec<bool>, codes: &[u32])
     }
 }
 
-/// Whether another literal of the level is marked. The newest is looked at first: the next one that is marked is near.
+// Whether another literal of the level is marked. The newest is looked at first: the next one that is marked is near.
 fn is_another(older: &[Assigned], seen: &[bool], level: u32) -> bool
     requires { All (λ a. a.lit.var < length seen.now) older.now }
     ensures { MatchBool result (HasAnother older.now seen.now level) (HasNoOther older.now seen.now level) }
@@ -42,7 +43,7 @@ fn is_another(older: &[Assigned], seen: &[bool], level: u32) -> bool
     false
 }
 
-/// Whether a marked literal of the level is replaced by its reason, and not kept.
+// Whether a marked literal of the level is replaced by its reason, and not kept.
 fn is_resolved(level: u32, older: &[Assigned], seen: &[bool], kept: &[Lit]) -> bool
     requires { All (λ a. a.lit.var < length seen.now) older.now }
     ensures { IsResolved older.now seen.now kept.now level result }
@@ -56,7 +57,7 @@ fn is_resolved(level: u32, older: &[Assigned], seen: &[bool], kept: &[Lit]) -> b
     false
 }
 
-/// Goes over the n-th literal of the trail: where it is marked, it is kept, negated, or its reason is a hint.
+// Goes over the n-th literal of the trail: where it is marked, it is kept, negated, or its reason is a hint.
 fn visit(
     trail: &Trail,
     conflict: u32,
@@ -64,7 +65,7 @@ fn visit(
     kept: &mut Vec<Lit>,
     hints: &mut Vec<u32>,
     n: usize,
-) -> Result<(), NoMemory>
+) -> Result<(), AllocError>
     requires in_range { n < length trail.now.assigned }
     requires long { length seen.old.items ≡ trail.now.vars + 1 }
     requires so_far { Learning trail.now.clauses trail.now.assigned conflict seen.old.items kept.old.items hints.old.items (n + 1) }
@@ -86,7 +87,7 @@ fn visit(
     Ok(())
 }
 
-fn unmarked(alloc: Global, count: usize) -> Result<Vec<bool>, NoMemory>
+fn unmarked(alloc: Global, count: usize) -> Result<Vec<bool>, AllocError>
     ensures long { IfOk result (λ v. length v.items ≡ count) }
     ensures unmarked { IfOk result (λ v. All (λ b. b ≡ false) v.items) }
 {
@@ -96,7 +97,7 @@ fn unmarked(alloc: Global, count: usize) -> Result<Vec<bool>, NoMemory>
 /// The clause at the first unique implication point of the conflict, with its hints, over the trail's
 /// clauses. The conflict is the number of a falsified clause; where all of that clause is of level 0, the
 /// clause that is learnt is empty.
-pub fn learn(alloc: Global, trail: &Trail, conflict: u32) -> Result<Step, NoMemory>
+pub fn learn(alloc: Global, trail: &Trail, conflict: u32) -> Result<Step, AllocError>
     requires { Refutes trail.now.clauses (falses_of trail.now.assigned) conflict }
     ensures chain { IfOk result (λ s. IsChain trail.now.clauses s.clause s.hints) }
     ensures vars { IfOk result (λ s. HasVarsUpTo trail.now.vars s.clause) }

@@ -1,3 +1,4 @@
+// To which level a search goes back.
 ghost use Rattle.std.specs.Prelude.{◌≡◌, ◌≤◌, ◌<◌, ◌⊎◌};
 ghost use Rattle.cnf_core.specs.Literal.{HasVarsUpTo};
 ghost use Rattle.sat_trail.specs.Levels.{IsHighestBelow};
@@ -6,7 +7,7 @@ use assignment_trail::Assignment;
 use clause_store::code_of;
 use cnf_core::Lit;
 
-/// The higher of two levels, where the second one is below the bound.
+// The higher of two levels, where the second one is below the bound.
 fn raised(highest: u32, level: u32, below: u32) -> u32
     ensures at_least { highest ≤ result }
     ensures reaches { level < below → level ≤ result }
@@ -26,7 +27,7 @@ pub(crate) fn highest_below(now: &Assignment, lits: &[Lit], below: u32) -> u32
     requires { HasVarsUpTo now.now.vars lits.now }
     ensures { IsHighestBelow now.now.assigned lits.now below result }
 {
-    let _vars = now.vars();
+    let _ = now.vars(); // for the proof
     let mut highest = 0;
     for lit in lits {
         let level = now.level_of(code_of(*lit));

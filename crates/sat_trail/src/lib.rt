@@ -4,12 +4,14 @@
 mod deciding;
 mod filling;
 mod highest;
+mod leaning;
 mod learning;
 mod levels;
 mod rounds;
 mod settling;
 mod trail;
 
+pub use crate::leaning::Leaning;
+pub use crate::learning::learn;
+pub use crate::trail::{Propagated, Trail};
 pub use assignment_trail::Assigned;
-pub use learning::learn;
-pub use trail::{Propagated, Trail};

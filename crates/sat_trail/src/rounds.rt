@@ -1,3 +1,4 @@
+// Propagation, in rounds over what is marked.
 ghost use Rattle.std.specs.Prelude.{◌≡◌, ◌+◌, ◌<◌, ◌≤◌, MatchBool, MatchOption, length};
 ghost use Rattle.refutation_check.specs.Chain.{Refutes};
 ghost use Rattle.assignment_trail.specs.Trail.{ForcesMore, falses_of, level_of};
@@ -5,25 +6,25 @@ ghost use Rattle.watched_literals.specs.Walk.{IsReady};
 ghost use Rattle.sat_trail.specs.Closed.{IsClosed};
 ghost use Rattle.sat_trail.specs.Rounds.{AreQuiet, IsFollowed, IsOutcome};
 
-use super::settling::settle;
+use crate::settling::settle;
 use assignment_trail::{Assigned, Assignment};
 use clause_store::Store;
 use refutation_check::Sight;
 use watch_lists::WatchLists;
 use watched_literals::{Pending, draw_all};
 
-/// What a round came to.
+// What a round came to.
 #[derive(Clone, Copy, Debug)]
 enum Outcome {
-    /// The clause at this place is falsified.
+    // The clause at this place is falsified.
     Conflict(u32),
-    /// No clause is falsified, and none is a unit with its literal open.
+    // No clause is falsified, and none is a unit with its literal open.
     Closed,
-    /// More literals are true.
+    // More literals are true.
     Grown,
 }
 
-/// Looks at the clause at this place, and makes true what it forces. True where it is falsified.
+// Looks at the clause at this place, and makes true what it forces. True where it is falsified.
 fn follow(
     store: &Store,
     watches: &WatchLists,
@@ -42,7 +43,7 @@ fn follow(
     ensures more { ForcesMore now.old.assigned now.new.assigned }
     ensures level { level_of now.new.assigned ≡ level_of now.old.assigned }
 {
-    let _clauses = store.len();
+    let _ = store.len(); // for the proof
     match now.look(store.codes(n + 1)) {
         Sight::Falsified => true,
         Sight::Neither => false,
@@ -57,7 +58,7 @@ fn follow(
     }
 }
 
-/// Looks at the marked clauses in turn, and makes true what they force: the place of one that is falsified, or none.
+// Looks at the marked clauses in turn, and makes true what they force: the place of one that is falsified, or none.
 fn follow_marked(
     store: &Store,
     watches: &WatchLists,
@@ -82,7 +83,7 @@ fn follow_marked(
     None
 }
 
-/// Follows the watched literals that became false, and then the marked clauses.
+// Follows the watched literals that became false, and then the marked clauses.
 fn round(
     store: &Store,
     watches: &mut WatchLists,
@@ -129,7 +130,7 @@ pub(crate) fn propagate_all(
 {
     let level = now.level();
     'rounds: loop {
-        let _count = now.len();
+        let _ = now.len(); // for the proof
         match round(store, watches, now, pending, drawn, level) {
             Outcome::Conflict(n) => return Some(n),
             Outcome::Closed => return None,

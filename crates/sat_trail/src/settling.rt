@@ -1,3 +1,4 @@
+// Marks taken away where they are no longer needed.
 ghost use Rattle.std.specs.Prelude.{◌≡◌, ◌+◌, ◌*◌, ◌/◌, ◌<◌, ◌≤◌, ◌^◌, IsTrue, length};
 ghost use Rattle.watched_literals.specs.Walk.{IsReady};
 ghost use Rattle.sat_trail.specs.Settling.{IsHeldUp, IsSettled};
@@ -7,7 +8,7 @@ use clause_store::Store;
 use watch_lists::WatchLists;
 use watched_literals::Pending;
 
-/// Whether the other literal is true, at no higher level than that of the first one.
+// Whether the other literal is true, at no higher level than that of the first one.
 fn is_held_by(now: &Assignment, code: u32, other: u32) -> bool
     requires code { code / 2 ≤ now.now.vars }
     requires other { other / 2 ≤ now.now.vars }
@@ -25,7 +26,7 @@ fn is_held_by(now: &Assignment, code: u32, other: u32) -> bool
     }
 }
 
-/// Whether the other literal is true, at no higher level, if the first one is false.
+// Whether the other literal is true, at no higher level, if the first one is false.
 fn is_held_up(now: &Assignment, code: u32, other: u32) -> bool
     requires code { code / 2 ≤ now.now.vars }
     requires other { other / 2 ≤ now.now.vars }
@@ -38,13 +39,13 @@ fn is_held_up(now: &Assignment, code: u32, other: u32) -> bool
     }
 }
 
-/// Whether the rule of watched literals holds of the clause at this place without its mark.
+// Whether the rule of watched literals holds of the clause at this place without its mark.
 fn is_settled(watches: &WatchLists, now: &Assignment, n: u32) -> bool
     requires in_range { 2 * n + 1 < length watches.now.codes }
     requires lists { length watches.now.lists ≡ 2 * now.now.vars + 2 }
     ensures { IsTrue result → IsSettled watches.now.codes now.now.assigned n }
 {
-    let _count = watches.len();
+    let _ = watches.len(); // for the proof
     let one = watches.code(2 * n);
     let other = watches.code(2 * n + 1);
     if one < 2 {
@@ -59,7 +60,7 @@ fn is_settled(watches: &WatchLists, now: &Assignment, n: u32) -> bool
     false
 }
 
-/// Takes away the mark of the clause at this place of the list, where the rule holds without it.
+// Takes away the mark of the clause at this place of the list, where the rule holds without it.
 fn settle_at(
     store: &Store,
     watches: &WatchLists,
@@ -73,7 +74,7 @@ fn settle_at(
     ensures ready { IsReady store.now watches.now now.now pending.new.flags drawn }
     ensures long { length pending.old.list ≤ length pending.new.list + 1 }
 {
-    let _clauses = store.len();
+    let _ = store.len(); // for the proof
     let n = pending.list()[i];
     if is_settled(watches, now, n) {
         let _n = pending.unmark(i);

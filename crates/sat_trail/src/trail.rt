@@ -1,26 +1,29 @@
-ghost use Rattle.std.specs.Prelude.{◌≡◌, ◌+◌, ◌*◌, ◌<◌, ◌≤◌, ◌^◌, ◌++◌, ◌∷◌, [], List, All, IfOk, OnOk, OnErr, MatchOption, None, false, length, map};
+// The trail over clauses.
+ghost use Rattle.std.specs.Prelude.{◌≡◌, ◌+◌, ◌*◌, ◌<◌, ◌≤◌, ◌^◌, ◌++◌, ◌∷◌, [], List, All, IfOk, OnOk, OnErr, MatchOption, IfSome, None, false, length, map, max};
 ghost use Rattle.cnf_core.specs.Literal.{HasVarsUpTo, IsClause};
 ghost use Rattle.clause_store.specs.Codes.{literals_of};
 ghost use Rattle.refutation_check.specs.Chain.{Names, IsChain, members_of};
 ghost use Rattle.refutation_check.specs.Assumed.{IsOpen};
 ghost use Rattle.assignment_trail.specs.declared.assigned.Assigned.{Assigned};
 ghost use Rattle.assignment_trail.specs.Trail.{IsTrail, IsVarUpTo, IsBackTo, ForcesMore, falses_of, level_of};
-ghost use Rattle.sat_trail.specs.Trailed.{IsVarLimit, IsValue};
+ghost use Rattle.sat_trail.specs.Trailed.{IsBase, IsVarLimit, IsValue};
+ghost use Rattle.sat_trail.specs.Leaned.{leans_to};
 ghost use Rattle.sat_trail.specs.Closed.{IsClosedBelow, IsPropagated};
 ghost use Rattle.sat_trail.specs.Deciding.{HasAllValues, IsOpenVar, decided};
 ghost use Rattle.sat_trail.specs.Learnt.{IsAsserting, IsBackLevel};
 
-use super::deciding::{put_back_above, raise_met, take_open};
-use super::filling::append;
-use super::highest::{highest_in_steps, highest_of};
-use super::levels::highest_below;
-use super::rounds::propagate_all;
+use crate::deciding::{put_back_above, raise_met, take_open};
+use crate::filling::append;
+use crate::highest::{highest_in_steps, highest_of};
+use crate::leaning::Leaning;
+use crate::levels::highest_below;
+use crate::rounds::propagate_all;
 use activity_order::ActivityOrder;
 use assignment_trail::{Assigned, Assignment};
 use clause_store::Store;
-use cnf_core::{Clause, Cnf, Lit, NoMemory};
+use cnf_core::{Clause, Cnf, Lit};
 use refutation_check::{Log, Step};
-use std::alloc::Global;
+use std::alloc::{AllocError, Global};
 use std::marker::Model;
 use watch_lists::WatchLists;
 use watched_literals::{Pending, back_to};
@@ -68,7 +71,7 @@ impl Model for Trail {
 impl Trail {
     /// No literal is true yet. The clauses are those of the formula, the local ones, and those of the steps,
     /// in this order: at most 1,073,741,823 together. The variables are those up to the highest one.
-    pub fn of(alloc: Global, f: &Cnf, extra: &Log, local: &[Clause]) -> Result<Trail, NoMemory>
+    pub fn of(alloc: Global, f: &Cnf, extra: &Log, local: &[Clause]) -> Result<Trail, AllocError>
         requires { length f.now.clauses + length local.now + length extra.now < 2 ^ 30 }
         ensures clauses { IfOk result (λ t. t.clauses ≡ members_of (f.now.clauses ++ local.now) extra.now) }
         ensures vars { IfOk result (λ t. IsVarLimit f.now.vars t.clauses t.vars) }
@@ -82,8 +85,67 @@ impl Trail {
         Ok(trail)
     }
 
-    /// No clauses, over the variables up to this one.
-    fn none(alloc: Global, vars: u32) -> Result<Trail, NoMemory>
+    /// The clauses of a formula, over its variables, and those up to this one. No literal is true yet.
+    pub fn over(alloc: Global, f: &Cnf, vars: u32) -> Result<Trail, AllocError>
+        requires { vars < 2 ^ 31 }
+        ensures base { IfOk result (IsBase f.now) }
+        ensures vars { IfOk result (λ t. t.vars ≡ max vars f.now.vars) }
+    {
+        let mut trail = Trail::none(alloc, vars.max(f.vars()))?;
+        trail.fill_from(f)?;
+        Ok(trail)
+    }
+
+    /// An equal trail.
+    pub fn copy(&self, alloc: Global) -> Result<Trail, AllocError>
+        ensures { IfOk result (λ t. t ≡ self.now) }
+    {
+        let store = self.store.copy(alloc)?;
+        let watches = self.watches.copy(alloc)?;
+        let assignment = self.assignment.copy(alloc)?;
+        let pending = self.pending.copy(alloc)?;
+        let order = self.order.copy(alloc)?;
+        let met_by = Vec::from_slice(alloc, self.met_by.as_slice())?;
+        Ok(Trail {
+            store,
+            watches,
+            assignment,
+            pending,
+            drawn: self.drawn,
+            order,
+            met_by,
+        })
+    }
+
+    /// The clauses that `of` makes, from a trail of the formula: a copy of it with the local clauses and those of the steps, or a
+    /// new trail where these have other variables. The variables are those of this trail, up to the highest one of the clauses.
+    pub fn grown(
+        &self,
+        alloc: Global,
+        f: &Cnf,
+        extra: &Log,
+        local: &[Clause],
+    ) -> Result<Trail, AllocError>
+        requires base { IsBase f.now self.now }
+        requires few { length f.now.clauses + length local.now + length extra.now < 2 ^ 30 }
+        ensures clauses { IfOk result (λ t. t.clauses ≡ members_of (f.now.clauses ++ local.now) extra.now) }
+        ensures vars { IfOk result (λ t. IsVarLimit self.now.vars t.clauses t.vars) }
+        ensures assigned { IfOk result (λ t. t.assigned ≡ []) }
+    {
+        let highest = highest_of(local, f.vars());
+        let last = highest_in_steps(extra.steps(), highest);
+        if last > self.vars() {
+            let made = Trail::of(alloc, f, extra, local)?;
+            return Ok(made);
+        }
+        let mut trail = self.copy(alloc)?;
+        trail.fill_with(local)?;
+        trail.fill_with_steps(extra.steps())?;
+        Ok(trail)
+    }
+
+    // No clauses, over the variables up to this one.
+    fn none(alloc: Global, vars: u32) -> Result<Trail, AllocError>
         requires { vars < 2 ^ 31 }
         ensures { IfOk result (λ t. t ≡ record { vars = vars; clauses = []; assigned = [] }) }
     {
@@ -102,8 +164,8 @@ impl Trail {
         })
     }
 
-    /// A clause more. After an error the trail is as before.
-    fn put(&mut self, clause: &Clause, is_marked: bool) -> Result<(), NoMemory>
+    // A clause more. After an error the trail is as before.
+    fn put(&mut self, clause: &Clause, is_marked: bool) -> Result<(), AllocError>
         requires vars { HasVarsUpTo self.old.vars clause.now }
         requires few { length self.old.clauses + 1 < 2 ^ 30 }
         requires unmarked { is_marked ≡ false → self.old.assigned ≡ [] }
@@ -122,7 +184,7 @@ impl Trail {
         Ok(())
     }
 
-    fn fill_from(&mut self, f: &Cnf) -> Result<(), NoMemory>
+    fn fill_from(&mut self, f: &Cnf) -> Result<(), AllocError>
         requires vars { f.now.vars ≤ self.old.vars }
         requires few { length self.old.clauses + length f.now.clauses < 2 ^ 30 }
         requires empty { self.old.assigned ≡ [] }
@@ -134,7 +196,7 @@ impl Trail {
         Ok(())
     }
 
-    fn fill_with(&mut self, clauses: &[Clause]) -> Result<(), NoMemory>
+    fn fill_with(&mut self, clauses: &[Clause]) -> Result<(), AllocError>
         requires vars { All (HasVarsUpTo self.old.vars) clauses.now }
         requires few { length self.old.clauses + length clauses.now < 2 ^ 30 }
         requires empty { self.old.assigned ≡ [] }
@@ -146,7 +208,7 @@ impl Trail {
         Ok(())
     }
 
-    fn fill_with_steps(&mut self, steps: &[Step]) -> Result<(), NoMemory>
+    fn fill_with_steps(&mut self, steps: &[Step]) -> Result<(), AllocError>
         requires vars { All (λ s. HasVarsUpTo self.old.vars s.clause) steps.now }
         requires few { length self.old.clauses + length steps.now < 2 ^ 30 }
         requires empty { self.old.assigned ≡ [] }
@@ -166,7 +228,7 @@ impl Trail {
         ensures few { length self.now.assigned ≤ self.now.vars + 1 }
         ensures small { self.now.vars < 2 ^ 31 }
     {
-        let _count = self.assignment.len();
+        let _ = self.assignment.len(); // for the proof
         self.assignment.level()
     }
 
@@ -176,7 +238,7 @@ impl Trail {
         requires in_range { var ≤ self.now.vars }
         ensures { IsValue (falses_of self.now.assigned) var result }
     {
-        let _vars = self.assignment.vars();
+        let _ = self.assignment.vars(); // for the proof
         self.assignment.value(2 * var + 1)
     }
 
@@ -187,7 +249,7 @@ impl Trail {
         ensures clauses { All IsClause self.now.clauses }
         ensures within { All (HasVarsUpTo self.now.vars) self.now.clauses }
     {
-        let _clauses = self.store.len();
+        let _ = self.store.len(); // for the proof
         self.assignment.vars()
     }
 
@@ -198,7 +260,7 @@ impl Trail {
         ensures in_range { All (IsVarUpTo self.now.vars) self.now.assigned }
         ensures few { length self.now.assigned ≤ self.now.vars + 1 }
     {
-        let _count = self.assignment.len();
+        let _ = self.assignment.len(); // for the proof
         self.assignment.literals()
     }
 
@@ -220,7 +282,7 @@ impl Trail {
         ensures level { IsBackLevel self.now.assigned lits.now result }
         ensures closed { IsClosedBelow self.now.clauses self.now.assigned → (assigned : List Assigned) → IsBackTo result self.now.assigned assigned → IsClosedBelow (self.now.clauses ++ lits.now ∷ []) assigned }
     {
-        let _level = self.level();
+        let _ = self.level(); // for the proof
         let top = highest_below(&self.assignment, lits, u32::MAX);
         highest_below(&self.assignment, lits, top)
     }
@@ -242,7 +304,7 @@ impl Trail {
         );
     }
 
-    /// Raises the activities of the variables of the clauses that the hints of the newest clause's step name.
+    // Raises the activities of the variables of the clauses that the hints of the newest clause's step name.
     fn raise_met(&mut self, hints: &[u32])
         requires { All (λ hint. (1 ≤ hint) × (hint ≤ length self.old.clauses)) hints.now }
         ensures { self.new ≡ self.old }
@@ -260,7 +322,7 @@ impl Trail {
     /// Adds a clause that follows from the others by its hints, and answers its number. Its variables are
     /// those of the trail, and there are at most 1,073,741,823 clauses with it. After an error the trail is
     /// as before. The variables of the clauses that the hints name are decided earlier from now on.
-    pub fn add(&mut self, s: Step) -> Result<u32, NoMemory>
+    pub fn add(&mut self, s: Step) -> Result<u32, AllocError>
         requires chain { IsChain self.old.clauses s.clause s.hints }
         requires vars { HasVarsUpTo self.old.vars s.clause }
         requires room { length self.old.clauses + 1 < 2 ^ 30 }
@@ -288,24 +350,24 @@ impl Trail {
         });
     }
 
-    /// Gives this value to the open variable of the greatest activity, on a new level: the lowest of those that have it. None
-    /// where each variable has a value. It takes no memory.
-    pub fn decide_next(&mut self, value: bool) -> Option<u32>
-        ensures next { MatchOption result (HasAllValues self.old.vars (falses_of self.old.assigned)) (IsOpenVar self.old.vars (falses_of self.old.assigned)) }
-        ensures decided { MatchOption result (self.new ≡ self.old) (λ var. self.new ≡ decided self.old (record { var = var; positive = value })) }
+    /// Decides the open variable of the greatest activity, the lowest of those that have it, to the value that it leans to, on a
+    /// new level; and answers the literal that is true then, or none where each variable has a value. It takes no memory.
+    pub fn decide_next(&mut self, leaning: &Leaning) -> Option<Lit>
+        ensures next { MatchOption result (HasAllValues self.old.vars (falses_of self.old.assigned)) (λ l. IsOpenVar self.old.vars (falses_of self.old.assigned) l.var) }
+        ensures decided { MatchOption result (self.new ≡ self.old) (λ l. self.new ≡ decided self.old l) }
+        ensures value { IfSome result (λ l. l.positive ≡ leans_to leaning.now l.var) }
         ensures few { length self.old.assigned ≤ self.old.vars + 1 }
     {
         let next_level = self.level() + 1;
         let var = take_open(&mut self.order, &self.assignment)?;
+        let positive = leaning.value(var);
+        let lit = Lit { var, positive };
         self.assignment.assign(Assigned {
-            lit: Lit {
-                var,
-                positive: value,
-            },
+            lit,
             level: next_level,
             reason: None,
         });
-        Some(var)
+        Some(lit)
     }
 
     /// Makes true what the clauses force, until nothing is left or a clause is falsified. It takes no memory.
@@ -317,7 +379,7 @@ impl Trail {
         ensures level { level_of self.new.assigned ≡ level_of self.old.assigned }
         ensures trail { IsTrail self.new.clauses self.new.assigned }
     {
-        let _clauses = self.store.len();
+        let _ = self.store.len(); // for the proof
         match propagate_all(
             &self.store,
             &mut self.watches,

@@ -12,7 +12,7 @@ use Rattle.refutation_check.specs.declared.log.Step.{Step}
 use Rattle.refutation_check.specs.Chain.{members_of, Subsumes, IsNovel, EachEntailed}
 use Rattle.refutation_check.specs.SearchLog.{HasNoEmpty, IsAllNovel, IsNovelButLast, is_novel, novel_steps}
 use Rattle.refutation_check.proofs.Novelty.{novel_exact, novel_all}
-use Rattle.rel_formula.proofs.Open.{map_has}
+use Rattle.rel_formula.proofs.OpenCells.{map_has}
 use Rattle.translation_rules.proofs.Tests.{from_each}
 
 abbrev one_if : Bool → ℕ

@@ -2,6 +2,6 @@ pub mod Sizes
 pub mod Added
 pub mod Emptied
 pub mod Swaps
-pub mod Asked
+pub mod SolverAnswers
 pub mod Led
 pub mod Going

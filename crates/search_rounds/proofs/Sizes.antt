@@ -5,7 +5,7 @@ use Rattle.std.proofs.lemmas.List.Elements.{All-nil, All-cons, All-filter}
 use Rattle.cnf_core.specs.declared.literal.Lit.{Lit}
 use Rattle.tuple_core.specs.declared.atom.Atom.{Atom}
 use Rattle.rel_formula.specs.Bounds.{Bounded, cells_of}
-use Rattle.rel_formula.proofs.Single.{filter_shorter}
+use Rattle.rel_formula.proofs.OneSetOfAtoms.{filter_shorter}
 use Rattle.translation_rules.specs.Free.{is_free_of}
 use Rattle.translation_rules.specs.Translation.{SwapClauses, Translated, clauses_of_swaps}
 use Rattle.translation_rules.specs.Locals.{literal_of, units_of, absence_in, locals_of}

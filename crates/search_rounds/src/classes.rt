@@ -4,9 +4,8 @@ ghost use Rattle.rel_formula.specs.Instance.{IsMinimalAbove};
 ghost use Rattle.rel_formula.specs.Renaming.{IsSymmetric};
 ghost use Rattle.search_rounds.specs.Classes.{IsRightClass};
 
-use crate::NoMemory;
 use rel_formula::{Problem, Scenario};
-use std::alloc::Global;
+use std::alloc::{AllocError, Global};
 use swap_symmetry::{is_settled_beside, settle_beside};
 
 /// What a minimal scenario is to a session.
@@ -25,7 +24,7 @@ pub(crate) fn class_of(
     floor: &Scenario,
     shown: &[Scenario],
     scenario: Scenario,
-) -> Result<Class, NoMemory>
+) -> Result<Class, AllocError>
     requires symmetric { IsSymmetric problem.now }
     requires minimal { IsMinimalAbove problem.now floor.now scenario }
     requires new { ¬ Contains shown.now scenario }

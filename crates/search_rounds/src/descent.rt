@@ -1,16 +1,17 @@
 // The descent from what a search found.
-ghost use Rattle.std.specs.Prelude.{◌≤◌, length, IfOk};
+ghost use Rattle.std.specs.Prelude.{◌≡◌, ◌≤◌, length, IfOk};
 ghost use Rattle.refutation_check.specs.Chain.{IsAccepted};
 ghost use Rattle.rel_formula.specs.Instance.{AreCells, IsInstance, Includes};
+ghost use Rattle.sat_trail.specs.Trailed.{IsBase};
 ghost use Rattle.minimiser.specs.Down.{IsDescent};
 ghost use Rattle.search_rounds.specs.Descended.{parts_of, IsRightDescent};
 
-use crate::NoMemory;
 use crate::novel::left_after;
-use minimiser::{Down, minimise};
+use minimiser::{Down, minimise_from};
 use refutation_check::{Log, Part, accepted_is_entailed};
 use rel_formula::Scenario;
-use std::alloc::Global;
+use sat_core::Trail;
+use std::alloc::{AllocError, Global};
 use translation::Translation;
 
 /// What a descent comes to, with its searches in order.
@@ -32,11 +33,13 @@ pub(crate) enum DescentEnd {
 pub(crate) fn go_down(
     alloc: Global,
     translation: &Translation,
+    base: &Trail,
     pool: &Log,
     floor: &Scenario,
     start: &Scenario,
     budget: u64,
-) -> Result<DescentEnd, NoMemory>
+) -> Result<DescentEnd, AllocError>
+    requires base { IsBase translation.now.cnf base.now }
     requires pool { IsAccepted translation.now.cnf.clauses pool.now }
     requires few_steps { length pool.now ≤ 20000 }
     requires floor { AreCells translation.now.problem floor.now }
@@ -47,8 +50,8 @@ pub(crate) fn go_down(
     ensures answer { IfOk result (IsRightDescent translation.now pool.now floor.now start.now budget) }
 {
     accepted_is_entailed();
-    let _ = translation.problem();
-    match minimise(alloc, translation, pool, floor, start, budget)? {
+    let _ = translation.problem(); // for the proof
+    match minimise_from(alloc, translation, base, pool, floor, start, budget)? {
         Down::Minimal { scenario, parts } => {
             let left = left_after(parts.as_slice(), budget);
             Ok(DescentEnd::Minimal {

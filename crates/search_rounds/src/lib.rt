@@ -12,4 +12,4 @@ mod search;
 
 pub use crate::locals::locals_of;
 pub use crate::next::{Found, NextAt, next_at};
-pub use std::alloc::AllocError as NoMemory;
+pub use sat_core::Leaning;

@@ -8,11 +8,10 @@ ghost use Rattle.translation_rules.specs.Free as spec;
 ghost use Rattle.translation_rules.specs.Translation.{clauses_of_swaps};
 ghost use Rattle.translation_rules.specs.Locals.{absence_in as absence_clause, locals_of as locals_at};
 
-use crate::NoMemory;
 use cnf_core::{Clause, Cnf};
 use local_clauses::{absence_in, units_of};
 use rel_formula::{Problem, Scenario};
-use std::alloc::Global;
+use std::alloc::{AllocError, Global};
 use translation::Translation;
 use tuple_core::Atom;
 
@@ -23,14 +22,14 @@ pub fn locals_of(
     translation: &Translation,
     floor: &Scenario,
     blocked: &[Scenario],
-) -> Result<Vec<Clause>, NoMemory>
+) -> Result<Vec<Clause>, AllocError>
     requires floor { AreCells translation.now.problem floor.now }
     requires blocked { All (AreCells translation.now.problem) blocked.now }
     ensures { IfOk result (λ clauses. clauses.items ≡ locals_at translation.now floor.now blocked.now) }
 {
     let problem = translation.problem();
     let mut clauses = free_clauses(alloc, translation, floor.numbers())?;
-    let _ = problem.relations();
+    let _ = problem.relations(); // for the proof
     let mut units = units_of(alloc, floor.numbers())?;
     clauses.append(&mut units)?;
     add_absences(alloc, &mut clauses, problem, blocked)?;
@@ -42,7 +41,7 @@ fn free_clauses(
     alloc: Global,
     translation: &Translation,
     floor: &[u32],
-) -> Result<Vec<Clause>, NoMemory>
+) -> Result<Vec<Clause>, AllocError>
     requires { AreCells translation.now.problem floor.now }
     ensures { IfOk result (λ clauses. clauses.items ≡ clauses_of_swaps (spec.is_free_of translation.now.problem floor.now) translation.now.swaps) }
 {
@@ -57,7 +56,7 @@ fn free_clauses(
 }
 
 // Adds the clauses of a formula.
-fn add_clauses(alloc: Global, clauses: &mut Vec<Clause>, cnf: &Cnf) -> Result<(), NoMemory>
+fn add_clauses(alloc: Global, clauses: &mut Vec<Clause>, cnf: &Cnf) -> Result<(), AllocError>
     ensures { OnOk result (clauses.new.items ≡ clauses.old.items ++ cnf.now.clauses) }
 {
     for number in 0..cnf.len() {
@@ -72,11 +71,11 @@ fn add_absences(
     clauses: &mut Vec<Clause>,
     problem: &Problem,
     blocked: &[Scenario],
-) -> Result<(), NoMemory>
+) -> Result<(), AllocError>
     requires { All (AreCells problem.now) blocked.now }
     ensures { OnOk result (clauses.new.items ≡ clauses.old.items ++ map absence_clause blocked.now) }
 {
-    let _ = problem.relations();
+    let _ = problem.relations(); // for the proof
     for scenario in blocked {
         clauses.push(absence_in(alloc, scenario.numbers())?)?;
     }

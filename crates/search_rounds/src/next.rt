@@ -1,20 +1,21 @@
 // The next scenario at a floor.
-ghost use Rattle.std.specs.Prelude.{◌≡◌, ◌≤◌, ◌+◌, ◌++◌, length, All, Contains, IfOk, OnOk};
+ghost use Rattle.std.specs.Prelude.{◌≡◌, ◌≤◌, ◌<◌, ◌+◌, ◌^◌, ◌++◌, length, All, Contains, IfOk, OnOk};
 ghost use Rattle.refutation_check.specs.Chain.{IsAccepted};
 ghost use Rattle.rel_formula.specs.Instance.{AreCells};
 ghost use Rattle.swap_symmetry.specs.Due.{IsDue};
+ghost use Rattle.sat_trail.specs.Trailed.{IsBase};
 ghost use Rattle.translation_rules.specs.Parts.{AreSearched};
 ghost use Rattle.session_rules.specs.Proofs.{IsCopy};
 ghost use Rattle.session_rules.specs.Work.{IsNextWork, units_in};
 ghost use Rattle.search_rounds.specs.Next.{IsAnswer};
 
-use crate::NoMemory;
 use crate::round::{RoundEnd, round_at};
 use refutation_check::{Log, Part};
 use rel_formula::Scenario;
+use sat_core::{Leaning, Trail};
 use session_rules::laws::{a_proof_of_an_end_is_right, a_refuting_part_makes_a_proof};
 use session_rules::{EndProof, Parts, Scenarios};
-use std::alloc::Global;
+use std::alloc::{AllocError, Global};
 use translation::Translation;
 
 /// What a session finds for the next scenario at a floor, with the parts of its searches in order, and the copies of shown
@@ -43,7 +44,8 @@ pub enum Found {
 /// it, and goes down from what it finds. Blocked are the scenarios that were shown, the copies of them that are known, and
 /// those that this call comes upon. The call takes at most `budget` units, novel steps and new copies, and exactly so many
 /// where it answers `Spent`. The pool is an accepted log over the translation's clauses, of at most 20,000 steps; the blocked
-/// scenarios are at most 100,000,000, and so is the budget. The error comes only for want of memory.
+/// scenarios are at most 100,000,000, and so is the budget. The searches lean to the values that the last one found, which `leaning`
+/// hands on from call to call. The error comes only for want of memory.
 pub fn next_at(
     alloc: Global,
     translation: &Translation,
@@ -52,7 +54,48 @@ pub fn next_at(
     shown: &[Scenario],
     copies: &[Scenario],
     budget: u64,
-) -> Result<NextAt, NoMemory>
+    leaning: &mut Leaning,
+) -> Result<NextAt, AllocError>
+    requires pool { IsAccepted translation.now.cnf.clauses pool.now }
+    requires few_steps { length pool.now ≤ 20000 }
+    requires floor { AreCells translation.now.problem floor.now }
+    requires shown { All (IsDue translation.now.problem floor.now) shown.now }
+    requires copies { All (IsCopy translation.now.problem floor.now shown.now) copies.now }
+    requires few { length shown.now + length copies.now ≤ 100000000 }
+    requires budget { budget ≤ 100000000 }
+    ensures searched { IfOk result (λ next. AreSearched translation.now pool.now next.parts) }
+    ensures work { IfOk result (λ next. (work : IsNextWork translation.now floor.now shown.now next.parts next.copies) × (work.blocked ≡ shown.now ++ copies.now)) }
+    ensures copies { IfOk result (λ next. All (λ copy. IsCopy translation.now.problem floor.now shown.now copy × (¬ Contains copies.now copy)) next.copies) }
+    ensures units { IfOk result (λ next. units_in translation.now pool.now next.parts next.copies ≤ budget) }
+    ensures answer { IfOk result (λ next. IsAnswer translation.now pool.now floor.now shown.now copies.now budget next.parts next.copies next.found) }
+{
+    let base = Trail::over(alloc, translation.cnf(), all_vars(translation))?;
+    next_from(
+        alloc,
+        translation,
+        &base,
+        pool,
+        floor,
+        shown,
+        copies,
+        budget,
+        leaning,
+    )
+}
+
+// Looks for it from a trail of the translation's formula.
+fn next_from(
+    alloc: Global,
+    translation: &Translation,
+    base: &Trail,
+    pool: &Log,
+    floor: &Scenario,
+    shown: &[Scenario],
+    copies: &[Scenario],
+    budget: u64,
+    leaning: &mut Leaning,
+) -> Result<NextAt, AllocError>
+    requires base { IsBase translation.now.cnf base.now }
     requires pool { IsAccepted translation.now.cnf.clauses pool.now }
     requires few_steps { length pool.now ≤ 20000 }
     requires floor { AreCells translation.now.problem floor.now }
@@ -68,7 +111,7 @@ pub fn next_at(
 {
     a_refuting_part_makes_a_proof();
     a_proof_of_an_end_is_right();
-    let _ = translation.problem();
+    let _ = translation.problem(); // for the proof
     let mut blocked = joined(alloc, shown, copies)?;
     let mut parts = Vec::new(alloc);
     let mut found = Vec::new(alloc);
@@ -77,11 +120,13 @@ pub fn next_at(
         match round_at(
             alloc,
             translation,
+            base,
             pool,
             floor,
             shown,
             blocked.as_slice(),
             left,
+            leaning,
         )? {
             RoundEnd::Due {
                 scenario,
@@ -113,8 +158,20 @@ pub fn next_at(
     }
 }
 
+// The highest variable of the translation's formula and of the formulas of its swaps.
+fn all_vars(translation: &Translation) -> u32
+    ensures { result < 2 ^ 31 }
+{
+    let _ = translation.problem(); // for the proof
+    let mut vars = translation.cnf().vars();
+    for (place, _pair) in translation.pairs().iter().enumerate() {
+        vars = vars.max(translation.swap(place as u32).vars());
+    }
+    vars
+}
+
 // Puts parts behind others.
-fn add_parts(parts: &mut Vec<Part>, mut more: Vec<Part>) -> Result<(), NoMemory>
+fn add_parts(parts: &mut Vec<Part>, mut more: Vec<Part>) -> Result<(), AllocError>
     ensures { OnOk result (parts.new.items ≡ parts.old.items ++ more.items) }
 {
     parts.append(&mut more)?;
@@ -138,7 +195,7 @@ fn proof_of(
     pool: &Log,
     blocked: Vec<Scenario>,
     part: &Part,
-) -> Result<EndProof, NoMemory>
+) -> Result<EndProof, AllocError>
     requires few_steps { length pool.now ≤ 20000 }
     requires few { length blocked.items + length part.now.log ≤ 210000000 }
     ensures { IfOk result (λ proof. proof ≡ record { imported = length pool.now; blocked = blocked.items; pool = pool.now; log = part.now.log }) }
@@ -150,7 +207,11 @@ fn proof_of(
 }
 
 // Equal scenarios: the first ones, and then the second.
-fn joined(alloc: Global, first: &[Scenario], second: &[Scenario]) -> Result<Vec<Scenario>, NoMemory>
+fn joined(
+    alloc: Global,
+    first: &[Scenario],
+    second: &[Scenario],
+) -> Result<Vec<Scenario>, AllocError>
     ensures { IfOk result (λ all. all.items ≡ first.now ++ second.now) }
 {
     let mut all = Vec::new(alloc);
@@ -163,7 +224,7 @@ fn add_copies(
     alloc: Global,
     all: &mut Vec<Scenario>,
     scenarios: &[Scenario],
-) -> Result<(), NoMemory>
+) -> Result<(), AllocError>
     ensures { OnOk result (all.new.items ≡ all.old.items ++ scenarios.now) }
 {
     for scenario in scenarios {

@@ -3,19 +3,20 @@ ghost use Rattle.std.specs.Prelude.{◌≡◌, ◌≤◌, ◌+◌, ◌∷◌, �
 ghost use Rattle.refutation_check.specs.declared.log.Step.{Step as LogStep};
 ghost use Rattle.refutation_check.specs.Chain.{IsAccepted};
 ghost use Rattle.rel_formula.specs.Instance.{AreCells};
+ghost use Rattle.sat_trail.specs.Trailed.{IsBase};
 ghost use Rattle.translation_rules.specs.Translation.{Translated};
 ghost use Rattle.translation_rules.specs.Parts.{novel_in};
 ghost use Rattle.search_rounds.specs.Classes.{IsRightClass};
 ghost use Rattle.search_rounds.specs.Descended.{parts_of, LeadsToNew};
 ghost use Rattle.search_rounds.specs.Rounds.{parts_in, IsCounted, IsRoundAt, IsRightRound};
 
-use crate::NoMemory;
 use crate::classes::{Class, class_of};
 use crate::descent::{DescentEnd, go_down};
 use crate::search::{SearchEnd, search_at};
 use refutation_check::{Log, Part};
 use rel_formula::Scenario;
-use std::alloc::Global;
+use sat_core::{Leaning, Trail};
+use std::alloc::{AllocError, Global};
 use translation::Translation;
 
 /// What a round comes to, with its parts in order.
@@ -46,12 +47,15 @@ pub(crate) enum RoundEnd {
 pub(crate) fn round_at(
     alloc: Global,
     translation: &Translation,
+    base: &Trail,
     pool: &Log,
     floor: &Scenario,
     shown: &[Scenario],
     blocked: &[Scenario],
     budget: u64,
-) -> Result<RoundEnd, NoMemory>
+    leaning: &mut Leaning,
+) -> Result<RoundEnd, AllocError>
+    requires base { IsBase translation.now.cnf base.now }
     requires pool { IsAccepted translation.now.cnf.clauses pool.now }
     requires few_steps { length pool.now ≤ 20000 }
     requires floor { AreCells translation.now.problem floor.now }
@@ -62,9 +66,18 @@ pub(crate) fn round_at(
     ensures parts { IfOk result (λ end. IsRoundAt translation.now pool.now floor.now blocked.now budget (parts_in end)) }
     ensures answer { IfOk result (IsRightRound translation.now pool.now floor.now shown.now blocked.now budget) }
 {
-    match search_at(alloc, translation, pool, floor, blocked, budget)? {
+    match search_at(
+        alloc,
+        translation,
+        base,
+        pool,
+        floor,
+        blocked,
+        budget,
+        leaning,
+    )? {
         SearchEnd::Left { start, part, left } => {
-            let descent = go_down(alloc, translation, pool, floor, &start, left)?;
+            let descent = go_down(alloc, translation, base, pool, floor, &start, left)?;
             let end = round_of(alloc, translation, floor, shown, part, descent)?;
             Ok(end)
         }
@@ -84,7 +97,7 @@ fn round_of(
     shown: &[Scenario],
     part: Part,
     descent: DescentEnd,
-) -> Result<RoundEnd, NoMemory>
+) -> Result<RoundEnd, AllocError>
     requires { LeadsToNew translation.now.problem floor.now shown.now descent }
     ensures parts { IfOk result (λ end. parts_in end ≡ part ∷ parts_of descent) }
     ensures answer { IfOk result (λ end. (pool : List LogStep) (blocked : List (List ℕ)) (budget : ℕ) → IsCounted translation.now pool blocked budget part descent
@@ -132,7 +145,7 @@ fn end_of(class: Class, parts: Vec<Part>, left: u64) -> RoundEnd
 }
 
 // The part before these parts.
-fn led_by(alloc: Global, part: Part, mut others: Vec<Part>) -> Result<Vec<Part>, NoMemory>
+fn led_by(alloc: Global, part: Part, mut others: Vec<Part>) -> Result<Vec<Part>, AllocError>
     ensures { IfOk result (λ parts. parts.items ≡ part ∷ others.items) }
 {
     let mut parts = vec![in alloc; part]?;

@@ -3,16 +3,16 @@ ghost use Rattle.std.specs.Prelude.{◌≡◌, ◌↔◌, ◌<◌, ◌≤◌, �
 ghost use Rattle.cnf_core.specs.Valuation.{value_of};
 ghost use Rattle.refutation_check.specs.Chain.{IsAccepted};
 ghost use Rattle.rel_formula.specs.Instance.{AreCells};
+ghost use Rattle.sat_trail.specs.Trailed.{IsBase};
 ghost use Rattle.translation_rules.specs.Translation.{var_of};
 ghost use Rattle.search_rounds.specs.Searches.{part_of, IsSearchAt, IsRightSearch};
 
-use crate::NoMemory;
 use crate::locals::locals_of;
 use cnf_core::Valuation;
 use refutation_check::{Log, Part};
 use rel_formula::Scenario;
-use sat_core::{Answer, solve};
-use std::alloc::Global;
+use sat_core::{Answer, Leaning, Trail, solve_from};
+use std::alloc::{AllocError, Global};
 use translation::Translation;
 use translation_rules::laws::local_clauses_say_what_is_left;
 
@@ -39,11 +39,14 @@ pub(crate) enum SearchEnd {
 pub(crate) fn search_at(
     alloc: Global,
     translation: &Translation,
+    base: &Trail,
     pool: &Log,
     floor: &Scenario,
     blocked: &[Scenario],
     budget: u64,
-) -> Result<SearchEnd, NoMemory>
+    leaning: &mut Leaning,
+) -> Result<SearchEnd, AllocError>
+    requires base { IsBase translation.now.cnf base.now }
     requires pool { IsAccepted translation.now.cnf.clauses pool.now }
     requires few_steps { length pool.now ≤ 20000 }
     requires floor { AreCells translation.now.problem floor.now }
@@ -54,10 +57,18 @@ pub(crate) fn search_at(
 {
     local_clauses_say_what_is_left();
     let problem = translation.problem();
-    let _ = problem.relations();
-    let _ = floor.numbers();
+    let _ = problem.relations(); // for the proof
+    let _ = floor.numbers(); // for the proof
     let local = locals_of(alloc, translation, floor, blocked)?;
-    match solve(alloc, translation.cnf(), pool, local.as_slice(), budget)? {
+    match solve_from(
+        alloc,
+        translation.cnf(),
+        base,
+        pool,
+        local.as_slice(),
+        budget,
+        leaning,
+    )? {
         Answer::Found { valuation, log } => {
             let left = budget - log.steps().len() as u64;
             let start = scenario_in(alloc, problem.cells(), &valuation)?;
@@ -74,7 +85,7 @@ pub(crate) fn search_at(
 }
 
 // The scenario of the cells whose variables are true.
-fn scenario_in(alloc: Global, cells: u32, valuation: &Valuation) -> Result<Scenario, NoMemory>
+fn scenario_in(alloc: Global, cells: u32, valuation: &Valuation) -> Result<Scenario, AllocError>
     requires { cells ≤ length valuation.now }
     ensures cells { IfOk result (λ s. (cell : ℕ) → Contains s cell → cell < cells) }
     ensures values { IfOk result (λ s. (cell : ℕ) → cell < cells → IsTrue (value_of valuation.now (var_of cell)) ↔ Contains s cell) }

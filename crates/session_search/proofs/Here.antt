@@ -6,7 +6,7 @@ use Rattle.std.proofs.lemmas.List.Elements.{All-nil, All-cons, All-head, All-tai
 use Rattle.std.proofs.lemmas.Slice.Eq.{bytes_eq-Decides}
 use Rattle.rel_formula.specs.Bounds.{Bounded, cells_of}
 use Rattle.rel_formula.specs.Instance.{AreCells, IsInstance}
-use Rattle.rel_formula.proofs.Single.{filter_shorter}
+use Rattle.rel_formula.proofs.OneSetOfAtoms.{filter_shorter}
 use Rattle.swap_symmetry.specs.Due.{IsDue}
 use Rattle.session_rules.specs.States.{State, ShownAt, top_floor, shown_at, shown_here, IsCurrent}
 use Rattle.session_rules.specs.Sound.{IsFloor, IsSound}

@@ -1,6 +1,6 @@
 pub mod Bare
 pub mod Here
-pub mod Shows
+pub mod NextScenarios
 pub mod Given
 pub mod Fixed
 pub mod Later

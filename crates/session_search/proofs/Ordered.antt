@@ -5,11 +5,11 @@ use Rattle.std.proofs.lemmas.Bool.{cases_lt, lt-ltb, le-ltb}
 use Rattle.std.proofs.lemmas.List.{get_or_default, at_drop_more, at_drop_all, length-take-le, get_or-take, take_more, take-append-drop}
 use Rattle.std.proofs.lemmas.List.Elements.{Contains-get_or, Contains-append_left, Contains-append_right, Contains-append_cases, Contains-push, Contains-push_cases}
 use Rattle.std.proofs.lemmas.List.Edits.{length-insert, get_or-insert_below, get_or-insert_at, get_or-insert_above}
-use Rattle.rel_formula.proofs.Rising.{Rises}
+use Rattle.rel_formula.proofs.RisingNumbers.{Rises}
 use Rattle.rel_formula.proofs.Lists.{pairs_nil, pairs_tail}
-use Rattle.rel_formula.proofs.Open.{cons_cases, cons_first, cons_later}
+use Rattle.rel_formula.proofs.OpenCells.{cons_cases, cons_first, cons_later}
 use Rattle.swap_symmetry.specs.Order.{IsEarlier}
-use Rattle.swap_symmetry.proofs.Compared.{goes_on, least, not_again}
+use Rattle.swap_symmetry.proofs.ScenarioOrders.{goes_on, least, not_again}
 use Rattle.session_search.specs.Listed.{comes_first, AreInOrder}
 
 -- what the test says of the order

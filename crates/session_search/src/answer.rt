@@ -2,12 +2,10 @@
 ghost use Rattle.std.specs.Prelude.{◌≡◌, ◌≤◌, [], IfOk, length};
 ghost use Rattle.session_search.specs.Proposed.{SetsSmallBudget};
 
-use crate::NoMemory;
 use refutation_check::Part;
 use rel_formula::Scenario;
-use session_rules::answers::{Refusal, Reply, WorkDone};
-use session_rules::{Parts, Scenarios};
-use std::alloc::Global;
+use session_rules::{Parts, Refusal, Reply, Scenarios, WorkDone};
+use std::alloc::{AllocError, Global};
 use std::marker::Model;
 
 /// A reply to a step, the parts of the searches for it, and the copies of shown scenarios that they came upon, of which there
@@ -98,7 +96,7 @@ pub(crate) fn spent(
     budget: u32,
     parts: Parts,
     copies: Scenarios,
-) -> Result<Proposal, NoMemory>
+) -> Result<Proposal, AllocError>
     requires { length copies ≤ 100000 }
     ensures { IfOk result (λ p. p ≡ record { reply = Reply.Refused (Refusal.Spent (record { budget = budget; parts = parts; copies = copies })); parts = parts; copies = copies }) }
 {

@@ -12,16 +12,14 @@ ghost use Rattle.session_search.specs.Fits.{FitsProblem, IsKept};
 ghost use Rattle.session_search.specs.Proposed.{IsProposal};
 ghost use Rattle.session_search.specs.Replied.{reply_to};
 
-use crate::NoMemory;
 use crate::answer::{Proposal, at_once, spent, with_copies};
 use refutation_check::Log;
 use rel_formula::Scenario;
-use search_rounds::{Found, NextAt, next_at};
-use session_rules::EndProof;
-use session_rules::answers::Reply;
+use search_rounds::{Found, Leaning, NextAt, next_at};
 use session_rules::laws::{a_run_is_sound, nothing_done_is_work};
+use session_rules::{EndProof, Reply};
 use session_store::SessionStore;
-use std::alloc::Global;
+use std::alloc::{AllocError, Global};
 use translation::Translation;
 
 /// What a session proposes where it is asked for the next scenario.
@@ -30,7 +28,8 @@ pub(crate) fn next(
     store: &SessionStore,
     translation: &Translation,
     pool: &Log,
-) -> Result<Proposal, NoMemory>
+    leaning: &mut Leaning,
+) -> Result<Proposal, AllocError>
     requires fits { FitsProblem translation.now.problem store.now }
     requires kept { IsKept store.now }
     requires room { length store.now.state.shown ≤ 99000000 }
@@ -52,13 +51,14 @@ pub(crate) fn next(
                 shown.as_slice(),
                 copies.as_slice(),
                 store.budget(),
+                leaning,
             )
         }
     }
 }
 
 // The end of a floor that has ended with this proof, and at which these scenarios were shown.
-fn end_again(alloc: Global, shown: &[Scenario], proof: &EndProof) -> Result<Proposal, NoMemory>
+fn end_again(alloc: Global, shown: &[Scenario], proof: &EndProof) -> Result<Proposal, AllocError>
     requires { length shown.now < 2 ^ 32 }
     ensures { IfOk result (λ p. (t : Translated) (pool : List LogStep) (s : State) → shown_here s ≡ shown.now → HasEndedWith s proof.now → IsProposal t pool s Next p) }
 {
@@ -77,7 +77,8 @@ fn look_for(
     shown: &[Scenario],
     copies: &[Scenario],
     budget: u32,
-) -> Result<Proposal, NoMemory>
+    leaning: &mut Leaning,
+) -> Result<Proposal, AllocError>
     requires pool { IsAccepted translation.now.cnf.clauses pool.now }
     requires few_steps { length pool.now ≤ 20000 }
     requires floor { AreCells translation.now.problem floor.now }
@@ -95,12 +96,13 @@ fn look_for(
         shown,
         copies,
         budget as u64,
+        leaning,
     )?;
     proposal_of(alloc, shown.len() as u32, budget, next)
 }
 
 // The proposal of what was found where so many scenarios were shown.
-fn proposal_of(alloc: Global, shown: u32, budget: u32, next: NextAt) -> Result<Proposal, NoMemory>
+fn proposal_of(alloc: Global, shown: u32, budget: u32, next: NextAt) -> Result<Proposal, AllocError>
     requires shown { shown < 2 ^ 31 }
     requires few { length next.copies ≤ 100000 }
     ensures { IfOk result (λ p. p ≡ record { reply = reply_to shown budget next.parts next.copies next.found; parts = next.parts; copies = next.copies }) }

@@ -11,22 +11,20 @@ ghost use Rattle.session_words.specs.declared.steps.Step.TheVariants.{Augment};
 ghost use Rattle.session_search.specs.Fits.{FitsProblem, IsKept};
 ghost use Rattle.session_search.specs.Proposed.{IsProposal};
 
-use crate::NoMemory;
 use crate::answer::{Proposal, at_once, searched, spent};
 use augmenter::{Sought, seek};
 use refutation_check::{Log, Part};
 use rel_formula::Scenario;
-use session_rules::answers::{Refusal, Reply};
 use session_rules::laws::{a_refuting_part_makes_a_proof, a_run_is_sound, nothing_done_is_work};
-use session_rules::{EndProof, Parts, Scenarios};
+use session_rules::{EndProof, Parts, Refusal, Reply, Scenarios};
 use session_store::SessionStore;
 use session_words::AtomNames;
-use std::alloc::Global;
+use std::alloc::{AllocError, Global};
 use translation::Translation;
 use tuple_core::Name;
 use tuple_names::{Named, what_is_named};
 
-/// The floors that stand above the bottom at most.
+// The floors that stand above the bottom at most.
 const MOST_FLOORS: usize = 64;
 
 /// What a session proposes where it is to fix the current scenario with the tuple of these names.
@@ -37,7 +35,7 @@ pub(crate) fn augment(
     pool: &Log,
     relation: &Name,
     tuple: &AtomNames,
-) -> Result<Proposal, NoMemory>
+) -> Result<Proposal, AllocError>
     requires fits { FitsProblem translation.now.problem store.now }
     requires kept { IsKept store.now }
     requires pool { IsAccepted translation.now.cnf.clauses pool.now }
@@ -65,7 +63,7 @@ fn add_cell(
     pool: &Log,
     current: &Scenario,
     cell: u32,
-) -> Result<Proposal, NoMemory>
+) -> Result<Proposal, AllocError>
     requires kept { IsKept store.now }
     requires pool { IsAccepted translation.now.cnf.clauses pool.now }
     requires few { length pool.now ≤ 20000 }
@@ -93,7 +91,7 @@ fn go_up(
     pool: &Log,
     floor: Scenario,
     budget: u32,
-) -> Result<Proposal, NoMemory>
+) -> Result<Proposal, AllocError>
     requires pool { IsAccepted translation.now.cnf.clauses pool.now }
     requires few { length pool.now ≤ 20000 }
     requires floor { AreCells translation.now.problem floor }
@@ -125,14 +123,14 @@ fn go_up(
 }
 
 // One part alone.
-fn only(alloc: Global, part: Part) -> Result<Parts, NoMemory>
+fn only(alloc: Global, part: Part) -> Result<Parts, AllocError>
     ensures { IfOk result (λ parts. parts ≡ part ∷ []) }
 {
     Ok(Parts::of(vec![in alloc; part]?))
 }
 
 // The proof that a search makes whose log ends with the empty clause.
-fn refuting(alloc: Global, pool: &Log, part: &Part) -> Result<EndProof, NoMemory>
+fn refuting(alloc: Global, pool: &Log, part: &Part) -> Result<EndProof, AllocError>
     requires few_steps { length pool.now ≤ 20000 }
     requires few { length part.now.log ≤ 100000 }
     ensures { IfOk result (λ proof. proof ≡ record { imported = length pool.now; blocked = []; pool = pool.now; log = part.now.log }) }

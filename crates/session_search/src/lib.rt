@@ -11,4 +11,3 @@ mod session;
 
 pub use crate::answer::Proposal;
 pub use crate::session::Session;
-pub use std::alloc::AllocError as NoMemory;

@@ -3,12 +3,11 @@ ghost use Rattle.std.specs.Prelude.{◌≡◌, ◌≢◌, ◌⊎◌, ◌<◌, �
 ghost use Rattle.swap_symmetry.specs.Order.{IsEarlier};
 ghost use Rattle.session_search.specs.Listed.{AreInOrder, comes_first};
 
-use crate::NoMemory;
 use rel_formula::Scenario;
-use std::alloc::Global;
+use std::alloc::{AllocError, Global};
 
 /// Copies of distinct scenarios, the earlier ones first.
-pub(crate) fn in_order(alloc: Global, scenarios: &[Scenario]) -> Result<Vec<Scenario>, NoMemory>
+pub(crate) fn in_order(alloc: Global, scenarios: &[Scenario]) -> Result<Vec<Scenario>, AllocError>
     requires { AllPairs (λ x y. x ≢ y) scenarios.now }
     ensures { IfOk result (λ listed. AreInOrder scenarios.now listed.items) }
 {

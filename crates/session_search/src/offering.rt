@@ -7,16 +7,14 @@ ghost use Rattle.session_words.specs.declared.steps.Step.TheVariants.{Offers as 
 ghost use Rattle.session_search.specs.Fits.{FitsProblem, IsKept};
 ghost use Rattle.session_search.specs.Proposed.{IsProposal};
 
-use crate::NoMemory;
 use crate::answer::{Proposal, at_once, searched, spent};
 use augmenter::{Offers, offers};
 use refutation_check::Log;
 use rel_formula::Scenario;
-use session_rules::answers::{Refusal, Reply};
 use session_rules::laws::{a_run_is_sound, nothing_done_is_work};
-use session_rules::{CellNumbers, Parts, Scenarios};
+use session_rules::{CellNumbers, Parts, Refusal, Reply, Scenarios};
 use session_store::SessionStore;
-use std::alloc::Global;
+use std::alloc::{AllocError, Global};
 use translation::Translation;
 
 /// What a session proposes where it is asked for the cells that some instance adds to the current scenario.
@@ -25,7 +23,7 @@ pub(crate) fn offer(
     store: &SessionStore,
     translation: &Translation,
     pool: &Log,
-) -> Result<Proposal, NoMemory>
+) -> Result<Proposal, AllocError>
     requires fits { FitsProblem translation.now.problem store.now }
     requires kept { IsKept store.now }
     requires pool { IsAccepted translation.now.cnf.clauses pool.now }
@@ -47,7 +45,7 @@ fn offers_of(
     pool: &Log,
     current: &Scenario,
     budget: u32,
-) -> Result<Proposal, NoMemory>
+) -> Result<Proposal, AllocError>
     requires pool { IsAccepted translation.now.cnf.clauses pool.now }
     requires few { length pool.now ≤ 20000 }
     requires current { IsInstance translation.now.problem current.now }

@@ -3,12 +3,11 @@ ghost use Rattle.std.specs.Prelude.{◌≤◌, IfOk};
 ghost use Rattle.session_rules.specs.States.{State};
 ghost use Rattle.session_search.specs.Proposed.{IsPlainProposal};
 
-use crate::NoMemory;
 use crate::answer::{Proposal, at_once};
-use session_rules::answers::{Refusal, Reply};
+use session_rules::{Refusal, Reply};
 use session_store::SessionStore;
 use session_words::Step;
-use std::alloc::Global;
+use std::alloc::{AllocError, Global};
 
 /// What a session proposes where it is to leave the top floor.
 pub(crate) fn leave(alloc: Global, store: &SessionStore) -> Proposal
@@ -29,7 +28,7 @@ pub(crate) fn set(alloc: Global, budget: u32) -> Proposal
 }
 
 /// What a session proposes where it is asked for the proof of the end of the top floor.
-pub(crate) fn prove(alloc: Global, store: &SessionStore) -> Result<Proposal, NoMemory>
+pub(crate) fn prove(alloc: Global, store: &SessionStore) -> Result<Proposal, AllocError>
     ensures { IfOk result (IsPlainProposal store.now.state Step.Proof) }
 {
     match store.proof() {

@@ -11,7 +11,6 @@ ghost use Rattle.session_store.specs.Stored.{copies_after};
 ghost use Rattle.session_search.specs.Fits.{FitsProblem};
 ghost use Rattle.session_search.specs.Proposed.{IsProposal, NeedsTranslation, IsPlain, IsPlainProposal};
 
-use crate::NoMemory;
 use crate::answer::Proposal;
 use crate::asking::next;
 use crate::augmenting::augment;
@@ -20,10 +19,11 @@ use crate::offering::offer;
 use crate::plain::{leave, prove, set};
 use refutation_check::Log;
 use rel_formula::Scenario;
+use search_rounds::Leaning;
 use session_rules::laws::a_run_is_sound;
 use session_store::SessionStore;
 use session_words::Step;
-use std::alloc::Global;
+use std::alloc::{AllocError, Global};
 use std::marker::Model;
 use translation::Translation;
 
@@ -34,6 +34,7 @@ pub struct Session {
     owner: u32,
     key: u32,
     kept: SessionStore,
+    leaning: Leaning,
 }
 
 impl Model for Session {
@@ -49,13 +50,19 @@ impl Model for Session {
 impl Session {
     /// The session of this number at the start, on the problem of this key, with this budget, which is at most 100,000. It fits
     /// every problem. The error comes only for want of memory.
-    pub fn new(alloc: Global, owner: u32, key: u32, budget: u32) -> Result<Session, NoMemory>
+    pub fn new(alloc: Global, owner: u32, key: u32, budget: u32) -> Result<Session, AllocError>
         requires { budget ≤ 100000 }
         ensures start { IfOk result (λ s. s ≡ record { owner = owner; key = key; kept = record { state = Start budget; copies = []; room = 0 } }) }
         ensures fits { IfOk result (λ s. (p : Bounded) → FitsProblem p s.kept) }
     {
         let kept = SessionStore::new(alloc, budget)?;
-        Ok(Session { owner, key, kept })
+        let leaning = Leaning::towards(alloc, false);
+        Ok(Session {
+            owner,
+            key,
+            kept,
+            leaning,
+        })
     }
 
     /// The session's number.
@@ -81,7 +88,7 @@ impl Session {
 
     /// The scenarios that were shown at the top floor, the earlier ones first. The session fits some problem. The error comes
     /// only for want of memory.
-    pub fn listed(&self, alloc: Global) -> Result<Vec<Scenario>, NoMemory>
+    pub fn listed(&self, alloc: Global) -> Result<Vec<Scenario>, AllocError>
         requires { (p : Bounded) × FitsProblem p self.now.kept }
         ensures { IfOk result (λ listed. ListsShown self.now.kept.state listed.items) }
     {
@@ -94,21 +101,22 @@ impl Session {
     /// fits the translation's problem, and has shown at most 99,000,000 scenarios. The pool is an accepted log over the
     /// translation's clauses, of at most 20,000 steps. The error comes only for want of memory.
     pub fn propose(
-        &self,
+        &mut self,
         alloc: Global,
         translation: &Translation,
         pool: &Log,
         step: &Step,
-    ) -> Result<Proposal, NoMemory>
-        requires fits { FitsProblem translation.now.problem self.now.kept }
-        requires room { length self.now.kept.state.shown ≤ 99000000 }
+    ) -> Result<Proposal, AllocError>
+        requires fits { FitsProblem translation.now.problem self.old.kept }
+        requires room { length self.old.kept.state.shown ≤ 99000000 }
         requires pool { IsAccepted translation.now.cnf.clauses pool.now }
         requires few { length pool.now ≤ 20000 }
         requires asked { NeedsTranslation step.now }
-        ensures { IfOk result (IsProposal translation.now pool.now self.now.kept.state step.now) }
+        ensures proposal { IfOk result (IsProposal translation.now pool.now self.old.kept.state step.now) }
+        ensures same { self.new ≡ self.old }
     {
         match step {
-            Step::Next => next(alloc, &self.kept, translation, pool),
+            Step::Next => next(alloc, &self.kept, translation, pool, &mut self.leaning),
             Step::Offers => offer(alloc, &self.kept, translation, pool),
             Step::Augment { relation, tuple } => {
                 augment(alloc, &self.kept, translation, pool, relation, tuple)
@@ -121,7 +129,7 @@ impl Session {
 
     /// What the session answers to `back`, `proof`, or a budget of at most 100,000; the session stays as it is. The error comes
     /// only for want of memory.
-    pub fn propose_plain(&self, alloc: Global, step: &Step) -> Result<Proposal, NoMemory>
+    pub fn propose_plain(&self, alloc: Global, step: &Step) -> Result<Proposal, AllocError>
         requires { IsPlain step.now }
         ensures { IfOk result (IsPlainProposal self.now.kept.state step.now) }
     {
@@ -137,7 +145,7 @@ impl Session {
 
     /// Makes room for what was proposed. But for this room the session stays as it is, after an error too, which comes only for
     /// want of memory.
-    pub fn reserve(&mut self, proposal: &Proposal) -> Result<(), NoMemory>
+    pub fn reserve(&mut self, proposal: &Proposal) -> Result<(), AllocError>
         ensures owner { self.new.owner ≡ self.old.owner }
         ensures key { self.new.key ≡ self.old.key }
         ensures state { self.new.kept.state ≡ self.old.kept.state }

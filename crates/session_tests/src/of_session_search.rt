@@ -9,7 +9,7 @@ use refutation_check::Log;
 use rel_formula::{Expression, Formula};
 use sample_problems::{bits_of, set_of};
 use sample_translations::translation_of;
-use session_rules::answers::{Refusal, Reply};
+use session_rules::{Refusal, Reply};
 use session_search::Session;
 use session_words::{AtomName, AtomNames, Step};
 use std::alloc::{AllocError, Global};
@@ -126,7 +126,7 @@ fn answer(
     ensures fits { OnOk result (FitsProblem made.now.problem session.new.kept) }
     ensures few { OnOk result (length session.new.kept.state.shown ≤ length session.old.kept.state.shown + 1) }
 {
-    let _problem = made.problem();
+    let _problem = made.problem(); // for the proof
     let proposal = session.propose_plain(alloc, &step)?;
     let told = told_of(proposal.reply());
     session.reserve(&proposal)?;

@@ -3,8 +3,7 @@ ghost use Rattle.std.specs.Prelude.{◌≡◌, []};
 
 use refutation_check::Log;
 use rel_formula::Scenario;
-use session_rules::answers::Reply;
-use session_rules::{EndProof, Scenarios};
+use session_rules::{EndProof, Reply, Scenarios};
 use session_store::SessionStore;
 use std::alloc::{AllocError, Global};
 use std::test::Fail;

@@ -1,3 +1,4 @@
+// The order of deciding beside a look at each variable.
 use activity_order::ActivityOrder;
 use std::alloc::Global;
 use std::test::Fail;
@@ -114,5 +115,15 @@ fn halved_activities_are_in_order(rt: HostRuntime) -> Result<(), Fail> {
         put_back(&mut order, turn % 5);
         take(&mut order)?;
     }
+    Ok(())
+}
+
+#[test]
+fn a_copy_has_the_same_order(rt: HostRuntime) -> Result<(), Fail> {
+    let mut order = ActivityOrder::new(rt.alloc(), 3)?;
+    raise(&mut order, 2);
+    let mut copy = order.copy(rt.alloc())?;
+    let taken = take_all(rt.alloc(), &mut copy)?;
+    assert_eq!(rt; taken.as_slice(), [2, 0, 1].as_slice());
     Ok(())
 }

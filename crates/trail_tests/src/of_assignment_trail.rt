@@ -1,3 +1,4 @@
+// Literals on the trail, cuts and copies.
 ghost use Rattle.std.specs.Prelude.{◌≡◌, ◌≤◌};
 
 use assignment_trail::{Assigned, Assignment};
@@ -21,7 +22,7 @@ fn assign(now: &mut Assignment, lit: Lit, level: u32) -> Result<(), Fail>
     requires in_range { lit.var ≤ now.old.vars }
     ensures { now.new.vars ≡ now.old.vars }
 {
-    let _vars = now.vars();
+    let _vars = now.vars(); // for the proof
     match now.value(code_of(lit)) {
         None => now.assign(Assigned {
             lit,
@@ -60,5 +61,15 @@ fn a_cut_undoes_the_newest_literals(rt: HostRuntime) -> Result<(), Fail> {
         reason: None,
     };
     assert_eq!(rt; now.literals(), [first].as_slice());
+    Ok(())
+}
+
+#[test]
+fn a_copy_has_the_same_literals(rt: HostRuntime) -> Result<(), Fail> {
+    let mut now = Assignment::none(rt.alloc(), 3)?;
+    assign(&mut now, A, 1)?;
+    let mut copy = now.copy(rt.alloc())?;
+    assign(&mut copy, NOT_B, 2)?;
+    assert_eq!(rt; (copy.len(), copy.level(), now.len()), (2, 2, 1));
     Ok(())
 }

@@ -1,3 +1,4 @@
+// Clauses in the store.
 ghost use Rattle.std.specs.Prelude.{◌+◌, ◌<◌, ◌≡◌, ◌^◌, All, IfOk, length};
 ghost use Rattle.cnf_core.specs.Literal.{IsVariable};
 
@@ -64,5 +65,15 @@ fn clauses_of_none_one_and_three_literals_are_stored(rt: HostRuntime) -> Result<
     assert_eq!(rt; store.len(), 3);
     assert_eq!(rt; store.codes(2), [4].as_slice());
     assert_eq!(rt; store.codes(3), [3].as_slice());
+    Ok(())
+}
+
+#[test]
+fn a_copy_has_the_same_clauses(rt: HostRuntime) -> Result<(), Fail> {
+    let alloc = rt.alloc();
+    let mut store = Store::new(alloc);
+    push(alloc, &mut store, &[C, A])?;
+    let copy = store.copy(alloc)?;
+    assert_eq!(rt; copy.codes(1), [3, 4_294_967_295].as_slice());
     Ok(())
 }

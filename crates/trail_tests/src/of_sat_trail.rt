@@ -1,11 +1,12 @@
+// Propagation and learning over four variables.
 ghost use Rattle.std.specs.Prelude.{◌≡◌, ◌+◌, ◌≤◌, length};
 ghost use Rattle.cnf_core.specs.Literal.{HasVarsUpTo};
 ghost use Rattle.refutation_check.specs.Chain.{IsChain, Refutes};
 ghost use Rattle.assignment_trail.specs.Trail.{falses_of};
 
-use cnf_core::{Clause, Cnf, Lit};
+use cnf_core::{Clause, Cnf, Lit, Valuation};
 use refutation_check::{Log, Step};
-use sat_trail::{Propagated, Trail, learn};
+use sat_trail::{Leaning, Propagated, Trail, learn};
 use std::alloc::Global;
 use std::process::Abort;
 
@@ -44,9 +45,9 @@ fn add(rt: &impl Abort, alloc: Global, formula: &mut Cnf, numbers: [i8; 2])
     formula.push(clause).expect(rt, "memory");
 }
 
-/// A trail over these clauses of four variables.
-fn trail_of(rt: &impl Abort, alloc: Global, clauses: [[i8; 2]; 4]) -> Trail
-    ensures vars { 4 ≤ result.vars }
+/// A formula of these clauses of four variables.
+fn formula_of(rt: &impl Abort, alloc: Global, clauses: [[i8; 2]; 4]) -> Cnf
+    ensures vars { result.vars ≡ 4 }
     ensures few { length result.clauses ≡ 4 }
 {
     let mut formula = Cnf::new(alloc, 4);
@@ -54,6 +55,15 @@ fn trail_of(rt: &impl Abort, alloc: Global, clauses: [[i8; 2]; 4]) -> Trail
     add(rt, alloc, &mut formula, clauses[1]);
     add(rt, alloc, &mut formula, clauses[2]);
     add(rt, alloc, &mut formula, clauses[3]);
+    formula
+}
+
+/// A trail over these clauses of four variables.
+fn trail_of(rt: &impl Abort, alloc: Global, clauses: [[i8; 2]; 4]) -> Trail
+    ensures vars { 4 ≤ result.vars }
+    ensures few { length result.clauses ≡ 4 }
+{
+    let formula = formula_of(rt, alloc, clauses);
     let none = Log::new(alloc);
     Trail::of(alloc, &formula, &none, &[]).expect(rt, "memory")
 }
@@ -156,19 +166,66 @@ fn two_conflicts_refute_the_square(rt: HostRuntime) {
 #[test]
 fn the_first_variable_is_decided_where_nothing_was_met(rt: HostRuntime) {
     let mut trail = trail_of(&rt, rt.alloc(), IMPLICATIONS);
-    assert_eq!(rt; trail.decide_next(true), Some(1));
-    assert_eq!(rt; trail.value(1), Some(true));
+    let leaning = Leaning::towards(rt.alloc(), false);
+    assert_eq!(rt; trail.decide_next(&leaning), Some(literal(-1)));
+    assert_eq!(rt; trail.value(1), Some(false));
 }
 
 /// What is decided in five turns.
-fn decided(trail: &mut Trail) -> [Option<u32>; 5] {
+fn decided(trail: &mut Trail, leaning: &Leaning) -> [Option<Lit>; 5] {
     [
-        trail.decide_next(false),
-        trail.decide_next(false),
-        trail.decide_next(false),
-        trail.decide_next(false),
-        trail.decide_next(false),
+        trail.decide_next(leaning),
+        trail.decide_next(leaning),
+        trail.decide_next(leaning),
+        trail.decide_next(leaning),
+        trail.decide_next(leaning),
     ]
+}
+
+/// A trail over these clauses of four variables and one local clause, from a trail over them and five variables.
+fn grown_trail(rt: &impl Abort, alloc: Global, local: &[Clause]) -> Trail
+    requires few { length local.now ≤ 4 }
+    ensures vars { 5 ≤ result.vars }
+{
+    let formula = formula_of(rt, alloc, SQUARE);
+    let base = Trail::over(alloc, &formula, 5).expect(rt, "memory");
+    let none = Log::new(alloc);
+    base.grown(alloc, &formula, &none, local)
+        .expect(rt, "memory")
+}
+
+#[test]
+fn a_grown_trail_has_the_local_clauses(rt: HostRuntime) {
+    let local = [clause(&rt, rt.alloc(), [3, 4])];
+    let mut trail = grown_trail(&rt, rt.alloc(), &local);
+    decide(&rt, &mut trail, -3);
+    assert_eq!(rt; trail.propagate(), Propagated::Closed);
+    assert_eq!(rt; trail.value(4), Some(true));
+}
+
+#[test]
+fn what_leans_to_true_is_decided_true(rt: HostRuntime) {
+    let leaning = Leaning::towards(rt.alloc(), true);
+    let mut trail = trail_of(&rt, rt.alloc(), IMPLICATIONS);
+    assert_eq!(rt; trail.decide_next(&leaning), Some(literal(1)));
+    assert!(rt; leaning.value(5));
+}
+
+/// What leans to a valuation in which the one variable is true, and else to false.
+fn followed(rt: &impl Abort, alloc: Global) -> Leaning {
+    let mut leaning = Leaning::towards(alloc, false);
+    let values = vec![in alloc; true; 1].expect(rt, "memory");
+    leaning
+        .follow(alloc, &Valuation::of(values))
+        .expect(rt, "memory");
+    leaning
+}
+
+#[test]
+fn a_valuation_is_followed(rt: HostRuntime) {
+    let leaning = followed(&rt, rt.alloc());
+    assert!(rt; leaning.value(1));
+    assert!(rt; !leaning.value(2));
 }
 
 #[test]
@@ -177,8 +234,24 @@ fn what_a_step_met_is_decided_first(rt: HostRuntime) {
     decide(&rt, &mut trail, 1);
     let step = learnt(&rt, rt.alloc(), &mut trail);
     add_fifth(&rt, &mut trail, step);
+    let leaning = Leaning::towards(rt.alloc(), false);
     assert_eq!(rt;
-        decided(&mut trail),
-        [Some(2), Some(3), Some(4), Some(1), None]
+        decided(&mut trail, &leaning),
+        [
+            Some(literal(-2)),
+            Some(literal(-3)),
+            Some(literal(-4)),
+            Some(literal(-1)),
+            None
+        ]
     );
+}
+
+#[test]
+fn a_copy_is_decided_by_itself(rt: HostRuntime) {
+    let trail = trail_of(&rt, rt.alloc(), SQUARE);
+    let mut copy = trail.copy(rt.alloc()).expect(&rt, "memory");
+    decide(&rt, &mut copy, -1);
+    assert_eq!(rt; conflict(&rt, &mut copy), 1);
+    assert_eq!(rt; state_of(&trail), (0, None, None));
 }

@@ -1,3 +1,4 @@
+// Slots and their lists.
 ghost use Rattle.std.specs.Prelude.{◌≡◌, ◌-◌, ◌<◌, ◌∷◌, [], IfOk, length, slice_index_or};
 
 use std::alloc::Global;
@@ -81,5 +82,13 @@ fn the_last_slot_moves(rt: HostRuntime) -> Result<(), Fail> {
     let (of_two, of_three) = lists_after(rt.alloc(), 2, 2, 0)?;
     assert_eq!(rt; of_two.as_slice(), [3, 2].as_slice());
     assert_eq!(rt; of_three.as_slice(), [0, 1].as_slice());
+    Ok(())
+}
+
+#[test]
+fn a_copy_has_the_same_lists(rt: HostRuntime) -> Result<(), Fail> {
+    let alloc = rt.alloc();
+    let copy = four_slots(alloc)?.copy(alloc)?;
+    assert_eq!(rt; slots_of(alloc, &copy, 2)?.as_slice(), [3, 2, 0].as_slice());
     Ok(())
 }

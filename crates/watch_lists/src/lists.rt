@@ -1,8 +1,9 @@
+// The lists of the slots that watch a literal.
 ghost use Rattle.std.specs.Prelude.{◌≡◌, ◌≢◌, ◌+◌, ◌-◌, ◌<◌, ◌≤◌, ◌^◌, ◌++◌, ◌∷◌, [], ℕ, IfOk, OnOk, OnErr, length, replicate, slice_index_or, slice_set, vec_len, vec_capacity};
 ghost use Rattle.watch_lists.specs.WatchState.{list_at, link_at, moved, with_slot, IsListed};
 ghost use Rattle.watch_lists.specs.Steps.{unlinked_first, unlinked_slots};
 
-use std::alloc::{AllocError as NoMemory, Global};
+use std::alloc::{AllocError, Global};
 use std::marker::Model;
 
 /// A watched place of a clause: the number of the literal, and the link to the next place that has it.
@@ -34,13 +35,13 @@ impl Model for WatchLists {
     ghost invariant = { IsKept };
 }
 
-fn no_links(alloc: Global, count: usize) -> Result<Vec<u32>, NoMemory>
+fn no_links(alloc: Global, count: usize) -> Result<Vec<u32>, AllocError>
     ensures { IfOk result (λ v. v.items ≡ replicate count 0) }
 {
     vec![in alloc; 0; count]
 }
 
-/// One slot more at the end, where there is room for it, linked before its list.
+// One slot more at the end, where there is room for it, linked before its list.
 fn put(first: &mut Vec<u32>, slots: &mut Vec<Slot>, code: u32)
     requires code { code < length first.old.items }
     requires small { length slots.old.items + 1 < 2 ^ 32 }
@@ -55,7 +56,7 @@ fn put(first: &mut Vec<u32>, slots: &mut Vec<Slot>, code: u32)
     first[code as usize] = slots.len() as u32;
 }
 
-/// Takes a slot off a list, where the slot before it is known.
+// Takes a slot off a list, where the slot before it is known.
 fn unlink(first: &mut Vec<u32>, slots: &mut Vec<Slot>, from: u32, at: u32, before: u32, slot: u32)
     requires from { from < length first.old.items }
     requires slot { slot < length slots.old.items }
@@ -71,7 +72,7 @@ fn unlink(first: &mut Vec<u32>, slots: &mut Vec<Slot>, from: u32, at: u32, befor
     }
 }
 
-/// Puts a slot at the front of a list.
+// Puts a slot at the front of a list.
 fn relink(first: &mut Vec<u32>, slots: &mut Vec<Slot>, slot: u32, to: u32)
     requires to { to < length first.old.items }
     requires slot { slot < length slots.old.items }
@@ -88,7 +89,7 @@ fn relink(first: &mut Vec<u32>, slots: &mut Vec<Slot>, slot: u32, to: u32)
 
 impl WatchLists {
     /// No slots, and an empty list for each number below this one.
-    pub fn new(alloc: Global, codes: usize) -> Result<WatchLists, NoMemory>
+    pub fn new(alloc: Global, codes: usize) -> Result<WatchLists, AllocError>
         ensures { IfOk result (λ w. w ≡ record { codes = []; lists = replicate codes [] }) }
     {
         let first = no_links(alloc, codes)?;
@@ -96,6 +97,15 @@ impl WatchLists {
             first,
             slots: Vec::new(alloc),
         })
+    }
+
+    /// Equal lists of the same slots.
+    pub fn copy(&self, alloc: Global) -> Result<WatchLists, AllocError>
+        ensures { IfOk result (λ w. w ≡ self.now) }
+    {
+        let first = Vec::from_slice(alloc, self.first.as_slice())?;
+        let slots = Vec::from_slice(alloc, self.slots.as_slice())?;
+        Ok(WatchLists { first, slots })
     }
 
     /// The number of slots.
@@ -133,7 +143,7 @@ impl WatchLists {
 
     /// Two slots more, those of a clause, which watch these numbers: each comes to the front of its list. After an error
     /// all is as before.
-    pub fn push(&mut self, one: u32, other: u32) -> Result<(), NoMemory>
+    pub fn push(&mut self, one: u32, other: u32) -> Result<(), AllocError>
         requires one { one < length self.old.lists }
         requires other { other < length self.old.lists }
         requires room { length self.old.codes + 2 < 2 ^ 32 }

@@ -2,6 +2,6 @@ pub mod Closing
 pub mod Cuts
 pub mod Keeping
 pub mod Loops
-pub mod Marking
+pub mod MarkLists
 pub mod Slots
 pub mod Steps

@@ -1,15 +1,16 @@
+// Going back to a level.
 ghost use Rattle.std.specs.Prelude.{◌≡◌, ◌≤◌, ◌<◌, ◌-◌, ℕ, List, length, slice_index_or};
 ghost use Rattle.cnf_core.specs.declared.literal.Lit.{Lit};
 ghost use Rattle.assignment_trail.specs.declared.assigned.Assigned.{Assigned};
 ghost use Rattle.assignment_trail.specs.Trail.{IsTrail, IsBackTo};
 ghost use Rattle.watched_literals.specs.Walk.{IsReady};
 
-use super::pending::Pending;
+use crate::pending::Pending;
 use assignment_trail::Assignment;
 use clause_store::Store;
 use watch_lists::WatchLists;
 
-/// How many of the oldest literals are at most of this level.
+// How many of the oldest literals are at most of this level.
 fn count_up_to(now: &Assignment, level: u32) -> usize
     ensures within { result ≤ length now.now.assigned }
     ensures above { (j : ℕ) (d : Assigned) → result ≤ j → j < length now.now.assigned → level < (slice_index_or now.now.assigned j d).level }

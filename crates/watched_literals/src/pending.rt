@@ -1,9 +1,9 @@
-ghost use Rattle.std.specs.Prelude.{◌≡◌, ◌+◌, ◌-◌, ◌^◌, ◌++◌, ◌∷◌, [], ◌<◌, ◌≤◌, OnOk, OnErr, length, true, false, if◌then◌else◌, slice_index_or, slice_set, take, vec_len, vec_capacity};
+// Which clauses are marked.
+ghost use Rattle.std.specs.Prelude.{◌≡◌, ◌+◌, ◌-◌, ◌^◌, ◌++◌, ◌∷◌, [], ◌<◌, ◌≤◌, IfOk, OnOk, OnErr, length, true, false, if◌then◌else◌, slice_index_or, slice_set, take, vec_len, vec_capacity};
 ghost use Rattle.std.specs.List.{swap_remove};
 ghost use Rattle.watched_literals.specs.PendingState.{IsMarkList};
 
-use cnf_core::NoMemory;
-use std::alloc::Global;
+use std::alloc::{AllocError, Global};
 use std::marker::Model;
 
 /// Which clauses are marked, and a list of those that are. Contracts see both.
@@ -25,7 +25,7 @@ impl Model for Pending {
     ghost invariant = { IsPended };
 }
 
-/// Marks a clause, where there is room for it on the list.
+// Marks a clause, where there is room for it on the list.
 fn put_mark(flags: &mut Vec<bool>, list: &mut Vec<u32>, n: u32)
     requires in_range { n < length flags.old.items }
     requires room { vec_len list.old < vec_capacity list.old }
@@ -37,8 +37,8 @@ fn put_mark(flags: &mut Vec<bool>, list: &mut Vec<u32>, n: u32)
     let _ = list.push(n);
 }
 
-/// One clause more, with room for its mark on the list. After an error the items are as before.
-fn put_flag(flags: &mut Vec<bool>, list: &mut Vec<u32>, is_marked: bool) -> Result<(), NoMemory>
+// One clause more, with room for its mark on the list. After an error the items are as before.
+fn put_flag(flags: &mut Vec<bool>, list: &mut Vec<u32>, is_marked: bool) -> Result<(), AllocError>
     requires small { length flags.old.items + 1 < 2 ^ 32 }
     ensures flags { OnOk result (flags.new.items ≡ flags.old.items ++ is_marked ∷ []) }
     ensures list { OnOk result (list.new.items ≡ (if is_marked then list.old.items ++ length flags.old.items ∷ [] else list.old.items)) }
@@ -56,7 +56,7 @@ fn put_flag(flags: &mut Vec<bool>, list: &mut Vec<u32>, is_marked: bool) -> Resu
     Ok(())
 }
 
-/// Takes the last flag away.
+// Takes the last flag away.
 fn cut_flag(flags: &mut Vec<bool>)
     requires { 0 < length flags.old.items }
     ensures { flags.new.items ≡ take (length flags.old.items - 1) flags.old.items }
@@ -76,8 +76,18 @@ impl Pending {
         }
     }
 
+    /// As many clauses, of which the same are marked.
+    pub fn copy(&self, alloc: Global) -> Result<Pending, AllocError>
+        ensures { IfOk result (λ p. p ≡ self.now) }
+    {
+        let flags = Vec::from_slice(alloc, self.flags.as_slice())?;
+        let mut list = Vec::with_capacity(alloc, self.flags.len())?;
+        list.extend_from_slice(self.list.as_slice())?;
+        Ok(Pending { flags, list })
+    }
+
     /// One clause more, marked or not. After an error all is as before.
-    pub fn push(&mut self, is_marked: bool) -> Result<(), NoMemory>
+    pub fn push(&mut self, is_marked: bool) -> Result<(), AllocError>
         requires { length self.old.flags + 1 < 2 ^ 32 }
         ensures ok { OnOk result (self.new ≡ record { flags = self.old.flags ++ is_marked ∷ []; list = if is_marked then self.old.list ++ length self.old.flags ∷ [] else self.old.list }) }
         ensures err { OnErr result (self.new ≡ self.old) }

@@ -1,3 +1,4 @@
+// The walk over the slots that watch a literal that became false.
 ghost use Rattle.std.specs.Prelude.{◌≡◌, MatchOption, ◌+◌, ◌-◌, ◌/◌, ◌<◌, ◌≤◌, ◌^◌, ◌++◌, ◌∷◌, [], ℕ, All, Contains, None, length, slice_index_or, slice_set, Some, if◌then◌else◌, IsTrue, IsFalse, true, false};
 ghost use Rattle.std.specs.List.{remove};
 ghost use Rattle.cnf_core.specs.Literal.{negation_of};
@@ -10,7 +11,7 @@ ghost use Rattle.assignment_trail.specs.Trail.{falses_of, level_of, ForcesMore};
 ghost use Rattle.watched_literals.specs.Rule.{twin, watched};
 ghost use Rattle.watched_literals.specs.Walk.{IsReplacement, IsWalking, IsAtSlot, IsFalseBut, IsStepped, IsWalked, IsReady, IsDrawn};
 
-use super::pending::Pending;
+use crate::pending::Pending;
 use assignment_trail::{Assigned, Assignment};
 use clause_store::{Store, code_of, literal_of};
 use watch_lists::WatchLists;
@@ -26,7 +27,7 @@ enum Step {
     Falsified,
 }
 
-/// The other slot of the same clause.
+// The other slot of the same clause.
 fn twin_of(slot: u32) -> u32
     requires { slot + 1 < 2 ^ 32 }
     ensures { result ≡ twin slot }
@@ -34,7 +35,7 @@ fn twin_of(slot: u32) -> u32
     if slot % 2 == 0 { slot + 1 } else { slot - 1 }
 }
 
-/// A literal of the clause that may be watched in place of a false one, or none.
+// A literal of the clause that may be watched in place of a false one, or none.
 fn replacement(codes: &[u32], now: &Assignment, other: u32) -> Option<u32>
     requires { All (λ c. c / 2 ≤ now.now.vars) codes.now }
     ensures { IsReplacement (falses_of now.now.assigned) now.now.vars (literals_of codes.now) other result }
@@ -50,7 +51,7 @@ fn replacement(codes: &[u32], now: &Assignment, other: u32) -> Option<u32>
     None
 }
 
-/// What the other slot of the clause watches.
+// What the other slot of the clause watches.
 fn other_of(
     store: &Store,
     watches: &WatchLists,
@@ -65,11 +66,11 @@ fn other_of(
     ensures code { result ≡ slice_index_or watches.now.codes (twin slot) 0 }
     ensures low { result / 2 ≤ now.now.vars }
 {
-    let _count = watches.len();
+    let _ = watches.len(); // for the proof
     watches.code(twin_of(slot))
 }
 
-/// Marks a clause where the answer is yes.
+// Marks a clause where the answer is yes.
 fn mark_if(pending: &mut Pending, n: u32, is_high: bool)
     requires { n < length pending.old.flags }
     ensures { pending.new.flags ≡ (if is_high then slice_set pending.old.flags n true else pending.old.flags) }
@@ -79,7 +80,7 @@ fn mark_if(pending: &mut Pending, n: u32, is_high: bool)
     }
 }
 
-/// The other literal of the clause is true: the slot stays, and the clause is marked where that is so at a higher level.
+// The other literal of the clause is true: the slot stays, and the clause is marked where that is so at a higher level.
 fn keep(
     store: &Store,
     watches: &WatchLists,
@@ -95,13 +96,13 @@ fn keep(
     ensures { IsWalking store.now watches.now now.now pending.new.flags drawn gone (at + 1) }
 {
     let other = other_of(store, watches, now, pending, drawn, gone, at, slot);
-    let _count = watches.len();
+    let _ = watches.len(); // for the proof
     let is_high = now.level_of(other) > now.at(drawn).level;
     mark_if(pending, slot / 2, is_high);
 }
 
-/// All literals of the clause but the other one are false, and that one is open: it is made true, and the clause is
-/// marked where that is so at a higher level.
+// All literals of the clause but the other one are false, and that one is open: it is made true, and the clause is
+// marked where that is so at a higher level.
 fn force(
     store: &Store,
     watches: &WatchLists,
@@ -121,7 +122,7 @@ fn force(
     ensures more { now.new ≡ record now.old { assigned = now.old.assigned ++ record { lit = watched watches.now.codes (twin slot); level = level; reason = Some (slot / 2 + 1) } ∷ [] } }
 {
     let other = other_of(store, watches, now, pending, drawn, gone, at, slot);
-    let _count = watches.len();
+    let _count = watches.len(); // for the proof
     let _clauses = store.len();
     let is_high = level > now.at(drawn).level;
     now.assign(Assigned {
@@ -132,7 +133,7 @@ fn force(
     mark_if(pending, slot / 2, is_high);
 }
 
-/// Watches another literal of the clause in place of the false one, if there is one that isn't false.
+// Watches another literal of the clause in place of the false one, if there is one that isn't false.
 fn replace(
     store: &Store,
     watches: &mut WatchLists,
@@ -152,9 +153,9 @@ fn replace(
     ensures others { IsFalse result → IsFalseBut store.now (falses_of now.now.assigned) (slot / 2) (watched watches.old.codes (twin slot)) }
 {
     let other = other_of(store, watches, now, pending, drawn, gone, at, slot);
-    let _count = watches.len();
+    let _count = watches.len(); // for the proof
     let _clauses = store.len();
-    let _count_true = now.len();
+    let _count_true = now.len(); // for the proof
     match replacement(store.codes(slot / 2 + 1), now, other) {
         Some(code) => {
             watches.bring(gone, at, before, slot, code);
@@ -164,7 +165,7 @@ fn replace(
     }
 }
 
-/// Looks at one slot of a literal that became false.
+// Looks at one slot of a literal that became false.
 fn look_at(
     store: &Store,
     watches: &mut WatchLists,
@@ -192,7 +193,7 @@ fn look_at(
             Step::Kept
         }
         Some(false) => {
-            let _count = watches.len();
+            let _ = watches.len(); // for the proof
             if replace(store, watches, now, pending, drawn, gone, at, before, slot) {
                 return Step::Moved;
             }
@@ -208,7 +209,7 @@ fn look_at(
     }
 }
 
-/// Draws the consequences of a literal that became false: none, or the place of a clause that is falsified.
+// Draws the consequences of a literal that became false: none, or the place of a clause that is falsified.
 fn draw(
     store: &Store,
     watches: &mut WatchLists,
@@ -232,7 +233,7 @@ fn draw(
     let mut link = watches.first(gone);
     'slots: while link != 0 {
         let slot = link - 1;
-        let _count = watches.len();
+        let _count = watches.len(); // for the proof
         let next = watches.next(slot);
         match look_at(
             store, watches, now, pending, drawn, gone, at, before, slot, level,
@@ -246,7 +247,7 @@ fn draw(
         }
         link = next;
     }
-    let _count = watches.len();
+    let _count = watches.len(); // for the proof
     None
 }
 

@@ -4,7 +4,7 @@ use Rattle.std.proofs.lemmas.List.Elements.{All-contains, Contains-push}
 use Rattle.refutation_check.specs.Assumed.{IsOpen}
 use Rattle.assignment_trail.specs.declared.assigned.Assigned.{Assigned}
 use Rattle.assignment_trail.specs.Trail.{falses_of}
-use Rattle.assignment_trail.proofs.Marked.{Marks-unset, count_unmarked}
+use Rattle.assignment_trail.proofs.TrailMarks.{Marks-unset, count_unmarked}
 use Rattle.assignment_trail.proofs.Trails.{All-front, falses_of-push}
 use Rattle.assignment_trail.proofs.Holding.{cut_facts}
 use Rattle.assignment_trail.proofs.assignment.cut_to.Goals as goal

@@ -1,5 +1,5 @@
 use Rattle.refutation_check.proofs.Sights.{beq_differ}
-use Rattle.assignment_trail.proofs.Marked.{marks_consistent}
+use Rattle.assignment_trail.proofs.TrailMarks.{marks_consistent}
 use Rattle.assignment_trail.proofs.Holding.{beq_same, value_true, value_false}
 use Rattle.clause_store.specs.Codes.{literal_of}
 use Rattle.assignment_trail.proofs.assignment.value_in.Goals as goal

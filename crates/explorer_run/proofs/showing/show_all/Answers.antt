@@ -4,7 +4,7 @@ use Rattle.session_rules.specs.States.{top_floor, shown_here}
 use Rattle.session_rules.specs.declared.answers.Reply.TheVariants.{Partly}
 use Rattle.explorer_run.specs.Serving.{CommandStep, IsPrintable}
 use Rattle.explorer_run.specs.Showing.{HasShown, IsFirst}
-use Rattle.explorer_run.proofs.Shown.{shown_none, comes_to_memory, shows_partly}
+use Rattle.explorer_run.proofs.ShownScenarios.{shown_none, comes_to_memory, shows_partly}
 use Rattle.explorer_run.proofs.Stepping.{on_wider, partly_printable}
 use Rattle.explorer_run.proofs.showing.show_all.Goals as goal
 

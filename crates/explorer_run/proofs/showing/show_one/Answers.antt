@@ -4,7 +4,7 @@ use Rattle.session_words.specs.declared.commands.Command.TheVariants.{All}
 use Rattle.session_rules.specs.declared.answers.Reply.{Reply}
 use Rattle.explorer_run.specs.Serving.{CommandStep, IsPrintable}
 use Rattle.explorer_run.specs.Showing.{HasShown, IsFirst}
-use Rattle.explorer_run.proofs.Shown.{shown_one, number_is, first_stays, comes_to_other, lists_all, ends_without_memory}
+use Rattle.explorer_run.proofs.ShownScenarios.{shown_one, number_is, first_stays, comes_to_other, lists_all, ends_without_memory}
 use Rattle.explorer_run.proofs.Stepping.{list_printable}
 use Rattle.explorer_run.proofs.showing.show_one.Goals as goal
 

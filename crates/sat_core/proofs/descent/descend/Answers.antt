@@ -27,7 +27,7 @@ pub returns-in-Conflict-clause-end : goal.returns-in-Conflict-clause-end
 returns-in-Conflict-clause-end c =
     let was = c.deciding.invariant in
     let now = c.in-Conflict.ensures in
-    let literal : Lit = record { var = c.in-Some-decide_next._var; positive = c.args.value } in
+    let literal : Lit = c.in-Some-decide_next._lit in
     let a : Assigned = record { lit = literal; level = level_of c.deciding.trail.assigned + 1; reason = None } in
     let made = c.in-Some-decide_next.ensures.decided in
     let forces = subst (λ (t : Trailed). ForcesMore t.assigned c.propagate.new.self.assigned) made now.assigned in
@@ -37,7 +37,7 @@ pub returns-in-Conflict-clause-first : goal.returns-in-Conflict-clause-first
 returns-in-Conflict-clause-first c =
     let was = c.deciding.invariant in
     let now = c.in-Conflict.ensures in
-    let literal : Lit = record { var = c.in-Some-decide_next._var; positive = c.args.value } in
+    let literal : Lit = c.in-Some-decide_next._lit in
     let a : Assigned = record { lit = literal; level = level_of c.deciding.trail.assigned + 1; reason = None } in
     let made = c.in-Some-decide_next.ensures.decided in
     let forces = subst (λ (t : Trailed). ForcesMore t.assigned c.propagate.new.self.assigned) made now.assigned in
@@ -47,7 +47,7 @@ pub deciding-preserved : goal.deciding-preserved
 deciding-preserved c =
     let was = c.deciding.invariant in
     let now = c.in_default-propagate.ensures in
-    let literal : Lit = record { var = c.in-Some-decide_next._var; positive = c.args.value } in
+    let literal : Lit = c.in-Some-decide_next._lit in
     let a : Assigned = record { lit = literal; level = level_of c.deciding.trail.assigned + 1; reason = None } in
     let made = c.in-Some-decide_next.ensures.decided in
     let forces = subst (λ (t : Trailed). ForcesMore t.assigned c.propagate.new.self.assigned) made now.assigned in

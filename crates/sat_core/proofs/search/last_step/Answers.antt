@@ -15,7 +15,7 @@ loop-step-init c =
     let made = c.in_ok-trail.ensures in
     record {
       clauses = made.clauses ∙ sym (members_none (members_of (c.args.f.now.clauses ++ c.args.local.now) c.args.pool.now));
-      within = subst (All (HasVarsUpTo c.in_ok-trail.trail.vars)) made.clauses made.vars.within;
+      within = subst (All (HasVarsUpTo c.in_ok-trail.trail.vars)) made.clauses c.vars.ensures.within;
       assigned = made.assigned;
     }
 

@@ -8,7 +8,7 @@ use Rattle.sat_core.proofs.search.learn_from.Goals as goal
 pub back_level-level-requires-clause-asserting : goal.back_level-level-requires-clause-asserting
 back_level-level-requires-clause-asserting c =
     let learnt = c.in_ok-step.ensures in
-    rw c.lits.ensures.lits (learnt.asserting (learnt_high c.args.trail.now c.args.conflict c.level-level.ensures.trail c.requires.conflict c.requires.deep c.in_ok-step.step learnt.chain learnt.empty))
+    rw c.lits.ensures.lits (learnt.asserting (learnt_high c.args.trail.now c.args.conflict c.level.ensures.trail c.requires.conflict c.requires.deep c.in_ok-step.step learnt.chain learnt.empty))
 
 pub step-requires-clause-hints : goal.step-requires-clause-hints
 step-requires-clause-hints c =
@@ -17,8 +17,8 @@ step-requires-clause-hints c =
 pub returns : goal.returns
 returns c =
     let learnt = c.in_ok-step.ensures in
-    let above = learnt_high c.args.trail.now c.args.conflict c.level-level.ensures.trail c.requires.conflict c.requires.deep c.in_ok-step.step learnt.chain learnt.empty in
+    let above = learnt_high c.args.trail.now c.args.conflict c.level.ensures.trail c.requires.conflict c.requires.deep c.in_ok-step.step learnt.chain learnt.empty in
     let closed = rw c.lits.ensures.lits at c.back_level-level.ensures.closed in
-    learnt_progress c.args.trail.now c.args.conflict c.level-level.ensures.trail c.requires.conflict c.requires.deep c.in_ok-step.step learnt.chain _ c.back_to.new.self c.add.new.self _ _ c.back_level-level.result
+    learnt_progress c.args.trail.now c.args.conflict c.level.ensures.trail c.requires.conflict c.requires.deep c.in_ok-step.step learnt.chain _ c.back_to.new.self c.add.new.self _ _ c.back_level-level.result
     learnt.given (learnt.asserting above) (learnt.novel above c.requires.closed_below) (c.in_ok-push.ensures.ok ∙ ap (λ (s : Step). c.args.log.now ++ s ∷ []) c.in_ok-step-2.ensures) c.in_ok-add.ensures.ok c.back_to.ensures.vars c.back_to.ensures.clauses
     c.back_to.ensures.assigned (closed c.requires.closed_below c.back_to.new.self.assigned c.back_to.ensures.assigned)

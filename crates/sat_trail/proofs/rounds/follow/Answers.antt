@@ -8,28 +8,28 @@ use Rattle.sat_trail.proofs.Readiness.{ready_push}
 use Rattle.sat_trail.proofs.rounds.follow.Goals as goal
 
 pub look-requires-clause-clause : goal.look-requires-clause-clause
-look-requires-clause-clause c = looked_clause _ _ _ _ _ _ c.args.n c.codes.result.now c.requires.ready c.len-clauses.ensures.clauses c.requires.in_range c.codes.ensures
+look-requires-clause-clause c = looked_clause _ _ _ _ _ _ c.args.n c.codes.result.now c.requires.ready c.len.ensures.clauses c.requires.in_range c.codes.ensures
 
 pub look-requires-clause-in_range : goal.look-requires-clause-in_range
-look-requires-clause-in_range c = looked_range _ _ _ _ _ _ c.args.n c.codes.result.now c.requires.ready c.len-clauses.ensures.clauses c.requires.in_range c.codes.ensures
+look-requires-clause-in_range c = looked_range _ _ _ _ _ _ c.args.n c.codes.result.now c.requires.ready c.len.ensures.clauses c.requires.in_range c.codes.ensures
 
 pub assign-requires-clause-is_open : goal.assign-requires-clause-is_open
 assign-requires-clause-is_open c = (c.in-Unit.ensures.not_false, c.in-Unit.ensures.not_true)
 
 pub assign-requires-clause-in_range : goal.assign-requires-clause-in_range
 assign-requires-clause-in_range c =
-    let made = looked_unit _ _ _ _ _ _ c.args.n c.codes.result.now c.requires.ready c.len-clauses.ensures.clauses c.requires.in_range c.codes.ensures c.in-Unit.lit c.args.level c.in-Unit.ensures c.requires.level in
+    let made = looked_unit _ _ _ _ _ _ c.args.n c.codes.result.now c.requires.ready c.len.ensures.clauses c.requires.in_range c.codes.ensures c.in-Unit.lit c.args.level c.in-Unit.ensures c.requires.level in
     made.1
 
 pub returns-in-Falsified-clause-followed : goal.returns-in-Falsified-clause-followed
-returns-in-Falsified-clause-followed c = looked_falsified _ _ _ _ _ _ c.args.n c.codes.result.now c.requires.ready c.len-clauses.ensures.clauses c.requires.in_range c.codes.ensures c.in-Falsified.ensures
+returns-in-Falsified-clause-followed c = looked_falsified _ _ _ _ _ _ c.args.n c.codes.result.now c.requires.ready c.len.ensures.clauses c.requires.in_range c.codes.ensures c.in-Falsified.ensures
 
 pub returns-in-Neither-clause-followed : goal.returns-in-Neither-clause-followed
-returns-in-Neither-clause-followed c = inr (refl, looked_quiet _ _ _ _ _ _ c.args.n c.codes.result.now c.requires.ready c.len-clauses.ensures.clauses c.requires.in_range c.codes.ensures c.in-Neither.ensures)
+returns-in-Neither-clause-followed c = inr (refl, looked_quiet _ _ _ _ _ _ c.args.n c.codes.result.now c.requires.ready c.len.ensures.clauses c.requires.in_range c.codes.ensures c.in-Neither.ensures)
 
 pub returns-in-Unit-clause-ready : goal.returns-in-Unit-clause-ready
 returns-in-Unit-clause-ready c =
-    let made = looked_unit _ _ _ _ _ _ c.args.n c.codes.result.now c.requires.ready c.len-clauses.ensures.clauses c.requires.in_range c.codes.ensures c.in-Unit.lit c.args.level c.in-Unit.ensures c.requires.level in
+    let made = looked_unit _ _ _ _ _ _ c.args.n c.codes.result.now c.requires.ready c.len.ensures.clauses c.requires.in_range c.codes.ensures c.in-Unit.lit c.args.level c.in-Unit.ensures c.requires.level in
     subst (λ (a : AssignmentState). IsReady c.args.store.now c.args.watches.now a c.args.pending.now.flags c.args.drawn) (sym c.assign.ensures) (ready_push _ _ _ _ _ _ _ c.requires.ready made.0)
 
 pub returns-in-Unit-clause-followed : goal.returns-in-Unit-clause-followed

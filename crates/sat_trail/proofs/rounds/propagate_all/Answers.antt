@@ -23,4 +23,4 @@ rounds-preserved c =
     record { ready = c.round.ensures.ready; vars = c.round.ensures.vars ∙ was.vars; more = forces_trans _ _ _ was.more c.round.ensures.more; level = c.round.ensures.level ∙ was.level }
 
 pub rounds-smaller : goal.rounds-smaller
-rounds-smaller c = omega (arith, c.in-Grown.ensures.round, c.len-count.ensures.few, c.len-count.ensures.len, c.round.ensures.vars)
+rounds-smaller c = omega (arith, c.in-Grown.ensures.round, c.len.ensures.few, c.len.ensures.len, c.round.ensures.vars)

@@ -4,12 +4,12 @@ use Rattle.sat_trail.proofs.settling.is_settled.Goals as goal
 
 pub is_held_up-requires-clause-code : goal.is_held_up-requires-clause-code
 is_held_up-requires-clause-code c =
-    let own = c.len-count.ensures.listed.all (2 * c.args.n) (omega (arith, c.requires.in_range)) in
+    let own = c.len.ensures.listed.all (2 * c.args.n) (omega (arith, c.requires.in_range)) in
     omega (arith, own.0, c.code-one.ensures, c.requires.lists)
 
 pub is_held_up-requires-clause-other : goal.is_held_up-requires-clause-other
 is_held_up-requires-clause-other c =
-    let own = c.len-count.ensures.listed.all (2 * c.args.n + 1) c.requires.in_range in
+    let own = c.len.ensures.listed.all (2 * c.args.n + 1) c.requires.in_range in
     omega (arith, own.0, c.code-other.ensures, c.requires.lists)
 
 pub returns-then-is_held_up : goal.returns-then-is_held_up

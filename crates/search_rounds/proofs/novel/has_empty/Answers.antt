@@ -4,7 +4,7 @@ use Rattle.std.proofs.lemmas.List.Elements.{All-contains, Contains-append_right,
 use Rattle.tuple_core.proofs.Steps.{all_done}
 use Rattle.cnf_core.specs.declared.literal.Lit.{Lit}
 use Rattle.refutation_check.specs.declared.log.Step.{Step}
-use Rattle.rel_formula.proofs.Open.{has_map, map_has}
+use Rattle.rel_formula.proofs.OpenCells.{has_map, map_has}
 use Rattle.search_rounds.proofs.novel.has_empty.Goals as goal
 
 no_elements : (xs : List Lit) → length xs ≡ 0 → xs ≡ []

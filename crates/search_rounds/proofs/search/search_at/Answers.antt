@@ -7,6 +7,7 @@ use Rattle.refutation_check.specs.SearchLog.{novel_steps}
 use Rattle.refutation_check.specs.Part.{Parted}
 use Rattle.refutation_check.proofs.Novelty.{novel_all}
 use Rattle.rel_formula.specs.Bounds.{cells_of}
+use Rattle.sat_trail.specs.Trailed.{IsBase}
 use Rattle.sat_core.specs.declared.search.Answer.{Answer}
 use Rattle.translation_rules.specs.Locals.{IsLeft, locals_of}
 use Rattle.translation_rules.specs.Parts.{given_to}
@@ -14,11 +15,14 @@ use Rattle.local_clauses.proofs.Cells.{few_cells}
 use Rattle.minimiser.proofs.Answered.{Told, told}
 use Rattle.search_rounds.specs.Searches.{IsSearchAt}
 use Rattle.search_rounds.proofs.Sizes.{few_locals}
-use Rattle.search_rounds.proofs.Asked.{found_left, left_of}
+use Rattle.search_rounds.proofs.SolverAnswers.{found_left, left_of}
 use Rattle.search_rounds.proofs.search.search_at.Goals as goal
 
-pub solve-requires-clause-few : goal.solve-requires-clause-few
-solve-requires-clause-few c =
+pub solve_from-requires-clause-base : goal.solve_from-requires-clause-base
+solve_from-requires-clause-base c = subst (λ (f : Formula). IsBase f c.args.base.now) (sym c.cnf.ensures) c.requires.base
+
+pub solve_from-requires-clause-few : goal.solve_from-requires-clause-few
+solve_from-requires-clause-few c =
     let t = c.args.translation.now in
     let pool = c.args.pool.now in
     let floor = c.args.floor.now in

@@ -2,7 +2,7 @@ use Rattle.std.proofs.Common.{sym, subst}
 use Rattle.std.proofs.lemmas.Result.{IfOk-weaker}
 use Rattle.session_words.specs.declared.steps.Step.TheVariants.{Next}
 use Rattle.session_search.specs.Proposed.{IsProposal}
-use Rattle.session_search.proofs.Shows.{IsFound, shows}
+use Rattle.session_search.proofs.NextScenarios.{IsFound, shows}
 use Rattle.session_search.proofs.asking.look_for.Goals as goal
 
 pub returns : goal.returns

@@ -2,7 +2,7 @@ use Rattle.std.proofs.Common.{◌≤◌, ◌∷◌, [], Option, List, IfOk, IfSo
 use Rattle.std.proofs.lemmas.List.Elements.{All-push}
 use Rattle.cnf_core.specs.declared.literal.Lit.{Lit}
 use Rattle.cnf_core.specs.Literal.{HasSameLiterals, HasVarsUpTo}
-use Rattle.cnf_core.proofs.Same.{All-same}
+use Rattle.cnf_core.proofs.SameLiterals.{All-same}
 use Rattle.trail_tests.proofs.of_sat_trail.clause.Goals as goal
 
 both_within : (a b : Lit) → a.var ≤ 4 → b.var ≤ 4 → HasVarsUpTo 4 (a ∷ b ∷ [])

@@ -11,7 +11,7 @@ use Rattle.watched_literals.proofs.walk.look_at.Goals as goal
 
 pub returns-else-replace-clause-stepped : goal.returns-else-replace-clause-stepped
 returns-else-replace-clause-stepped c =
-    let s = at_slot _ _ _ _ _ _ _ _ c.requires.at_slot c.len-count.ensures.listed in
+    let s = at_slot _ _ _ _ _ _ _ _ c.requires.at_slot c.len.ensures.listed in
     let seen = rw c.in-Some-false.field-0-test at c.in-Some-false.ensures in
     let is_false = subst (λ (k : Lit). Contains (falses_of c.args.now.now.assigned) k) (ap literal_of c.other_of-other.ensures.code) seen.0 in
     (c.replace.ensures.walking, refuted c.args.store.now (falses_of c.args.now.now.assigned) (c.args.slot / 2) _ s.2 (c.replace.ensures.others c.if-replace.false) is_false)

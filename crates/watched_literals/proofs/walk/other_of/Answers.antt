@@ -4,13 +4,13 @@ use Rattle.watched_literals.proofs.Slots.{at_slot, twin_in}
 use Rattle.watched_literals.proofs.walk.other_of.Goals as goal
 
 pub twin_of-requires : goal.twin_of-requires
-twin_of-requires c = let s = at_slot _ _ _ _ _ _ _ _ c.requires c.len-count.ensures.listed in omega (arith, s.0, c.len-count.ensures.len, c.len-count.ensures.few)
+twin_of-requires c = let s = at_slot _ _ _ _ _ _ _ _ c.requires c.len.ensures.listed in omega (arith, s.0, c.len.ensures.len, c.len.ensures.few)
 
 pub code-requires : goal.code-requires
-code-requires c = let t = twin_in _ _ _ _ _ _ _ _ c.requires c.len-count.ensures.listed in omega (arith, t.0, c.twin_of.ensures)
+code-requires c = let t = twin_in _ _ _ _ _ _ _ _ c.requires c.len.ensures.listed in omega (arith, t.0, c.twin_of.ensures)
 
 pub returns-clause-low : goal.returns-clause-low
 returns-clause-low c =
-    let t = twin_in _ _ _ _ _ _ _ _ c.requires c.len-count.ensures.listed in
+    let t = twin_in _ _ _ _ _ _ _ _ c.requires c.len.ensures.listed in
     let e : c.code.result ≡ get_or c.args.watches.now.codes (twin c.args.slot) 0 = c.code.ensures ∙ ap (λ (k : ℕ). get_or c.args.watches.now.codes k 0) c.twin_of.ensures in
     omega (arith, t.1, e)

@@ -2,7 +2,7 @@ use Rattle.std.proofs.Common.{◌≡◌, ◌<◌, ◌+◌, Some, length, set, ar
 use Rattle.std.proofs.lemmas.List.Elements.{All-push}
 use Rattle.assignment_trail.specs.Trail.{IsVarUpTo}
 use Rattle.refutation_check.proofs.Keeping.{room_left}
-use Rattle.assignment_trail.proofs.Marked.{Marks-true}
+use Rattle.assignment_trail.proofs.TrailMarks.{Marks-true}
 use Rattle.assignment_trail.proofs.Trails.{AreFresh-push, falses_of-push}
 use Rattle.assignment_trail.proofs.Holding.{levels_push}
 use Rattle.assignment_trail.proofs.assignment.Assignment.assign.Goals as goal

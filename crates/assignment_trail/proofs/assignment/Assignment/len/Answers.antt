@@ -1,6 +1,6 @@
 use Rattle.std.proofs.Common.{◌<◌, None, length, arith, ap}
 use Rattle.cnf_core.specs.declared.literal.Lit.{Lit}
-use Rattle.assignment_trail.proofs.Marked.{marks_consistent}
+use Rattle.assignment_trail.proofs.TrailMarks.{marks_consistent}
 use Rattle.assignment_trail.proofs.Trails.{from_falses}
 use Rattle.assignment_trail.specs.declared.assigned.Assigned.{Assigned}
 use Rattle.assignment_trail.proofs.assignment.Assignment.len.Goals as goal

@@ -12,7 +12,7 @@ highest_below-requires c = rw (← c.self.view_is) at c.requires.vars
 
 pub returns-clause-level : goal.returns-clause-level
 returns-clause-level c =
-    let level = c.level-level.ensures in
+    let level = c.level.ensures in
     let high : level_of c.args.self.now.assigned < 4294967295 = omega (arith, level.level, level.low, level.few, level.small) in
     let high' = rw (← c.self.view_is) at high in
     let asserting = rw (← c.self.view_is) at c.requires.asserting in
@@ -20,7 +20,7 @@ returns-clause-level c =
 
 pub returns-clause-closed : goal.returns-clause-closed
 returns-clause-closed c =
-    let level = c.level-level.ensures in
+    let level = c.level.ensures in
     let high : level_of c.args.self.now.assigned < 4294967295 = omega (arith, level.level, level.low, level.few, level.small) in
     let high' = rw (← c.self.view_is) at high in
     let asserting = rw (← c.self.view_is) at c.requires.asserting in

@@ -1,5 +1,5 @@
 use Rattle.std.proofs.Common.{◌≡◌, true, length, set, arith, ◌∙◌, ap, length-set}
-use Rattle.watched_literals.proofs.Marking.{mark_list_push, mark_list_room, not_marked}
+use Rattle.watched_literals.proofs.MarkLists.{mark_list_push, mark_list_room, not_marked}
 use Rattle.watched_literals.proofs.pending.Pending.mark.Goals as goal
 
 pub put_mark-requires-clause-room : goal.put_mark-requires-clause-room

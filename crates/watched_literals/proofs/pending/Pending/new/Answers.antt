@@ -1,5 +1,5 @@
 use Rattle.std.proofs.Common.{arith}
-use Rattle.watched_literals.proofs.Marking.{mark_list_none}
+use Rattle.watched_literals.proofs.MarkLists.{mark_list_none}
 use Rattle.watched_literals.proofs.pending.Pending.new.Goals as goal
 
 pub invariant_of-result : goal.invariant_of-result

@@ -1,5 +1,5 @@
 use Rattle.std.proofs.Common.{◌-◌, length, arith, ap, length-take}
-use Rattle.watched_literals.proofs.Marking.{mark_list_cut}
+use Rattle.watched_literals.proofs.MarkLists.{mark_list_cut}
 use Rattle.watched_literals.proofs.pending.Pending.pop.Goals as goal
 
 pub invariant_of-self : goal.invariant_of-self

@@ -1,5 +1,5 @@
 use Rattle.std.proofs.Common.{◌≡◌, ◌+◌, length, arith, ap, ◌∙◌, length-append}
-use Rattle.watched_literals.proofs.Marking.{mark_list_flag}
+use Rattle.watched_literals.proofs.MarkLists.{mark_list_flag}
 use Rattle.watched_literals.proofs.pending.Pending.push.Goals as goal
 
 pub invariant_of-self : goal.invariant_of-self

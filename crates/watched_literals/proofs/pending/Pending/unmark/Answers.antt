@@ -1,5 +1,5 @@
 use Rattle.std.proofs.Common.{arith, get_or, length-set}
-use Rattle.watched_literals.proofs.Marking.{mark_list_unmark, marked_in}
+use Rattle.watched_literals.proofs.MarkLists.{mark_list_unmark, marked_in}
 use Rattle.watched_literals.proofs.pending.Pending.unmark.Goals as goal
 
 pub index_mut-requires : goal.index_mut-requires

@@ -1,5 +1,5 @@
 use Rattle.search_rounds.proofs.Going.{Going}
-use Rattle.search_rounds.proofs.next.next_at.Given as goal
+use Rattle.search_rounds.proofs.next.next_from.Given as goal
 
 abbrev pub invariant-rounds : goal.invariant-rounds
 invariant-rounds l = Going l.translation l.pool l.floor l.shown l.copies l.budget l.blocked.items l.parts.items l.found.items l.left

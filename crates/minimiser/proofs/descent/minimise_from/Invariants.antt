@@ -1,6 +1,6 @@
 use Rattle.std.proofs.Common.{length}
 use Rattle.minimiser.proofs.Going.{Going}
-use Rattle.minimiser.proofs.descent.minimise.Given as goal
+use Rattle.minimiser.proofs.descent.minimise_from.Given as goal
 
 abbrev pub invariant-descent : goal.invariant-descent
 invariant-descent l = Going l.translation l.pool l.floor l.start l.budget l.scenario l.left l.parts.items

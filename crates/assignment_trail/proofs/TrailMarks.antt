@@ -7,9 +7,10 @@ use Rattle.std.specs.List.{Contains, sum_by, count_by}
 use Rattle.std.specs.Option.{is_none}
 use Rattle.cnf_core.specs.declared.literal.Lit.{Lit}
 use Rattle.cnf_core.specs.Literal.{negation_of}
+use Rattle.cnf_core.proofs.Literals.{not_itself}
 use Rattle.refutation_check.specs.Marks.{Marks}
 use Rattle.refutation_check.specs.Assumed.{IsOpen}
-use Rattle.refutation_check.proofs.Sights.{Marks-push, lit_cases, not_not, not_fixed}
+use Rattle.refutation_check.proofs.Sights.{Marks-push, lit_cases, not_not}
 use Rattle.assignment_trail.proofs.Trails.{neg_neg}
 
 -- one more literal is true
@@ -25,7 +26,7 @@ marks_consistent marks falses marked l in' here there =
     let b : get_or marks l.var None ≡ Some (not (not l.positive)) = (marked (negation_of l) in').1 there in
     let both : Some (not l.positive) ≡ Some (not (not l.positive)) = sym a ∙ b in
     let signs : not l.positive ≡ not (not l.positive) = cc in
-    not_fixed (not l.positive) signs
+    not_itself (not l.positive) signs
 
 -- the newest literal is undone
 pub Marks-unset : (marks : List (Option Bool)) (falses : List Lit) (l : Lit) → Marks marks (falses ++ negation_of l ∷ []) → IsOpen falses l → l.var < length marks → Marks (set marks l.var None) falses

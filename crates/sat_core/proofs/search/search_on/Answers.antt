@@ -5,21 +5,22 @@ use Rattle.refutation_check.specs.declared.log.Step.{Step}
 use Rattle.refutation_check.specs.Chain.{members_of}
 use Rattle.assignment_trail.specs.Trail.{falses_of}
 use Rattle.sat_core.specs.Assuming.{IsClash, IsSplit, number_of}
-use Rattle.sat_core.specs.Search.{IsDeadEnd, IsStuck, IsProgress}
+use Rattle.sat_core.specs.Search.{IsDeadEnd, IsStuck, IsProgress, IsVarIn}
 use Rattle.sat_core.proofs.Descents.{closed_no_chain}
-use Rattle.sat_core.proofs.Kept.{keeps_members}
+use Rattle.sat_core.proofs.SearchClauses.{keeps_members}
 use Rattle.sat_core.proofs.Numbers.{members_number, number_no_unit, places_within}
 use Rattle.sat_core.proofs.Searches.{searching_start, searching_more, members_count, none_closed, found_model, model_front, end_accepted, end_vars, end_log, end_empty, end_no_units, end_last, last_so_far, log_so_far, cannot_hold, vars_bounded}
-use Rattle.sat_core.proofs.search.solve_towards.Goals as goal
+use Rattle.sat_core.proofs.search.search_on.Goals as goal
 
 pub learning-init : goal.learning-init
 learning-init c =
-    let made = c.in_ok-trail.ensures in
+    let locals = c.args.locals.now in
+    let value = sym c.as_slice-assumed.ensures.value in
     record {
       searching = (
-        c.in_ok-locals.locals.others.items,
-        subst (λ (ls : List Lit). IsSplit c.args.local.now ls c.in_ok-locals.locals.others.items c.in_ok-locals.locals.numbering.places.items) (sym c.as_slice-assumed.ensures.value) c.in_ok-locals.ensures.split,
-        searching_start _ _ _ _ _ _ _ _ _ c.new-log.ensures (made.clauses ∙ ap (λ (cs : List (List Lit)). members_of (c.args.f.now.clauses ++ cs) c.args.pool.now) c.as_slice.ensures.value) made.vars made.in_range made.assigned,
+        locals.others.items,
+        subst (λ (ls : List Lit). IsSplit c.args.local.now ls locals.others.items locals.numbering.places.items) value c.requires.split,
+        searching_start _ _ _ _ _ _ _ _ _ c.new-log.ensures c.requires.clauses c.requires.vars (subst (λ (ls : List Lit). All (IsVarIn c.args.trail.now.vars) ls) value c.requires.in_range) c.requires.assigned,
       );
       few = omega (arith, ap length c.new-log.ensures);
     }
@@ -31,9 +32,9 @@ learning-preserved c =
     let keeps = keeps_members c.args.f.now.clauses c.args.local.now _ parts.0 _ c.args.pool.now parts.1 in
     let now = c.in-Some.ensures in
     let stuck : IsStuck _ c.descend.new.trail c.in-Conflict.number = subst (IsDeadEnd _ c.descend.new.trail) c.in-Conflict.is c.in-Some.ensures.end in
-    let locals = c.in_ok-locals.locals in
-    let clauses = c.in_ok-locals.ensures.clauses ∙ c.len.ensures.len in
-    let same : number_of locals.numbering.clauses locals.numbering.local ≡ number_of (length c.args.f.now.clauses) (length c.args.local.now) = ap₂ number_of clauses c.in_ok-locals.ensures.local in
+    let locals = c.args.locals.now in
+    let clauses = c.requires.formula in
+    let same : number_of locals.numbering.clauses locals.numbering.local ≡ number_of (length c.args.f.now.clauses) (length c.args.local.now) = ap₂ number_of clauses c.requires.local in
     let progress = subst (λ (g : List ℕ → ℕ → ℕ). IsProgress (g locals.numbering.places.items) c.descend.new.trail c.learn_from.new.trail c.learning.log c.learn_from.new.log) same c.in_ok-learn_from-in-Conflict.ensures in
     let more : length c.learn_from.new.log ≡ length c.learning.log + 1 = ap length progress.added ∙ length-append c.learning.log _ in
     record {
@@ -46,10 +47,6 @@ learning-preserved c =
       );
       few = omega (arith, more, ap length c.steps.ensures.steps, c.learning.invariant.few, c.if-steps-budget.false);
     }
-
-pub trail_of-requires-clause-few : goal.trail_of-requires-clause-few
-trail_of-requires-clause-few c =
-    omega (arith, c.requires.few, c.in_ok-locals.ensures.split.few, ap length c.as_slice.ensures.value)
 
 pub learn_from-requires-clause-conflict : goal.learn_from-requires-clause-conflict
 learn_from-requires-clause-conflict c =
@@ -82,7 +79,7 @@ learn_from-requires-clause-clauses c =
 pub learn_from-requires-clause-places : goal.learn_from-requires-clause-places
 learn_from-requires-clause-places c =
     let parts = c.learning.invariant.searching in
-    subst (λ (n : ℕ). All (λ place. place ≤ n) c.in_ok-locals.locals.numbering.places.items) (sym c.in_ok-locals.ensures.local) (places_within c.args.local.now _ parts.0 _ parts.1)
+    subst (λ (n : ℕ). All (λ place. place ≤ n) c.args.locals.now.numbering.places.items) (sym c.requires.local) (places_within c.args.local.now _ parts.0 _ parts.1)
 
 pub last_step-requires-clause-few : goal.last_step-requires-clause-few
 last_step-requires-clause-few c =
@@ -112,9 +109,12 @@ returns-in_default-clause-answer c =
     let keeps = keeps_members c.args.f.now.clauses c.args.local.now _ parts.0 _ c.args.pool.now parts.1 in
     let now = c.in_default.ensures in
     let made = c.in_ok-valuation.ensures in
-    let variables = subst (All (λ l. IsVariable l.var)) (sym c.as_slice-assumed.ensures.value) c.in_ok-locals.ensures.vars in
+    let variables = subst (All (λ l. IsVariable l.var)) (sym c.as_slice-assumed.ensures.value) c.requires.variables in
     let model = found_model _ _ _ _ keeps _ _ _ _ _ was _ now.clauses now.vars now.trail c.in_ok-valuation.valuation made.full.closed made.is_true made.each made.within variables made.long made.values in
     (model_front c.args.f.now.vars (c.args.f.now.clauses ++ c.args.local.now) (map (λ (s : Step). s.clause) c.args.pool.now) _ model, was.no_empty)
+
+pub returns-in_default-clause-small : goal.returns-in_default-clause-small
+returns-in_default-clause-small c = let made = c.in_ok-valuation.ensures in omega (arith, made.long, made.small)
 
 pub returns-in_default-clause-log : goal.returns-in_default-clause-log
 returns-in_default-clause-log c =

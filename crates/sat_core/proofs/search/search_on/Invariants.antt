@@ -3,7 +3,7 @@ use Rattle.cnf_core.specs.declared.literal.Lit.{Lit}
 use Rattle.refutation_check.specs.Chain.{members_of}
 use Rattle.sat_core.specs.Assuming.{IsSplit}
 use Rattle.sat_core.specs.Search.{Searching}
-use Rattle.sat_core.proofs.search.solve_towards.Given as goal
+use Rattle.sat_core.proofs.search.search_on.Given as goal
 
 abbrev pub invariant-learning : goal.invariant-learning
 invariant-learning l = record {
