@@ -20,8 +20,8 @@ use Rattle.rel_lower.specs.Lowered.{IsLowered}
 use Rattle.bench_models.specs.declared.found.Counts.{Counts}
 use Rattle.bench_models.specs.declared.found.Found.{Found}
 use Rattle.bench_models.specs.declared.found.Found.TheVariants as shown
-use Rattle.bench_models.specs.declared.readings.Stage.{Stage}
-use Rattle.bench_models.specs.declared.readings.Stage.TheVariants as stage
+use Rattle.bench_texts.specs.declared.stages.Stage.{Stage}
+use Rattle.bench_texts.specs.declared.stages.Stage.TheVariants as stage
 
 -- a model declares so many of each
 pub record AreCounted (m : NamedTree) (c : Counts) : Type 0 where

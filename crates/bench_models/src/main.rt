@@ -4,14 +4,12 @@
 
 mod found;
 mod readings;
-mod shapes;
-mod texts;
 
-use found::Found;
-use readings::{found, stage_of};
+use crate::found::Found;
+use crate::readings::found;
+use bench_texts::{stage_of, text_of};
 use std::alloc::{AllocError, Global};
 use std::{env, io};
-use texts::text_of;
 
 fn main(rt: HostRuntime) -> io::Result<()> {
     let mut words = Vec::new(rt.alloc());

@@ -11,6 +11,7 @@ use alloy_lex::lex;
 use alloy_parse::parse;
 use alloy_syntax::tree::Model;
 use alloy_types::check_types;
+use bench_texts::Stage;
 use lowering_rules::LowerFault;
 use named_model::Named;
 use rel_formula::Problem;
@@ -18,31 +19,6 @@ use rel_lower::lower;
 use rel_terms::terms;
 use sig_resolve::resolve;
 use std::alloc::Global;
-
-/// How far a text is brought: it is made, read as a tree, its names are tied to their declarations, its types are checked, its
-/// first command is lowered, and the terms of this one's problem are counted once more.
-#[derive(Clone, Copy, Debug, PartialEq, Eq)]
-pub enum Stage {
-    Text,
-    Tree,
-    Names,
-    Types,
-    Problem,
-    Terms,
-}
-
-/// The stage of this word.
-pub fn stage_of(word: &str) -> Option<Stage> {
-    match word {
-        "text" => Some(Stage::Text),
-        "parse" => Some(Stage::Tree),
-        "names" => Some(Stage::Names),
-        "types" => Some(Stage::Types),
-        "lower" => Some(Stage::Problem),
-        "terms" => Some(Stage::Terms),
-        _ => None,
-    }
-}
 
 /// What is found in a text, brought so far; `None` where it has more than 1,048,576 bytes.
 pub fn found(alloc: Global, stage: Stage, text: &str) -> Option<Found>

@@ -1,2 +1,3 @@
 pub mod SubsetLemmas
-pub mod Sifted
+pub mod SiftedLists
+pub mod Offered

@@ -7,11 +7,11 @@ use Rattle.std.proofs.Math.Nat.{two-pow-succ}
 use Rattle.std.proofs.Math.Pow.{pow_mono}
 use Rattle.std.proofs.lemmas.List.Quantifiers.{all_pairs_push}
 use Rattle.std.proofs.lemmas.List.Elements.{All-contains, All-nil, All-cons, All-head, All-tail, All-weaker, All-push, Contains-append_cases, Contains-append_left, Contains-append_right, Contains-push, Contains-push_cases, Contains-get_or}
-use Rattle.rel_formula.proofs.Rising.{Rises}
+use Rattle.rel_formula.proofs.RisingNumbers.{Rises}
 use Rattle.rel_formula.proofs.Lists.{pairs_nil, pairs_head, pairs_tail, pairs_append, pairs_map}
-use Rattle.rel_formula.proofs.Open.{cons_cases, cons_first, map_has, has_map}
+use Rattle.rel_formula.proofs.OpenCells.{cons_cases, cons_first, map_has, has_map}
 use Rattle.rel_formula.specs.Instance.{with_cell}
-use Rattle.rel_formula.proofs.Same.{same_rising}
+use Rattle.rel_formula.proofs.SameNumbers.{same_rising}
 use Rattle.rel_formula.proofs.WithCell.{with_cell_has, with_cell_rises}
 use Rattle.exhaustive_search.specs.Subsets.{IsRisingBelow}
 

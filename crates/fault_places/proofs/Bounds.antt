@@ -56,7 +56,7 @@ module _ (deep forms s t : Bool) (r : Relaxed forms s t) (i j : BoundReader) (be
       (bind (word_follows s t r x.0.marked) (λ _. bind (many_follows (next_is class.Plus) (operand_over s i standing) (operand_over t j standing) (operand_follows standing) x.1) (λ m. same refl)))
       (same refl))
 
-bound_refuses : (t : Bool) (j : BoundReader) (standing : Standing) (ts : List Seen) → begins_bound ts ≡ false → bound_over t j standing ts ≡ Err (refused ts)
+pub bound_refuses : (t : Bool) (j : BoundReader) (standing : Standing) (ts : List Seen) → begins_bound ts ≡ false → bound_over t j standing ts ≡ Err (refused ts)
 unfolding begins_bound bound_over bound_arrows_over side_over
 bound_refuses t j standing ts e = let p = or_parts (next_is class.LeftParen ts) (next_is class.Name ts) e in rw (p.0, name_refuses ts p.1) refl
 

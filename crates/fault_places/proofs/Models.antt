@@ -1,5 +1,5 @@
 -- Models under two limits, with forms refused or not.
-use Rattle.std.proofs.Common.{◌≡◌, inl, inr, ◌≤◌, ◌<◌, ℕ, ◌+◌, ◌-◌, Bool, true, false, not, IsTrue, ◌&&◌, if◌then◌else◌, List, Result, Ok, Err, refl, sym, ap, subst, ◌∙◌, arith}
+use Rattle.std.proofs.Common.{◌≡◌, inl, inr, ◌≤◌, ◌<◌, ℕ, ◌+◌, ◌-◌, Bool, true, false, not, IsTrue, ◌&&◌, List, Result, Ok, Err, refl, sym, ap, subst, ◌∙◌, arith}
 use Rattle.std.proofs.lemmas.Bool.{cases_lt}
 use Rattle.alloy_lex.specs.declared.token.Place.{Place}
 use Rattle.alloy_syntax.specs.declared.class.Class.{Class}
@@ -16,7 +16,7 @@ use Rattle.alloy_syntax.specs.Bounds.{whole}
 use Rattle.alloy_syntax.specs.Paragraphs.{own_block, field_at, fields_at, parent_at, qualified, signatures_at, fact_at, parameters_to, parameter_list, predicate_at, function_at, assertion_at, label_at, target_at, command_at, paragraph_at, is_left, heading_at, open_at, model_at}
 use Rattle.alloy_grammar.specs.Models.{IsTextOf, depth_of_model, IsPlainModel}
 use Rattle.alloy_grammar.proofs.Results.{no_success}
-use Rattle.alloy_grammar.proofs.Whole.{model_full}
+use Rattle.alloy_grammar.proofs.WholeModels.{model_full}
 use Rattle.fault_places.proofs.Follows.{excuses, Follows, same, excused, Relaxed, as_strict, relaxed, Roomier, onward, bind, choice, many_follows, listed_follows}
 use Rattle.fault_places.proofs.Nodes.{Alike, Below, block_follows, sum_follows, braced_follows, declarations_follow}
 use Rattle.fault_places.proofs.Rooms.{within_follows}
@@ -46,7 +46,7 @@ module _ (deep forms s t : Bool) (r : Relaxed forms s t) (m n : ℕ) (room : Roo
 
   fact_follows : Alike deep forms (fact_at s m) (fact_at t n)
   unfolding fact_at
-  fact_follows ts = bind (own_block_follows (if next_is class.Name ts then after ts else ts)) (λ b. same refl)
+  fact_follows ts = onward (label_at ts) (λ k. bind (own_block_follows k.1) (λ b. same refl))
 
   parameters_follow : (c : Class) → Alike deep forms (parameters_to s m c) (parameters_to t n c)
   parameters_follow c ts = choice (next_is c ts) (same refl)

@@ -13,7 +13,7 @@ use Rattle.alloy_syntax.specs.Readers.{Stop, refused, unsupported, next_is, afte
 use Rattle.alloy_syntax.specs.Nodes.{Reader, is_comprehension, block_over, block_tree, is_constant, primary_over, is_tightening, tight_over, path_over, chained, restrict_over, arrows_over, meet_over, override_over, size_over, sum_over, is_counting, counted_over, comparison_over, negation_over, and_over, implication_over, iff_over, node_over, begins_primary, begins_tight, begins_sum, begins_node, begins, may_be_block, stop_at, is_single, variable_names, variables_over, declaration_over, declarations_over, quantified_over, binding_over, bindings_over, let_over, inside_over, within}
 use Rattle.alloy_grammar.proofs.Results.{either}
 use Rattle.alloy_grammar.proofs.Tokens.{token, marks, and_left}
-use Rattle.alloy_grammar.proofs.Ends.{differs}
+use Rattle.alloy_grammar.proofs.TextEnds.{differs}
 use Rattle.fault_places.proofs.Follows.{Follows, same, excused, Relaxed, Roomier, less_room}
 use Rattle.fault_places.proofs.Nodes.{Below, inside_follows}
 
@@ -119,7 +119,7 @@ negation_refuses i a ts e =
 implication_refuses : (i : Reader) (a : Around) (ts : List Seen) → begins_node ts ≡ false → implication_over i a ts ≡ Err (refused ts)
 implication_refuses i a ts e = implication_stops i a ts (refused ts) (negation_refuses i a ts e)
 
-part_refuses : (strict : Bool) (i : Reader) (a : Around) (part : Inside) (ts : List Seen) → begins part ts ≡ false → inside_over strict i a part ts ≡ Err (refused ts)
+pub part_refuses : (strict : Bool) (i : Reader) (a : Around) (part : Inside) (ts : List Seen) → begins part ts ≡ false → inside_over strict i a part ts ≡ Err (refused ts)
 unfolding begins inside_over quantified_over declarations_over declaration_over variables_over variable_names names_at let_over bindings_over binding_over listed
 part_refuses strict i a inside.Node ts e = node_stops i a ts (refused ts) (implication_refuses i a ts e)
 part_refuses strict i a inside.Negation ts e = negation_refuses i a ts e
@@ -159,7 +159,7 @@ comprehension_negation i a ts e =
     let b = brace_there ts e in
     negation_stops i a ts (unsupported form.Comprehension ts) (apart class.Not ts b refl) (apart class.All ts b refl) (apart class.Let ts b refl) (not_counting ts b) (sum_stops i a ts (unsupported form.Comprehension ts) (comprehension_size i a ts e))
 
-comprehension_stops : (strict : Bool) (i : Reader) (a : Around) (part : Inside) (ts : List Seen) → (may_be_block part && is_comprehension ts) ≡ true → inside_over strict i a part ts ≡ Err (unsupported form.Comprehension ts)
+pub comprehension_stops : (strict : Bool) (i : Reader) (a : Around) (part : Inside) (ts : List Seen) → (may_be_block part && is_comprehension ts) ≡ true → inside_over strict i a part ts ≡ Err (unsupported form.Comprehension ts)
 unfolding may_be_block inside_over
 comprehension_stops strict i a inside.Node ts e = node_stops i a ts (unsupported form.Comprehension ts) (implication_stops i a ts (unsupported form.Comprehension ts) (comprehension_negation i a ts e))
 comprehension_stops strict i a inside.Negation ts e = comprehension_negation i a ts e

@@ -6,6 +6,7 @@ ghost use Rattle.alloy_syntax.specs.Tree.{ModelTree};
 ghost use Rattle.alloy_syntax.specs.Readers.{Stop, refused, too_deep, unsupported};
 ghost use Rattle.alloy_syntax.specs.Paragraphs.{model_at, model_of, depth_limit};
 ghost use Rattle.alloy_grammar.specs.Models.{IsTextOf, depth_of_model, IsPlainModel};
+ghost use Rattle.fault_places.specs.Stops.{unread, AreLast};
 
 /// Which faults a text of the grammar may have. At no token is it refused as one that can't stand there, however deep its
 /// constructs nest, and whatever forms it has. Where it lies too deep, its constructs do nest deeper than the limit; where a
@@ -29,4 +30,9 @@ pub fn forms_that_pass_move_no_other_fault()
     ensures read { (limit : ℕ) (ts : List Seen) (m : ModelTree) → model_at true limit ts ≡ Ok m → model_at false limit ts ≡ Ok m }
     ensures refused { (limit : ℕ) (ts rest : List Seen) → model_at true limit ts ≡ Err (refused rest) → model_at false limit ts ≡ Err (refused rest) }
     ensures too_deep { (limit : ℕ) (ts rest : List Seen) → model_at true limit ts ≡ Err (too_deep rest) → model_at false limit ts ≡ Err (too_deep rest) }
+{}
+
+/// Reading stops among the tokens: those that it leaves unread are the last of them.
+pub fn a_fault_stands_among_the_tokens()
+    ensures { (strict : Bool) (limit : ℕ) (ts : List Seen) (stop : Stop) → model_at strict limit ts ≡ Err stop → AreLast ts (unread stop) }
 {}

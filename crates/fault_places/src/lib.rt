@@ -1,4 +1,5 @@
-//! Which faults a text of the grammar may have, and which no text has: laws over the definition of reading and the grammar.
+//! Which faults a text of the grammar may have, which no text has, and where they stand: laws over the definition of reading and
+//! the grammar.
 #![tactic(auto)]
 
 pub mod laws;

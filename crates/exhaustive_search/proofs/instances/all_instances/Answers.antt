@@ -1,7 +1,7 @@
 use Rattle.std.proofs.Common.{◌≡◌, ◌≢◌, ◌<◌, ◌+◌, ◌∙◌, ◌++◌, ◌∷◌, [], List, ℕ, length, Contains, AllPairs, All, ap, sym, subst, arith}
 use Rattle.rel_formula.specs.Instance.{IsInstance}
 use Rattle.exhaustive_search.specs.Subsets.{IsRisingBelow}
-use Rattle.exhaustive_search.proofs.Sifted.{Sifted, sifted_none, sifted_yes, sifted_no, sifted_all}
+use Rattle.exhaustive_search.proofs.SiftedLists.{Sifted, sifted_none, sifted_yes, sifted_no, sifted_all}
 use Rattle.exhaustive_search.proofs.instances.all_instances.Goals.{then-branch+in_ok-copy+in_ok-push, else-branch}
 use Rattle.exhaustive_search.proofs.instances.all_instances.Goals as goal
 

@@ -1,5 +1,5 @@
 use Rattle.rel_formula.specs.Instance.{IsInstance}
-use Rattle.exhaustive_search.proofs.Sifted.{Sifted}
+use Rattle.exhaustive_search.proofs.SiftedLists.{Sifted}
 use Rattle.exhaustive_search.proofs.instances.all_instances.Given as goal
 
 abbrev pub invariant-loop-scenario : goal.invariant-loop-scenario

@@ -1,0 +1,12 @@
+pub mod Seam
+pub mod Tests
+pub mod Nodes
+pub mod Deep
+pub mod Bounds
+pub mod Models
+pub mod Beyond
+pub mod Calm
+pub mod Lasting
+pub mod NodesLasting
+pub mod BoundsLasting
+pub mod ModelsLasting

@@ -1,0 +1,11 @@
+//! Symmetric problems of a set of atoms and any arrows among them, and formulas about both, for tests.
+#![tactic(auto)]
+
+mod failure;
+mod formulas;
+mod problems;
+
+pub use crate::formulas::{
+    all_turned, arrows_of_the_set, each_leads_on, fewer_arrows, no_cycle, one_leads_on,
+};
+pub use crate::problems::links;

@@ -1,0 +1,11 @@
+pub mod Calm
+pub mod Gives
+pub mod Texts
+pub mod Openings
+pub mod Nodes
+pub mod Quantified
+pub mod Bounds
+pub mod ParagraphTexts
+pub mod Signed
+pub mod Paragraphs
+pub mod Models
