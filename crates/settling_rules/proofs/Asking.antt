@@ -9,14 +9,14 @@ use Rattle.named_model.specs.Phrase.{PhraseTree, refers, called, numbered, const
 use Rattle.model_types.specs.Bounding.{Lists, types_of, joins, brackets_type, operator_type}
 use Rattle.model_types.specs.Sorts.{Kind, relation, formula, first_place, as_relation, as_formula, is_connective, operator_arity, joined_arity, brackets_arity}
 use Rattle.model_types.specs.Typing.{Local, Declared, types_in, type_in, local_types, ends_of, tops_behind, is_shared, formula_from, settled, arguments_settled, links_settled, steps_settled}
-use Rattle.bounding_types.proofs.Alike.{same_operator, same_joins}
+use Rattle.bounding_types.proofs.SameListsMade.{same_operator, same_joins}
 use Rattle.shared_fields.proofs.Unions.{same_ends, same_behind}
 use Rattle.shared_names.specs.Asking.{asks_behind, asks_in_links, asks_in_steps}
 use Rattle.expression_types.proofs.Each.{each_refl}
 use Rattle.settling_rules.specs.Inside.{AreSameWhere}
 use Rattle.settling_rules.specs.Same.{AreSameTops, Asks}
 use Rattle.settling_rules.proofs.Typed.{brackets_alike}
-use Rattle.settling_rules.proofs.Asked.{asks_left, asks_right, shared_alike}
+use Rattle.settling_rules.proofs.SharedDeclarations.{asks_left, asks_right, shared_alike}
 
 module _ (asked : Bool) (d : Declared) (ls : List Local) where
   -- the signatures of a place matter for a name of several fields alone

@@ -1,8 +1,8 @@
 pub mod Binds
 pub mod Typed
-pub mod Asked
-pub mod Alike
+pub mod SharedDeclarations
+pub mod SettledAlike
 pub mod Asking
-pub mod Turns
+pub mod OperandTurns
 pub mod Reaching
 pub mod Loops

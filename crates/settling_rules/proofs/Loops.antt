@@ -13,10 +13,10 @@ use Rattle.settling_rules.specs.Inside.{AreSameWhere, AreAlikeWhere, AreAlikeBeh
 use Rattle.settling_rules.specs.Same.{AreSameTypes, Asks}
 use Rattle.settling_rules.specs.Single.{link_first, Linked, link_settled, links_after, Stepped, step_settled, steps_after, type_behind, relation_settled, domain_settled, with_argument, entered}
 use Rattle.settling_rules.specs.Told.{IsTold}
-use Rattle.settling_rules.proofs.Asked.{alike_then}
-use Rattle.settling_rules.proofs.Alike.{behind_map, domains_alike, values_alike}
+use Rattle.settling_rules.proofs.SharedDeclarations.{alike_then}
+use Rattle.settling_rules.proofs.SettledAlike.{behind_map, domains_alike, values_alike}
 use Rattle.settling_rules.proofs.Asking.{operands_alike, members_alike}
-use Rattle.settling_rules.proofs.Turns.{link_turn, step_turn, argument_turn, value_turn, domain_turn}
+use Rattle.settling_rules.proofs.OperandTurns.{link_turn, step_turn, argument_turn, value_turn, domain_turn}
 use Rattle.settling_rules.proofs.Reaching.{before_all, Reached, reached_more, reached_fault, reached_all, told_then, domain_first, phrases_are}
 
 module _ (d : Declared) (ls : List Local) where

@@ -7,7 +7,7 @@ use Rattle.named_model.specs.Phrase.{PhraseTree, refers, called, numbered, const
 use Rattle.named_model.specs.Signatures.{tops, top_of}
 use Rattle.model_types.specs.Bounding.{Lists, Types, type_of, types_of, links_type, steps_type, constant_type, prefix_type, operator_type, joins, brackets_type}
 use Rattle.bounding_types.specs.Same.{AreSame}
-use Rattle.bounding_types.proofs.Alike.{same, same_then, same_prefix, same_operator, same_joins}
+use Rattle.bounding_types.proofs.SameListsMade.{same, same_then, same_prefix, same_operator, same_joins}
 use Rattle.expression_types.specs.Types.{AreEachSame, called_type, types_within}
 use Rattle.expression_types.proofs.Each.{each_at, each_reverse}
 use Rattle.settling_rules.specs.Same.{AreSameTypes}

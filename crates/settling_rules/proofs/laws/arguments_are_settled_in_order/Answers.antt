@@ -1,4 +1,4 @@
-use Rattle.settling_rules.proofs.Turns.{argument_turn}
+use Rattle.settling_rules.proofs.OperandTurns.{argument_turn}
 use Rattle.settling_rules.proofs.laws.arguments_are_settled_in_order.Goals as goal
 
 pub returns : goal.returns

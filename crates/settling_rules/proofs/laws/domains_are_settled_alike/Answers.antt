@@ -1,4 +1,4 @@
-use Rattle.settling_rules.proofs.Alike.{domains_alike}
+use Rattle.settling_rules.proofs.SettledAlike.{domains_alike}
 use Rattle.settling_rules.proofs.laws.domains_are_settled_alike.Goals as goal
 
 pub returns : goal.returns

@@ -1,4 +1,4 @@
-use Rattle.settling_rules.proofs.Turns.{domain_turn}
+use Rattle.settling_rules.proofs.OperandTurns.{domain_turn}
 use Rattle.settling_rules.proofs.laws.domains_are_settled_in_order.Goals as goal
 
 pub returns : goal.returns

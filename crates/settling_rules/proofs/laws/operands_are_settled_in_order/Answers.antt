@@ -1,4 +1,4 @@
-use Rattle.settling_rules.proofs.Turns.{link_turn}
+use Rattle.settling_rules.proofs.OperandTurns.{link_turn}
 use Rattle.settling_rules.proofs.laws.operands_are_settled_in_order.Goals as goal
 
 pub returns : goal.returns

@@ -1,4 +1,4 @@
-use Rattle.settling_rules.proofs.Alike.{settled_alike}
+use Rattle.settling_rules.proofs.SettledAlike.{settled_alike}
 use Rattle.settling_rules.proofs.laws.parts_are_settled_alike.Goals as goal
 
 pub returns : goal.returns

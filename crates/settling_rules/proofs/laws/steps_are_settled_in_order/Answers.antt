@@ -1,4 +1,4 @@
-use Rattle.settling_rules.proofs.Turns.{step_turn}
+use Rattle.settling_rules.proofs.OperandTurns.{step_turn}
 use Rattle.settling_rules.proofs.laws.steps_are_settled_in_order.Goals as goal
 
 pub returns : goal.returns

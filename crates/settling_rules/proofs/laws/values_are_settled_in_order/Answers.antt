@@ -1,4 +1,4 @@
-use Rattle.settling_rules.proofs.Turns.{value_turn}
+use Rattle.settling_rules.proofs.OperandTurns.{value_turn}
 use Rattle.settling_rules.proofs.laws.values_are_settled_in_order.Goals as goal
 
 pub returns : goal.returns

@@ -8,14 +8,14 @@ use Rattle.model_types.specs.declared.fault.TypeFault.TheVariants as fault
 use Rattle.model_types.specs.Bounding.{Lists, types_of, joins, brackets_type, operator_type}
 use Rattle.model_types.specs.Sorts.{Kind, relation, formula, Checked, unless, first_place, as_relation, as_formula, is_connective, operator_arity, joined_arity, brackets_arity, prefix_kind, may_stand_left, fits_left}
 use Rattle.model_types.specs.Typing.{Local, Declared, Settled, types_in, type_in, local_types, ends_of, tops_behind, is_shared, call_kind, onto, formula_from, settled, formulas_settled, arguments_settled, links_settled, steps_settled, tops_in, first_ends, domains_settled, values_settled}
-use Rattle.bounding_types.proofs.Alike.{same_operator, same_joins}
+use Rattle.bounding_types.proofs.SameListsMade.{same_operator, same_joins}
 use Rattle.shared_fields.proofs.Unions.{same_ends, same_behind}
 use Rattle.shared_names.specs.Shared.{shared_in, shared_among, shared_in_links, shared_in_steps, shared_in_domains}
 use Rattle.settling_rules.specs.Inside.{AreSameWhere, AreAlikeWhere, AreAlikeBehind}
 use Rattle.settling_rules.proofs.Binds.{both_same, then_then}
 use Rattle.settling_rules.specs.Same.{AreSameTypes, AreSameTops, Asks}
 use Rattle.settling_rules.proofs.Typed.{brackets_alike}
-use Rattle.settling_rules.proofs.Asked.{asks_left, asks_right, alike_onto, referents_alike, type_where, types_where}
+use Rattle.settling_rules.proofs.SharedDeclarations.{asks_left, asks_right, alike_onto, referents_alike, type_where, types_where}
 
 -- the head of a path, behind an argument that it asks for
 heads : (b : Bool) (r q : Result Settled TypeFault) → r ≡ q → (e f : Settled → List ℕ) (g h : List ℕ → Result Settled TypeFault) → ((y : Settled) → g (e y) ≡ h (f y)) → g [] ≡ h []
