@@ -2,10 +2,10 @@ pub mod Lengths
 pub mod Runs
 pub mod Fronts
 pub mod Paths
-pub mod Turns
-pub mod Found
+pub mod LexingSteps
+pub mod FrontTexts
 pub mod Readings
 pub mod Slices
 pub mod Characters
-pub mod Exact
+pub mod UniqueReadings
 pub mod Refusals

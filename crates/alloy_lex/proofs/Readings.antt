@@ -10,7 +10,7 @@ use Rattle.alloy_lex.specs.declared.lexing.Spot.{Spot}
 use Rattle.alloy_lex.specs.Fronts.{front_of}
 use Rattle.alloy_lex.specs.Tokens.{Step, ◌>>=◌, after_byte, after_bytes, passed, token_at, step_at, step_of, tokens_from, origin, tokens_of}
 use Rattle.alloy_lex.specs.Reading.{Separates, nothing, IsNext, Reads}
-use Rattle.alloy_lex.proofs.Found.{Precedes, FrontIs, HasSome, front_fits}
+use Rattle.alloy_lex.proofs.FrontTexts.{Precedes, FrontIs, HasSome, front_fits}
 
 -- ---- answers
 

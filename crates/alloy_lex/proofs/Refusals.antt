@@ -15,10 +15,10 @@ use Rattle.alloy_lex.specs.declared.lexing.Spot.{Spot}
 use Rattle.alloy_lex.specs.Fronts.{is_digit, number_from, comment_len, comment_front, front_of}
 use Rattle.alloy_lex.specs.Tokens.{Step, ◌>>=◌, after_bytes, passed, token_at, step_at, step_of, tokens_from, origin, tokens_of}
 use Rattle.alloy_lex.specs.Reading.{Separates, nothing, space, slashes, dashes, block, ReadsBefore, IsBad, IsFaultAt, IsRefused}
-use Rattle.alloy_lex.proofs.Found.{Precedes, FrontIs, front_fits}
+use Rattle.alloy_lex.proofs.FrontTexts.{Precedes, FrontIs, front_fits}
 use Rattle.alloy_lex.proofs.Readings.{after_append, after_none, passed_append, passed_none, next_behind}
 use Rattle.alloy_lex.proofs.Characters.{after_characters}
-use Rattle.alloy_lex.proofs.Exact.{space_front, slashes_front, dashes_front, block_front, number_here, token_front}
+use Rattle.alloy_lex.proofs.UniqueReadings.{space_front, slashes_front, dashes_front, block_front, number_here, token_front}
 
 -- ---- where no token begins
 

@@ -74,7 +74,7 @@ impl<F: for<'a> Fn(Global, Tokens<'a>, u32, Around, Inside) -> Read<'a, Node>> R
         Ok((Node::Bracketed(place, Box::new(self.alloc, inner)?), rest))
     }
 
-    #[tactic(auto, using(crate::proofs::Heads::constant_is_there), unfolding(alloy_syntax::specs::Nodes::primary_over))]
+    #[tactic(auto, using(crate::proofs::NextTokens::constant_is_there), unfolding(alloy_syntax::specs::Nodes::primary_over))]
     fn primary<'a>(&self, tokens: Tokens<'a>) -> Read<'a, Node>
         requires { ReadsWithin self.now.room (F.pre self.now.reader) (F.post self.now.reader) }
         ensures value { Gives (λ x. (view x.0, x.1.left.now)) result (primary_over (within true self.now.room) tokens.entry.left.now) }

@@ -1,6 +1,6 @@
 // Which token may begin or go on with what.
 ghost use Rattle.std.specs.Prelude.{◌≡◌, ◌<◌, ◌≤◌, length, IfOk};
-ghost use Rattle.alloy_syntax.specs.Nodes.{in_braces, in_brackets_too, begins_primary, is_tightening, begins_tight, begins_sum, is_counting, begins_node, begins, may_be_block, is_comprehension, is_inner, stop_at, is_constant, constant_of, tightening_of, begins_step, begins_link, operator_of, begins_arrow, counting_of, is_plain_comparison, begins_comparison, comparison_of, comparing_at, negated_comparing, begins_declaration, quantifier_of, is_single, after_disj};
+ghost use Rattle.alloy_syntax.specs.Nodes as spec;
 ghost use Rattle.alloy_syntax.specs.View.{view};
 ghost use Rattle.alloy_syntax.specs.Gives.{Gives};
 
@@ -12,7 +12,7 @@ use alloy_syntax::tree::{Comparing, Comparison, Constant, Node, Operator, Prefix
 
 #[tactic(auto, unfolding(alloy_syntax::specs::Nodes::in_braces))]
 fn in_braces(around: Around) -> bool
-    ensures { result ≡ in_braces around }
+    ensures { result ≡ spec.in_braces around }
 {
     match around {
         Around::Braces => true,
@@ -23,7 +23,7 @@ fn in_braces(around: Around) -> bool
 
 #[tactic(auto, unfolding(alloy_syntax::specs::Nodes::in_brackets_too))]
 fn in_brackets(around: Around) -> bool
-    ensures { result ≡ in_brackets_too around }
+    ensures { result ≡ spec.in_brackets_too around }
 {
     match around {
         Around::Braces => false,
@@ -34,7 +34,7 @@ fn in_brackets(around: Around) -> bool
 
 #[tactic(auto, unfolding(alloy_syntax::specs::Nodes::begins_primary))]
 fn begins_primary(tokens: Tokens) -> bool
-    ensures { result ≡ begins_primary tokens.entry.left.now }
+    ensures { result ≡ spec.begins_primary tokens.entry.left.now }
 {
     next_is(tokens, Class::Name)
         || next_is(tokens, Class::Path)
@@ -49,21 +49,21 @@ fn begins_primary(tokens: Tokens) -> bool
 /// `~`, `^` or `*`.
 #[tactic(auto, unfolding(alloy_syntax::specs::Nodes::is_tightening))]
 pub fn is_tightening(tokens: Tokens) -> bool
-    ensures { result ≡ is_tightening tokens.entry.left.now }
+    ensures { result ≡ spec.is_tightening tokens.entry.left.now }
 {
     next_is(tokens, Class::Tilde) || next_is(tokens, Class::Caret) || next_is(tokens, Class::Star)
 }
 
 #[tactic(auto, unfolding(alloy_syntax::specs::Nodes::begins_tight))]
 fn begins_tight(tokens: Tokens) -> bool
-    ensures { result ≡ begins_tight tokens.entry.left.now }
+    ensures { result ≡ spec.begins_tight tokens.entry.left.now }
 {
     is_tightening(tokens) || begins_primary(tokens)
 }
 
 #[tactic(auto, unfolding(alloy_syntax::specs::Nodes::begins_sum))]
 fn begins_sum(tokens: Tokens) -> bool
-    ensures { result ≡ begins_sum tokens.entry.left.now }
+    ensures { result ≡ spec.begins_sum tokens.entry.left.now }
 {
     next_is(tokens, Class::Hash) || begins_tight(tokens)
 }
@@ -71,7 +71,7 @@ fn begins_sum(tokens: Tokens) -> bool
 /// `some`, `no`, `lone` or `one`.
 #[tactic(auto, unfolding(alloy_syntax::specs::Nodes::is_counting))]
 pub fn is_counting(tokens: Tokens) -> bool
-    ensures { result ≡ is_counting tokens.entry.left.now }
+    ensures { result ≡ spec.is_counting tokens.entry.left.now }
 {
     next_is(tokens, Class::Some)
         || next_is(tokens, Class::No)
@@ -81,7 +81,7 @@ pub fn is_counting(tokens: Tokens) -> bool
 
 #[tactic(auto, unfolding(alloy_syntax::specs::Nodes::begins_node))]
 fn begins_node(tokens: Tokens) -> bool
-    ensures { result ≡ begins_node tokens.entry.left.now }
+    ensures { result ≡ spec.begins_node tokens.entry.left.now }
 {
     next_is(tokens, Class::Not)
         || next_is(tokens, Class::All)
@@ -92,7 +92,7 @@ fn begins_node(tokens: Tokens) -> bool
 
 #[tactic(auto, unfolding(alloy_syntax::specs::Nodes::begins))]
 fn begins(tokens: Tokens, part: Inside) -> bool
-    ensures { result ≡ begins part tokens.entry.left.now }
+    ensures { result ≡ spec.begins part tokens.entry.left.now }
 {
     match part {
         Inside::Node => begins_node(tokens),
@@ -108,7 +108,7 @@ fn begins(tokens: Tokens, part: Inside) -> bool
 
 #[tactic(auto, unfolding(alloy_syntax::specs::Nodes::may_be_block))]
 fn may_be_block(part: Inside) -> bool
-    ensures { result ≡ may_be_block part }
+    ensures { result ≡ spec.may_be_block part }
 {
     match part {
         Inside::Node => true,
@@ -125,7 +125,7 @@ fn may_be_block(part: Inside) -> bool
 /// A brace, names with commas, and a colon.
 #[tactic(auto, unfolding(alloy_syntax::specs::Nodes::is_comprehension))]
 pub fn is_comprehension(tokens: Tokens) -> bool
-    ensures { result ≡ is_comprehension tokens.entry.left.now }
+    ensures { result ≡ spec.is_comprehension tokens.entry.left.now }
 {
     next_is(tokens, Class::LeftBrace) && colon_after_names(after(tokens))
 }
@@ -133,7 +133,7 @@ pub fn is_comprehension(tokens: Tokens) -> bool
 /// Not the end of a block.
 #[tactic(auto, unfolding(alloy_syntax::specs::Nodes::is_inner))]
 pub fn is_inner(tokens: Tokens) -> bool
-    ensures { result ≡ is_inner tokens.entry.left.now }
+    ensures { result ≡ spec.is_inner tokens.entry.left.now }
 {
     !next_is(tokens, Class::RightBrace)
 }
@@ -141,7 +141,7 @@ pub fn is_inner(tokens: Tokens) -> bool
 /// Where one construct more would be one too many.
 #[tactic(auto, unfolding(alloy_syntax::specs::Nodes::stop_at))]
 pub fn stop_at<'a>(tokens: Tokens<'a>, part: Inside) -> Result<(Node, Tokens<'a>), Halt<'a>>
-    ensures value { Gives (λ x. (view x.0, x.1.left.now)) result (stop_at part tokens.entry.left.now) }
+    ensures value { Gives (λ x. (view x.0, x.1.left.now)) result (spec.stop_at part tokens.entry.left.now) }
     ensures shorter { IfOk result (λ x. length x.1.left.now < length tokens.entry.left.now) }
 {
     if may_be_block(part) && is_comprehension(tokens) {
@@ -157,7 +157,7 @@ pub fn stop_at<'a>(tokens: Tokens<'a>, part: Inside) -> Result<(Node, Tokens<'a>
 /// Whether a constant stands there.
 #[tactic(auto, unfolding(alloy_syntax::specs::Nodes::is_constant))]
 pub fn is_constant(tokens: Tokens) -> bool
-    ensures { result ≡ is_constant tokens.entry.left.now }
+    ensures { result ≡ spec.is_constant tokens.entry.left.now }
 {
     next_is(tokens, Class::None) || next_is(tokens, Class::Univ) || next_is(tokens, Class::Iden)
 }
@@ -165,7 +165,7 @@ pub fn is_constant(tokens: Tokens) -> bool
 /// `none`, `univ`, or else `iden`.
 #[tactic(auto, unfolding(alloy_syntax::specs::Nodes::constant_of))]
 pub fn constant_of(tokens: Tokens) -> Constant
-    ensures { result ≡ constant_of tokens.entry.left.now }
+    ensures { result ≡ spec.constant_of tokens.entry.left.now }
 {
     if next_is(tokens, Class::None) {
         Constant::None
@@ -179,7 +179,7 @@ pub fn constant_of(tokens: Tokens) -> Constant
 /// What `~`, `^`, or else `*` stands for.
 #[tactic(auto, unfolding(alloy_syntax::specs::Nodes::tightening_of))]
 pub fn tightening_of(tokens: Tokens) -> Prefix
-    ensures { result ≡ tightening_of tokens.entry.left.now }
+    ensures { result ≡ spec.tightening_of tokens.entry.left.now }
 {
     if next_is(tokens, Class::Tilde) {
         Prefix::Transpose
@@ -193,7 +193,7 @@ pub fn tightening_of(tokens: Tokens) -> Prefix
 /// `.` or `[`.
 #[tactic(auto, unfolding(alloy_syntax::specs::Nodes::begins_step))]
 pub fn begins_step(tokens: Tokens) -> bool
-    ensures { result ≡ begins_step tokens.entry.left.now }
+    ensures { result ≡ spec.begins_step tokens.entry.left.now }
 {
     next_is(tokens, Class::Dot) || next_is(tokens, Class::LeftBracket)
 }
@@ -201,7 +201,7 @@ pub fn begins_step(tokens: Tokens) -> bool
 /// An operator of that level.
 #[tactic(auto, unfolding(alloy_syntax::specs::Nodes::begins_link))]
 pub fn begins_link(tokens: Tokens, level: Level) -> bool
-    ensures { result ≡ begins_link level tokens.entry.left.now }
+    ensures { result ≡ spec.begins_link level tokens.entry.left.now }
 {
     match level {
         Level::Or => next_is(tokens, Class::Or),
@@ -219,7 +219,7 @@ pub fn begins_link(tokens: Tokens, level: Level) -> bool
 /// The operator of that level that stands there.
 #[tactic(auto, unfolding(alloy_syntax::specs::Nodes::operator_of))]
 pub fn operator_of(tokens: Tokens, level: Level) -> Operator
-    ensures { result ≡ operator_of level tokens.entry.left.now }
+    ensures { result ≡ spec.operator_of level tokens.entry.left.now }
 {
     match level {
         Level::Or => Operator::Or,
@@ -234,7 +234,7 @@ pub fn operator_of(tokens: Tokens, level: Level) -> Operator
 
 #[tactic(auto, unfolding(alloy_syntax::specs::Nodes::operator_of))]
 fn sum_operator(tokens: Tokens) -> Operator
-    ensures { result ≡ operator_of Level.Sum tokens.entry.left.now }
+    ensures { result ≡ spec.operator_of Level.Sum tokens.entry.left.now }
 {
     if next_is(tokens, Class::Plus) {
         Operator::Union
@@ -245,7 +245,7 @@ fn sum_operator(tokens: Tokens) -> Operator
 
 #[tactic(auto, unfolding(alloy_syntax::specs::Nodes::operator_of))]
 fn restrict_operator(tokens: Tokens) -> Operator
-    ensures { result ≡ operator_of Level.Restrict tokens.entry.left.now }
+    ensures { result ≡ spec.operator_of Level.Restrict tokens.entry.left.now }
 {
     if next_is(tokens, Class::DomainArrow) {
         Operator::Domain
@@ -257,7 +257,7 @@ fn restrict_operator(tokens: Tokens) -> Operator
 /// An arrow, or a multiplicity word and an arrow.
 #[tactic(auto, unfolding(alloy_syntax::specs::Nodes::begins_arrow))]
 pub fn begins_arrow(tokens: Tokens) -> bool
-    ensures { result ≡ begins_arrow tokens.entry.left.now }
+    ensures { result ≡ spec.begins_arrow tokens.entry.left.now }
 {
     next_is(tokens, Class::Arrow) || (is_mark(tokens) && next_is(after(tokens), Class::Arrow))
 }
@@ -265,7 +265,7 @@ pub fn begins_arrow(tokens: Tokens) -> bool
 /// What `some`, `no`, `lone`, or else `one` stands for before an expression.
 #[tactic(auto, unfolding(alloy_syntax::specs::Nodes::counting_of))]
 pub fn counting_of(tokens: Tokens) -> Prefix
-    ensures { result ≡ counting_of tokens.entry.left.now }
+    ensures { result ≡ spec.counting_of tokens.entry.left.now }
 {
     if next_is(tokens, Class::Some) {
         Prefix::Some
@@ -280,7 +280,7 @@ pub fn counting_of(tokens: Tokens) -> Prefix
 
 #[tactic(auto, unfolding(alloy_syntax::specs::Nodes::is_plain_comparison))]
 fn is_plain_comparison(tokens: Tokens) -> bool
-    ensures { result ≡ is_plain_comparison tokens.entry.left.now }
+    ensures { result ≡ spec.is_plain_comparison tokens.entry.left.now }
 {
     next_is(tokens, Class::In)
         || next_is(tokens, Class::Equal)
@@ -294,7 +294,7 @@ fn is_plain_comparison(tokens: Tokens) -> bool
 /// A comparison; in braces a `!` that neither `in` nor `=` follows begins the next node.
 #[tactic(auto, unfolding(alloy_syntax::specs::Nodes::begins_comparison))]
 pub fn begins_comparison(tokens: Tokens, around: Around) -> bool
-    ensures { result ≡ begins_comparison around tokens.entry.left.now }
+    ensures { result ≡ spec.begins_comparison around tokens.entry.left.now }
 {
     is_plain_comparison(tokens)
         || (next_is(tokens, Class::Not)
@@ -305,7 +305,7 @@ pub fn begins_comparison(tokens: Tokens, around: Around) -> bool
 
 #[tactic(auto, unfolding(alloy_syntax::specs::Nodes::comparison_of))]
 fn comparison_of(tokens: Tokens) -> Comparison
-    ensures { result ≡ comparison_of tokens.entry.left.now }
+    ensures { result ≡ spec.comparison_of tokens.entry.left.now }
 {
     if next_is(tokens, Class::In) {
         Comparison::In
@@ -325,7 +325,7 @@ fn comparison_of(tokens: Tokens) -> Comparison
 /// A comparison that begins there.
 #[tactic(auto, unfolding(alloy_syntax::specs::Nodes::comparing_at))]
 pub fn comparing<'a>(tokens: Tokens<'a>) -> Result<(Comparing, Tokens<'a>), Halt<'a>>
-    ensures value { Gives (λ x. (x.0, x.1.left.now)) result (comparing_at tokens.entry.left.now) }
+    ensures value { Gives (λ x. (x.0, x.1.left.now)) result (spec.comparing_at tokens.entry.left.now) }
     ensures shorter { IfOk result (λ x. length x.1.left.now ≤ length tokens.entry.left.now) }
 {
     if next_is(tokens, Class::Not) {
@@ -342,7 +342,7 @@ pub fn comparing<'a>(tokens: Tokens<'a>) -> Result<(Comparing, Tokens<'a>), Halt
 // A comparison that begins with `!` or `not`.
 #[tactic(auto, unfolding(alloy_syntax::specs::Nodes::negated_comparing))]
 fn negated<'a>(tokens: Tokens<'a>) -> Result<(Comparing, Tokens<'a>), Halt<'a>>
-    ensures value { Gives (λ x. (x.0, x.1.left.now)) result (negated_comparing tokens.entry.left.now) }
+    ensures value { Gives (λ x. (x.0, x.1.left.now)) result (spec.negated_comparing tokens.entry.left.now) }
     ensures shorter { IfOk result (λ x. length x.1.left.now ≤ length tokens.entry.left.now) }
 {
     let rest = after(tokens);
@@ -360,7 +360,7 @@ fn negated<'a>(tokens: Tokens<'a>) -> Result<(Comparing, Tokens<'a>), Halt<'a>>
 /// What follows a word that may begin a quantifier: `disj`, or names with commas and then a colon.
 #[tactic(auto, unfolding(alloy_syntax::specs::Nodes::begins_declaration))]
 pub fn begins_declaration(tokens: Tokens, around: Around) -> bool
-    ensures { result ≡ begins_declaration around tokens.entry.left.now }
+    ensures { result ≡ spec.begins_declaration around tokens.entry.left.now }
 {
     if next_is(tokens, Class::Disj) {
         return true;
@@ -375,7 +375,7 @@ pub fn begins_declaration(tokens: Tokens, around: Around) -> bool
 /// Which quantifier `some`, `no`, `lone`, or else `one` is.
 #[tactic(auto, unfolding(alloy_syntax::specs::Nodes::quantifier_of))]
 pub fn quantifier_of(tokens: Tokens) -> Quantifier
-    ensures { result ≡ quantifier_of tokens.entry.left.now }
+    ensures { result ≡ spec.quantifier_of tokens.entry.left.now }
 {
     if next_is(tokens, Class::Some) {
         Quantifier::Some
@@ -391,7 +391,7 @@ pub fn quantifier_of(tokens: Tokens) -> Quantifier
 /// Whether a quantifier binds one variable.
 #[tactic(auto, unfolding(alloy_syntax::specs::Nodes::is_single))]
 pub fn is_single(quantifier: Quantifier) -> bool
-    ensures { result ≡ is_single quantifier }
+    ensures { result ≡ spec.is_single quantifier }
 {
     match quantifier {
         Quantifier::All => false,
@@ -404,7 +404,7 @@ pub fn is_single(quantifier: Quantifier) -> bool
 
 /// The tokens behind `disj`, if it stands there.
 pub fn after_disj<'a>(tokens: Tokens<'a>) -> Tokens<'a>
-    ensures value { result.left.now ≡ after_disj tokens.entry.left.now }
+    ensures value { result.left.now ≡ spec.after_disj tokens.entry.left.now }
     ensures shorter { length result.left.now ≤ length tokens.entry.left.now }
 {
     if next_is(tokens, Class::Disj) {

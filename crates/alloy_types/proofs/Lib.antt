@@ -1,7 +1,7 @@
 pub mod WithOutcomes
 pub mod Found
-pub mod Alike
+pub mod SameDeclarations
 pub mod Order
 pub mod Meant
 pub mod Targets
-pub mod Whole
+pub mod SettledModels

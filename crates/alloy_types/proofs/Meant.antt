@@ -17,8 +17,8 @@ use Rattle.settling_rules.specs.Inside.{AreAlikeWhere}
 use Rattle.settling_rules.specs.Same.{AreSameTypes, Asks}
 use Rattle.settling_rules.specs.Single.{relation_settled}
 use Rattle.settling_rules.specs.Told.{IsTold, Gives}
-use Rattle.settling_rules.proofs.Alike.{settled_alike, formulas_alike}
-use Rattle.settling_rules.proofs.Asked.{asks_left, asks_right}
+use Rattle.settling_rules.proofs.SettledAlike.{settled_alike, formulas_alike}
+use Rattle.settling_rules.proofs.SharedDeclarations.{asks_left, asks_right}
 use Rattle.settling_rules.proofs.Reaching.{told_then}
 use Rattle.known_callees.specs.Groups.{GroupTree, entered, group_in, groups_in}
 use Rattle.known_callees.proofs.Grouped.{local_is, arity_is, local_arity}

@@ -12,4 +12,3 @@ mod parts;
 mod settled;
 
 pub use crate::check::check_types;
-pub use std::alloc::AllocError as NoMemory;

@@ -3,4 +3,4 @@ pub mod Freed
 pub mod Picked
 pub mod Trying
 pub mod Seeking
-pub mod Marked
+pub mod MarkedCells

@@ -3,10 +3,9 @@ ghost use Rattle.std.specs.Prelude.{◌≡◌, ◌↔◌, ◌⊎◌, ◌<◌, �
 ghost use Rattle.cnf_core.specs.Valuation.{value_of};
 ghost use Rattle.translation_rules.specs.Translation.{var_of};
 
-use crate::NoMemory;
 use cnf_core::Valuation;
 use rel_formula::Scenario;
-use std::alloc::Global;
+use std::alloc::{AllocError, Global};
 
 /// Marks the cells whose variables are true, beside those that are marked already.
 pub(crate) fn mark_true(marks: &mut [bool], valuation: &Valuation)
@@ -25,7 +24,7 @@ pub(crate) fn marked_outside(
     alloc: Global,
     scenario: &Scenario,
     marks: &[bool],
-) -> Result<Vec<u32>, NoMemory>
+) -> Result<Vec<u32>, AllocError>
     requires { length marks.now ≤ 4096 }
     ensures exactly { IfOk result (λ cells. (cell : ℕ) → Contains cells.items cell ↔ ((cell < length marks.now) × (¬ Contains scenario.now cell) × IsTrue (slice_index_or marks.now cell false))) }
     ensures rising { IfOk result (λ cells. AllPairs (λ m n. m < n) cells.items) }

@@ -9,4 +9,3 @@ mod search;
 pub use crate::answer::Offers;
 pub use crate::offering::offers;
 pub use crate::search::{Sought, seek};
-pub use std::alloc::AllocError as NoMemory;

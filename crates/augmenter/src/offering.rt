@@ -4,13 +4,12 @@ ghost use Rattle.refutation_check.specs.Chain.{IsAccepted};
 ghost use Rattle.rel_formula.specs.Instance.{IsInstance, with_cell};
 ghost use Rattle.augmenter.specs.Offering.{parts_of, AreTrials, IsRight};
 
-use crate::NoMemory;
 use crate::answer::Offers;
 use crate::cells::{mark_true, marked_outside};
 use crate::search::{Sought, seek};
 use refutation_check::Log;
 use rel_formula::Scenario;
-use std::alloc::Global;
+use std::alloc::{AllocError, Global};
 use translation::Translation;
 
 /// All cells outside an instance that some instance has together with it.
@@ -25,7 +24,7 @@ pub fn offers(
     pool: &Log,
     scenario: &Scenario,
     budget: u64,
-) -> Result<Offers, NoMemory>
+) -> Result<Offers, AllocError>
     requires pool { IsAccepted translation.now.cnf.clauses pool.now }
     requires few { length pool.now ≤ 20000 }
     requires scenario { IsInstance translation.now.problem scenario.now }
@@ -34,7 +33,7 @@ pub fn offers(
     ensures answer { IfOk result (IsRight translation.now pool.now scenario.now budget) }
 {
     let problem = translation.problem();
-    let _ = problem.relations();
+    let _ = problem.relations(); // for the proof
     let cells = problem.cells();
     let mut possible = vec![in alloc; false; cells as usize]?;
     let mut parts = Vec::new(alloc);
@@ -65,7 +64,7 @@ pub fn offers(
 }
 
 // The scenario with one more cell.
-fn with(alloc: Global, scenario: &Scenario, cell: u32) -> Result<Scenario, NoMemory>
+fn with(alloc: Global, scenario: &Scenario, cell: u32) -> Result<Scenario, AllocError>
     ensures { IfOk result (λ more. more ≡ with_cell cell scenario.now) }
 {
     let mut more = scenario.copy(alloc)?;

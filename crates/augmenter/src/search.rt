@@ -4,14 +4,13 @@ ghost use Rattle.refutation_check.specs.Chain.{IsAccepted};
 ghost use Rattle.rel_formula.specs.Instance.{AreCells};
 ghost use Rattle.augmenter.specs.Search.{part_in, IsSearchFor, IsRightFor};
 
-use crate::NoMemory;
 use clause_pool::accepted_hints_name_members;
 use cnf_core::Valuation;
 use local_clauses::units_of;
 use refutation_check::{Log, Part, accepted_is_entailed};
 use rel_formula::Scenario;
 use sat_core::{Answer, solve_towards};
-use std::alloc::Global;
+use std::alloc::{AllocError, Global};
 use translation::Translation;
 use translation_rules::laws::units_say_what_is_possible;
 
@@ -37,7 +36,7 @@ pub fn seek(
     pool: &Log,
     cells: &Scenario,
     budget: u64,
-) -> Result<Sought, NoMemory>
+) -> Result<Sought, AllocError>
     requires pool { IsAccepted translation.now.cnf.clauses pool.now }
     requires few { length pool.now ≤ 20000 }
     requires cells { AreCells translation.now.problem cells.now }
@@ -48,7 +47,7 @@ pub fn seek(
     accepted_hints_name_members();
     accepted_is_entailed();
     units_say_what_is_possible();
-    let _ = translation.problem().relations();
+    let _ = translation.problem().relations(); // for the proof
     let local = units_of(alloc, cells.numbers())?;
     match solve_towards(
         alloc,

@@ -10,8 +10,8 @@ use Rattle.rel_formula.specs.Kernel.{FormulaTree}
 use Rattle.rel_formula.specs.Bounds.{Bounded, IsRelation, IsProblem, IsAtomOf, relation_at}
 use Rattle.rel_formula.specs.Renaming.{IsRenaming, IsSymmetric}
 use Rattle.rel_formula.proofs.Images.{map_undone}
-use Rattle.rel_formula.proofs.Open.{cons_cases, cons_first}
-use Rattle.rel_formula.proofs.Single.{only_one}
+use Rattle.rel_formula.proofs.OpenCells.{cons_cases, cons_first}
+use Rattle.rel_formula.proofs.OneSetOfAtoms.{only_one}
 use Rattle.rel_formula.specs.Shape.{IsProper}
 use Rattle.rel_formula.proofs.Two.{two_problem}
 use Rattle.bench.specs.Powers.{AreAtoms, IsPower}

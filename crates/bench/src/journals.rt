@@ -5,11 +5,10 @@ ghost use Rattle.bench.specs.Journals.{with_session};
 
 use hub_state::{Event, Hub};
 use rel_formula::{Formula, Problem, Scenario};
-use session_rules::Step;
-use session_rules::answers::Reply;
+use session_rules::{Reply, Step};
 use std::alloc::{AllocError, Global};
 
-/// The most sessions that are recorded.
+// The most sessions that are recorded.
 const MOST_SESSIONS: u32 = 1_000_000;
 
 /// Records for so many sessions, at most a million, that each was opened and was shown a scenario, and gives the number of

@@ -14,7 +14,7 @@ mod texts;
 mod translations;
 mod turns;
 
-use found::Found;
+use crate::found::Found;
 use std::alloc::{AllocError, Global};
 use std::sync::Wait;
 use std::thread::Threads;

@@ -8,7 +8,7 @@ use cnf_core::Cnf;
 use refutation_check::{Log, Scratch, Verdict, check};
 use std::alloc::{AllocError, Global};
 
-/// How many steps of 999 hints and 22 literals a pool takes.
+// How many steps of 999 hints and 22 literals a pool takes.
 const STEPS: u32 = 1958;
 
 /// Takes the free steps of a log of 1,958 steps so many times, and gives how many it found each time, where it was always as
@@ -43,7 +43,7 @@ fn free_steps(alloc: Global, formula: &Cnf, log: &Log) -> Result<usize, AllocErr
     requires { IsAccepted formula.now.clauses log.now }
 {
     accepted_hints_name_members();
-    let _steps = log.steps();
+    let _steps = log.steps(); // for the proof
     let free = free_of(alloc, log, formula.len(), 0, 0)?;
     Ok(free.steps().len())
 }

@@ -27,7 +27,7 @@ pub fn pairs(alloc: Global, atoms: &TupleSet) -> Result<TupleSet, AllocError>
     ensures arity { IfOk result (λ s. s.arity ≡ 2) }
     ensures all { IfOk result (IsPower atoms.now) }
 {
-    let _ = atoms.rows();
+    let _ = atoms.rows(); // for the proof
     let all = atoms.product(alloc, atoms)?;
     Ok(all)
 }
@@ -38,7 +38,7 @@ pub fn triples(alloc: Global, atoms: &TupleSet) -> Result<TupleSet, AllocError>
     ensures arity { IfOk result (λ s. s.arity ≡ 3) }
     ensures all { IfOk result (IsPower atoms.now) }
 {
-    let _ = atoms.rows();
+    let _ = atoms.rows(); // for the proof
     let ends = pairs(alloc, atoms)?;
     let all = atoms.product(alloc, &ends)?;
     Ok(all)
@@ -57,13 +57,13 @@ pub fn problem(
     ensures symmetric { IfOk result (λ made. IfSome made IsSymmetric) }
     ensures tops { IfOk result (λ made. IfSome made (λ p. p.tops ≡ 0 ∷ [])) }
 {
-    let _ = atoms.rows();
-    let _ = tuples.rows();
+    let _ = atoms.rows(); // for the proof
+    let _ = tuples.rows(); // for the proof
     if atoms.len() > 62 || tuples.len() > 4034 {
         return Ok(None);
     }
     let none = TupleSet::new(alloc, tuples.arity());
-    let _ = none.rows();
+    let _ = none.rows(); // for the proof
     let set = Relation {
         name: Name::of(alloc, "A")?,
         lower: atoms.copy(alloc)?,

@@ -6,10 +6,10 @@ use cnf_core::{Clause, Cnf, Lit};
 use refutation_check::{Hints, Log, Scratch, Step, Verdict, check};
 use std::alloc::{AllocError, Global};
 
-/// How many variables imply each other in a row.
+// How many variables imply each other in a row.
 const LONG: u32 = 1000;
 
-/// How many further literals each clause has.
+// How many further literals each clause has.
 const WIDE: u32 = 20;
 
 /// How many variables the formula has.
@@ -100,7 +100,7 @@ pub fn log_of(alloc: Global, steps: u32) -> Result<Option<Log>, AllocError>
 {
     let mut log = Log::new(alloc);
     for made in 0..few(steps) {
-        let _ = made;
+        let _ = made; // for the proof
         let Some(step) = step_of(alloc)? else {
             return Ok(None);
         };

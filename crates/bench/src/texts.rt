@@ -3,10 +3,10 @@ use alloy_lex::lex;
 use alloy_parse::{ParseFault, parse};
 use std::alloc::{AllocError, Global};
 
-/// How many lines a text has at most.
+// How many lines a text has at most.
 const PAGE: u32 = 16_384;
 
-/// The lines of a model, over and over.
+// The lines of a model, over and over.
 const LINES: [&str; 8] = [
     "module family // who descends from whom\n",
     "abstract sig Person { father: lone Man, mother: lone Woman }\n",
@@ -18,7 +18,7 @@ const LINES: [&str; 8] = [
     "run related for exactly 3 Man, 2 Woman, 7 Person expect 1\n",
 ];
 
-/// The paragraphs of a model, over and over.
+// The paragraphs of a model, over and over.
 const PARAGRAPHS: [&str; 8] = [
     "abstract sig Person { father: lone Man, mother: lone Woman }\n",
     "sig Man, Woman extends Person { friends: set Person }\n",

@@ -148,7 +148,7 @@ fn translation(alloc: Global, problem: Problem, terms: u32) -> Result<Translatio
     ensures clauses { IfOk result (λ size. size.clauses ≤ 3 * length (cells_of problem) + 7 + 48 * terms) }
 {
     let made = Translation::build(alloc, problem)?;
-    let _ = made.problem();
+    let _ = made.problem(); // for the proof
     let swaps = made.pairs().len().min(64) as u32;
     Ok(TranslationSize {
         terms,

@@ -5,7 +5,7 @@ use Rattle.rel_formula.specs.declared.formula.Formula.{Formula}
 use Rattle.rel_formula.specs.Kernel.{rel, within, equal, at_least, meet, disjunction, formulas_of}
 use Rattle.rel_formula.specs.View.{formula_tree}
 use Rattle.rel_formula.specs.Shape.{IsProper}
-use Rattle.rel_formula.proofs.Parts.{are_proper}
+use Rattle.rel_formula.proofs.AndOrParts.{are_proper}
 use Rattle.bench_descents.specs.Sets.{IsAbout}
 
 module _ (count a b : ℕ) (left : a < count) (right : b < count) where

@@ -5,7 +5,7 @@ use Rattle.std.proofs.lemmas.List.Elements.{All-cons, All-nil, All-map, All-push
 use Rattle.std.proofs.lemmas.List.Quantifiers.{all_pairs_push}
 use Rattle.tuple_core.specs.Rows.{Rows, IsRows}
 use Rattle.rel_formula.specs.declared.problem.Relation.{Relation}
-use Rattle.rel_formula.proofs.Single.{one_pair}
+use Rattle.rel_formula.proofs.OneSetOfAtoms.{one_pair}
 use Rattle.rel_formula.proofs.Unary.{IsSetOver, any_set, whole_set}
 use Rattle.bench_descents.specs.Sets.{IsSet}
 

@@ -30,7 +30,7 @@ fn all_of(parts: Vec<Formula>, sets: u8) -> Formula
     requires { All (λ f. IsAbout (sets + 1) (formula_tree f)) parts.items }
     ensures { IsAbout (sets + 1) (formula_tree result) }
 {
-    let _sets = sets;
+    let _sets = sets; // for the proof
     Formula::all_of(parts)
 }
 
@@ -77,7 +77,7 @@ fn comparable(alloc: Global, one: u8, other: u8, sets: u8) -> Result<Formula, Al
     requires other { other ≤ sets }
     ensures { IfOk result (λ f. IsAbout (sets + 1) (formula_tree f)) }
 {
-    let _sets = sets;
+    let _sets = sets; // for the proof
     let up = Formula::In(Expression::Rel(one), Expression::Rel(other));
     let down = Formula::In(Expression::Rel(other), Expression::Rel(one));
     let either = vec![in alloc; up, down]?;
@@ -90,7 +90,7 @@ fn different(alloc: Global, one: u8, other: u8, sets: u8) -> Result<Formula, All
     requires other { other ≤ sets }
     ensures { IfOk result (λ f. IsAbout (sets + 1) (formula_tree f)) }
 {
-    let _sets = sets;
+    let _sets = sets; // for the proof
     let equal = Formula::Equal(Expression::Rel(one), Expression::Rel(other));
     Ok(Formula::Not(Box::new(alloc, equal)?))
 }
@@ -101,7 +101,7 @@ fn apart(alloc: Global, one: u8, other: u8, sets: u8) -> Result<Formula, AllocEr
     requires other { other ≤ sets }
     ensures { IfOk result (λ f. IsAbout (sets + 1) (formula_tree f)) }
 {
-    let _sets = sets;
+    let _sets = sets; // for the proof
     let left = Box::new(alloc, Expression::Rel(one))?;
     let right = Box::new(alloc, Expression::Rel(other))?;
     let shared = Formula::AtLeast(1, Expression::Meet(left, right));

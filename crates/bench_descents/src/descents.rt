@@ -12,7 +12,7 @@ use rel_formula::{Problem, Scenario, holds};
 use std::alloc::{AllocError, Global};
 use translation::Translation;
 
-/// The most steps of a descent, and of the search for offers.
+// The most steps of a descent, and of the search for offers.
 const BUDGET: u64 = 10_000_000;
 
 /// What is found where this is done with the problem of so many sets: `make`, `descend` from a scenario of up to 500 cells, or

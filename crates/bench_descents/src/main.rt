@@ -7,7 +7,7 @@ mod descents;
 mod found;
 mod sets;
 
-use found::Found;
+use crate::found::Found;
 use std::alloc::{AllocError, Global};
 use std::{env, io};
 

@@ -70,7 +70,7 @@ fn relations(alloc: Global, all: &TupleSet, sets: u8) -> Result<Vec<Relation>, A
     ensures count { IfOk result (λ made. length made.items ≡ sets + 1) }
     ensures over { IfOk result (λ made. AreSets all.now made.items) }
 {
-    let _ = all.rows();
+    let _ = all.rows(); // for the proof
     let fixed = Relation {
         name: Name::of(alloc, "")?,
         lower: all.copy(alloc)?,
@@ -79,7 +79,7 @@ fn relations(alloc: Global, all: &TupleSet, sets: u8) -> Result<Vec<Relation>, A
     let mut relations = vec![in alloc; fixed]?;
     let mut name = String::new(alloc);
     for made in 0..sets {
-        let _ = made;
+        let _ = made; // for the proof
         name.push_str("S")?;
         relations.push(Relation {
             name: Name::of(alloc, name.as_str())?,

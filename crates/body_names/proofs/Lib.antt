@@ -1,6 +1,6 @@
 pub mod Depths
 pub mod Nodes
 pub mod Variables
-pub mod Seen
+pub mod SeenPaths
 pub mod Steps
 pub mod Calls

@@ -8,4 +8,3 @@ mod shape;
 
 pub use circuit::{Circuit, MOST_NODES};
 pub use shape::{Node, Shape};
-pub use std::alloc::AllocError as NoMemory;

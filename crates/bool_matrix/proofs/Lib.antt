@@ -7,10 +7,10 @@ pub mod Distinct
 pub mod Closure
 pub mod Squares
 pub mod Keys
-pub mod Compared
-pub mod Turns
+pub mod ComparedEntries
+pub mod TurnedPairs
 pub mod Rows
-pub mod Counting
+pub mod TrueEntries
 pub mod Merges
 pub mod Small
-pub mod Meetings
+pub mod JoiningPairs

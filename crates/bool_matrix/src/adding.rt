@@ -74,7 +74,7 @@ impl Matrix {
         ensures gains { OnOk result (MatrixGains circuit.old circuit.new self.old self.new (λ inputs t. TrueAt circuit.old inputs entry.now t × TrueIn circuit.old filter.now inputs key.now) (λ t. AtEntry entry.now t × ThereIn filter.now key.now)) }
         ensures size { size circuit.new ≤ size circuit.old + 2 }
     {
-        let _ = filter.entries();
+        let _ = filter.entries(); // for the proof
         if let Some(node) = filter.node(key) {
             let both = circuit.and(entry.node, node)?;
             self.add(circuit, entry.tuple.copy(), both)?;
@@ -96,7 +96,7 @@ impl Matrix {
         ensures says { IfOk result (λ n. Says circuit.new n (λ inputs. IsTrue (value_at circuit.old node inputs) × (TrueIn circuit.old self.now inputs tuple.now → ⊥))) }
         ensures size { size circuit.new ≤ size circuit.old + 2 }
     {
-        let _ = self.entries();
+        let _ = self.entries(); // for the proof
         match self.node(tuple) {
             Some(other) => {
                 let absent = circuit.not(other)?;

@@ -33,7 +33,7 @@ impl Matrix {
         let len = circuit.len();
         match self.united(alloc, circuit, other) {
             Ok(made) => {
-                let _ = made.entries();
+                let _ = made.entries(); // for the proof
                 Ok(made)
             }
             Err(error) => {
@@ -64,7 +64,7 @@ impl Matrix {
         let len = circuit.len();
         match self.without(alloc, circuit, other) {
             Ok(made) => {
-                let _ = made.entries();
+                let _ = made.entries(); // for the proof
                 Ok(made)
             }
             Err(error) => {
@@ -94,7 +94,7 @@ impl Matrix {
         let len = circuit.len();
         match self.met(alloc, circuit, other) {
             Ok(made) => {
-                let _ = made.entries();
+                let _ = made.entries(); // for the proof
                 Ok(made)
             }
             Err(error) => {

@@ -100,7 +100,7 @@ impl Matrix {
         ensures says { IfOk result (λ n. Says circuit.new n (λ inputs. IsTrue (value_at circuit.old node inputs) → TrueIn circuit.old self.now inputs tuple.now)) }
         ensures size { size circuit.new ≤ size circuit.old + 2 }
     {
-        let _ = self.entries();
+        let _ = self.entries(); // for the proof
         match self.node(tuple) {
             Some(other) => {
                 let absent = circuit.not(node)?;

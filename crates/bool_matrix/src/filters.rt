@@ -33,7 +33,7 @@ impl Matrix {
         let len = circuit.len();
         match self.domain_in(alloc, circuit, atoms) {
             Ok(made) => {
-                let _ = made.entries();
+                let _ = made.entries(); // for the proof
                 Ok(made)
             }
             Err(error) => {
@@ -64,7 +64,7 @@ impl Matrix {
         let len = circuit.len();
         match self.range_in(alloc, circuit, atoms) {
             Ok(made) => {
-                let _ = made.entries();
+                let _ = made.entries(); // for the proof
                 Ok(made)
             }
             Err(error) => {
@@ -96,7 +96,7 @@ impl Matrix {
         let len = circuit.len();
         match self.overridden(alloc, circuit, other) {
             Ok(made) => {
-                let _ = made.entries();
+                let _ = made.entries(); // for the proof
                 Ok(made)
             }
             Err(error) => {

@@ -34,7 +34,7 @@ impl Matrix {
         let len = circuit.len();
         match self.joined(alloc, circuit, other) {
             Ok(made) => {
-                let _ = made.entries();
+                let _ = made.entries(); // for the proof
                 Ok(made)
             }
             Err(error) => {
@@ -65,7 +65,7 @@ impl Matrix {
         let len = circuit.len();
         match self.multiplied(alloc, circuit, other) {
             Ok(made) => {
-                let _ = made.entries();
+                let _ = made.entries(); // for the proof
                 Ok(made)
             }
             Err(error) => {
@@ -85,7 +85,7 @@ impl Matrix {
         for entry in self.entries() {
             out.put(entry.tuple.transpose(), entry.node)?;
         }
-        let _ = out.entries();
+        let _ = out.entries(); // for the proof
         Ok(out)
     }
 

@@ -14,4 +14,3 @@ mod walks;
 
 pub use crate::entry::Entry;
 pub use crate::matrix::Matrix;
-pub use std::alloc::AllocError as NoMemory;

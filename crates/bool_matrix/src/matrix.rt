@@ -98,7 +98,7 @@ impl Matrix {
         ensures size { size circuit.new ≡ size circuit.old }
         ensures err { OnErr result (circuit.new ≡ circuit.old) }
     {
-        let _ = self.entries();
+        let _ = self.entries(); // for the proof
         match self.node(tuple) {
             Some(node) => Ok(node),
             None => {

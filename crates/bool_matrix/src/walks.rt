@@ -33,7 +33,7 @@ impl Matrix {
         let len = circuit.len();
         match self.closed(alloc, circuit) {
             Ok(made) => {
-                let _ = made.entries();
+                let _ = made.entries(); // for the proof
                 Ok(made)
             }
             Err(error) => {
@@ -53,7 +53,7 @@ impl Matrix {
         ensures is { IfOk result (λ m. IsMatrixOf circuit.new m 2 (λ inputs. Closed (TrueIn circuit.old self.now inputs)) (Closed (ThereIn self.now))) }
         ensures size { IfOk result (λ m. size circuit.new ≤ size circuit.old + 16 * (6 * joins (tuples m) (tuples m))) }
     {
-        let _ = self.entries();
+        let _ = self.entries(); // for the proof
         let mut left = self.first_count();
         let mut walks = self.copy(alloc)?;
         for step in 0..6u32 {

@@ -29,7 +29,7 @@ use Rattle.lowering_rules.proofs.Inversion.{bind_ok, same_ok, arity_inv}
 use Rattle.lowering_rules.proofs.Outlined.{same_some}
 use Rattle.lowering_rules.proofs.Arities.{get_map}
 use Rattle.lowering_rules.proofs.Unfolded.{call_unfolds}
-use Rattle.lowering_rules.proofs.Whole.{settled_is}
+use Rattle.lowering_rules.proofs.ProblemFormulas.{settled_is}
 use Rattle.lowering_rules.proofs.Headers.{header_is, settled_rank, is_known, all_known}
 use Rattle.bounding_laws.proofs.Expressions.{IsBounded, In, AllIn, AreIn, IsSound, expression}
 

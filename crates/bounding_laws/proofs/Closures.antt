@@ -3,7 +3,7 @@ use Rattle.std.proofs.Common.{◌≡◌, ◌⊎◌, inl, inr, ℕ, zero, List, [
 use Rattle.std.proofs.lemmas.List.Elements.{Contains-append_left, Contains-append_right}
 use Rattle.tuple_core.specs.declared.atom.Atom.{Atom}
 use Rattle.tuple_core.specs.Operators.{Pred, Walk, Closed}
-use Rattle.rel_formula.proofs.Open.{cons_cases, has_filter}
+use Rattle.rel_formula.proofs.OpenCells.{cons_cases, has_filter}
 use Rattle.model_sizes.specs.declared.size.Size.{Size}
 use Rattle.model_types.specs.Bounding.{Lists, has, end_of, start_of, joined, joins, starting_in, ending_in, through}
 use Rattle.lowering_rules.specs.Relations.{IsPlaceOf, InProduct, InProducts}

@@ -7,7 +7,7 @@ use Rattle.alloy_lex.specs.declared.token.Place.{Place}
 use Rattle.tuple_core.specs.declared.atom.Atom.{Atom}
 use Rattle.rel_formula.specs.Kernel.{ExpressionTree}
 use Rattle.rel_formula.specs.Meaning.{Structure}
-use Rattle.rel_formula.proofs.Open.{cons_first, cons_later}
+use Rattle.rel_formula.proofs.OpenCells.{cons_first, cons_later}
 use Rattle.rel_formula.proofs.Lists.{some_at}
 use Rattle.named_model.specs.declared.phrase.Referent.{Referent}
 use Rattle.named_model.specs.declared.phrase.Referent.TheVariants as referent

@@ -9,7 +9,7 @@ use Rattle.std.proofs.lemmas.Slice.Eq.{bytes_eq-Decides}
 use Rattle.std.proofs.Math.Seq.{drop-append_seam, take-append_seam}
 use Rattle.tuple_core.specs.declared.atom.Atom.{Atom}
 use Rattle.tuple_core.specs.Operators.{Pred, JoinsTo, BeginsWith, EndsWith}
-use Rattle.rel_formula.proofs.Open.{cons_cases, has_map, map_has, has_filter}
+use Rattle.rel_formula.proofs.OpenCells.{cons_cases, has_map, map_has, has_filter}
 use Rattle.model_sizes.specs.declared.size.Size.{Size}
 use Rattle.model_types.specs.Bounding.{Lists, has, end_of, start_of, products, joined, joins, meet, starting_in, ending_in, singles, doubles}
 use Rattle.lowering_rules.specs.Relations.{IsPlaceOf, InProduct, InProducts}

@@ -6,7 +6,7 @@ use Rattle.std.proofs.lemmas.Slice.Zip.{AllZip-long}
 use Rattle.tuple_core.specs.declared.atom.Atom.{Atom}
 use Rattle.rel_formula.specs.Bounds.{Bounded, relation_at}
 use Rattle.rel_formula.specs.Instance.{InRelation, InSome, structure_of}
-use Rattle.rel_formula.proofs.Open.{cons_cases, cons_first, cons_later, cell_open, has_map}
+use Rattle.rel_formula.proofs.OpenCells.{cons_cases, cons_first, cons_later, cell_open, has_map}
 use Rattle.rel_formula.proofs.Lists.{some_below}
 use Rattle.named_model.specs.declared.fault.NameFault.{NameFault}
 use Rattle.named_model.specs.declared.named.Signature.{Signature}

@@ -1,4 +1,4 @@
-pub mod Alike
-pub mod Ends
+pub mod SameListsMade
+pub mod ListEnds
 pub mod Sets
-pub mod Turns
+pub mod SetsSoFar

@@ -11,4 +11,3 @@ mod work;
 
 pub use crate::kept::{BoundingType, MOST_LISTS};
 pub use crate::work::Work;
-pub use std::alloc::AllocError as NoMemory;

@@ -5,7 +5,7 @@ ghost use Rattle.model_types.specs.Bounding.{start_of, end_of};
 use std::alloc::{AllocError, Global};
 
 // The first signature of a list, as a list of one.
-#[tactic(auto, using(crate::proofs::Ends::start_by_length))]
+#[tactic(auto, using(crate::proofs::ListEnds::start_by_length))]
 pub fn start_of(list: &[usize]) -> &[usize]
     ensures { result.now ≡ start_of list.now }
 {
@@ -27,7 +27,7 @@ fn front(list: &[usize]) -> &[usize]
 }
 
 // A list without its first signature.
-#[tactic(auto, using(crate::proofs::Ends::rest_by_length))]
+#[tactic(auto, using(crate::proofs::ListEnds::rest_by_length))]
 fn rest(list: &[usize]) -> &[usize]
     ensures { result.now ≡ drop 1 list.now }
 {

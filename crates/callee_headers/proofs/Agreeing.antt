@@ -15,7 +15,7 @@ use Rattle.model_types.specs.Typing.{Local, Field, Header, Declared, call_type, 
 use Rattle.model_types.specs.Models.{local_of, or_unknown, Domain, domains_known, parameters_known, kind_known, type_known, header_with, header_of}
 use Rattle.callee_headers.specs.Called.{EachCalled, EachCalledInAll, EachCalledInLinks, EachCalledInSteps, EachCalledInDomains, EachCalledInMeaning, EachCalledBy}
 use Rattle.callee_headers.proofs.TypesAlike.{type_alike, types_alike}
-use Rattle.callee_headers.proofs.Alike.{Alike, Any, alike_ok, alike_any, alike_path, alike_then, alike_if}
+use Rattle.callee_headers.proofs.SameAnswers.{Alike, Any, alike_ok, alike_any, alike_path, alike_then, alike_if}
 
 module _ (signatures : List Signature) (fields : List Field) (f g : ℕ → Option Header) (P : ℕ → Type 0) (agree : (n : ℕ) → P n → f n ≡ g n) where
   abbrev pub one : Declared

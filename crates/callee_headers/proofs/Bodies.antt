@@ -9,7 +9,7 @@ use Rattle.model_types.specs.Models.{or_unknown, Domain, domains_known, paramete
 use Rattle.expression_types.specs.Types.{called_type, calls_within}
 use Rattle.callee_headers.specs.Called.{EachCalled, EachCalledInMeaning, EachCalledBy, AreRanks}
 use Rattle.callee_headers.specs.Bodies.{tree_of, body_in, body_of, bodies_of, AreLow}
-use Rattle.callee_headers.proofs.Alike.{Alike}
+use Rattle.callee_headers.proofs.SameAnswers.{Alike}
 use Rattle.callee_headers.proofs.TypesAlike.{type_alike}
 use Rattle.callee_headers.proofs.Agreeing.{settled_agrees, known_agree}
 use Rattle.callee_headers.proofs.Ranks.{headers_by_ranks}

@@ -1,5 +1,5 @@
 pub mod Agreeing
-pub mod Alike
+pub mod SameAnswers
 pub mod Bodies
 pub mod Ranks
 pub mod TypesAlike

@@ -12,7 +12,7 @@ use Rattle.bool_circuit.specs.Value.{value_at}
 use Rattle.bool_circuit.proofs.Values.{value_at-shape}
 use Rattle.circuit_cnf.specs.ClauseForm.{inputs_of, HasInputs, IsClauseForm}
 use Rattle.circuit_cnf.proofs.Agreeing.{shape_agrees}
-use Rattle.circuit_cnf.proofs.Marking.{reads_before}
+use Rattle.circuit_cnf.proofs.OutputMarks.{reads_before}
 use Rattle.circuit_cnf.proofs.Pushed.{All-front}
 
 -- a node's value rests on the inputs that there are

@@ -7,7 +7,7 @@ use Rattle.cnf_core.specs.declared.literal.Lit.{Lit}
 use Rattle.cnf_core.specs.Literal.{negation_of, IsTautology, HasVarsUpTo}
 use Rattle.cnf_core.specs.Valuation.{literal_value, clause_value}
 use Rattle.cnf_core.proofs.Literals.{not_itself}
-use Rattle.cnf_core.proofs.Same.{clause_value-same, All-same}
+use Rattle.cnf_core.proofs.SameLiterals.{clause_value-same, All-same}
 use Rattle.bool_circuit.specs.Network.{Network}
 use Rattle.bool_circuit.specs.Value.{place, value_at}
 use Rattle.circuit_cnf.specs.ClauseForm.{inputs_of, IsClauseForm, IsSmall}

@@ -2,6 +2,6 @@ pub mod Agreeing
 pub mod Answering
 pub mod Defining
 pub mod Finishing
-pub mod Growing
-pub mod Marking
+pub mod GrowingEncodings
+pub mod OutputMarks
 pub mod Pushed

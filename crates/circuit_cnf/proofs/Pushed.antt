@@ -5,7 +5,7 @@ use Rattle.std.proofs.lemmas.List.Elements.{All-push, All-nil, All-cons, All-hea
 use Rattle.cnf_core.specs.declared.literal.Lit.{Lit}
 use Rattle.cnf_core.specs.Literal.{negation_of, HasVarsUpTo}
 use Rattle.cnf_core.specs.Valuation.{literal_value, clause_value, Satisfies}
-use Rattle.cnf_core.proofs.Same.{All-same, clause_value-same, clause_value-tautology}
+use Rattle.cnf_core.proofs.SameLiterals.{All-same, clause_value-same, clause_value-tautology}
 use Rattle.circuit_cnf.specs.Encoding.{IsPushed, Adds}
 
 pub All-front : {X : Type 0} (P : X → Type 0) (xs ys : List X) → All P (xs ++ ys) → All P xs

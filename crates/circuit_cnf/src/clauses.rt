@@ -3,12 +3,11 @@ ghost use Rattle.std.specs.Prelude.{◌≡◌, ◌+◌, ◌<◌, ◌≤◌, ◌^
 ghost use Rattle.cnf_core.specs.Literal.{HasVarsUpTo};
 ghost use Rattle.circuit_cnf.specs.ClauseForm.{IsClauseForm, IsSmall};
 
-use crate::NoMemory;
 use crate::encoding::encoding_of;
 use crate::gates::add_clause;
 use bool_circuit::{Circuit, Node};
 use cnf_core::{Clause, Cnf};
-use std::alloc::Global;
+use std::alloc::{AllocError, Global};
 
 /// The most inputs and nodes, together, of a circuit that has a clause form here.
 pub const MOST_SIZE: u32 = 268_435_456;
@@ -19,7 +18,7 @@ pub const MOST_SIZE: u32 = 268_435_456;
 /// output rests on; a negation is the negated literal. Each gate has the clauses that say what it is, so a valuation of
 /// the inputs has exactly one extension that satisfies them; the last clause asks that the output is true.
 /// The circuit has at most `MOST_SIZE` inputs and nodes together.
-pub fn clauses_of(alloc: Global, circuit: &Circuit, output: Node) -> Result<Cnf, NoMemory>
+pub fn clauses_of(alloc: Global, circuit: &Circuit, output: Node) -> Result<Cnf, AllocError>
     requires output { output < length circuit.now.shapes }
     requires size { circuit.now.inputs + length circuit.now.shapes ≤ MOST_SIZE }
     ensures form { IfOk result (IsClauseForm circuit.now output) }
@@ -32,7 +31,7 @@ pub fn clauses_of(alloc: Global, circuit: &Circuit, output: Node) -> Result<Cnf,
 }
 
 // The formula of these clauses.
-fn formula_of(alloc: Global, vars: u32, clauses: Vec<Clause>) -> Result<Cnf, NoMemory>
+fn formula_of(alloc: Global, vars: u32, clauses: Vec<Clause>) -> Result<Cnf, AllocError>
     requires vars { vars < 2 ^ 31 }
     requires within { All (HasVarsUpTo vars) clauses.items }
     requires few { length clauses.items < 2 ^ 30 }

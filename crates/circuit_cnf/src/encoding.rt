@@ -4,12 +4,11 @@ ghost use Rattle.bool_circuit.specs.Network.{ReadsBelow};
 ghost use Rattle.circuit_cnf.specs.Resting.{Reads};
 ghost use Rattle.circuit_cnf.specs.Encoding.{AreMarks, IsAmong, literal_at, IsLiteral, IsEncoding};
 
-use crate::NoMemory;
 use crate::gates::{add_clause, add_conjunction};
 use crate::marks::marks_of;
 use bool_circuit::{Circuit, Node, Shape};
 use cnf_core::{Clause, Lit};
-use std::alloc::Global;
+use std::alloc::{AllocError, Global};
 
 /// The literals of the first nodes, the number of variables, and the clauses of the gates.
 #[derive(Drop)]
@@ -24,7 +23,7 @@ pub(crate) fn encoding_of(
     alloc: Global,
     circuit: &Circuit,
     output: Node,
-) -> Result<Encoding, NoMemory>
+) -> Result<Encoding, AllocError>
     requires output { output < length circuit.now.shapes }
     requires size { circuit.now.inputs + length circuit.now.shapes ≤ 2 ^ 28 }
     ensures count { IfOk result (λ e. length e.literals.items ≡ length circuit.now.shapes) }
@@ -50,7 +49,7 @@ impl Encoding {
         circuit: &Circuit,
         marks: &[bool],
         i: u32,
-    ) -> Result<(), NoMemory>
+    ) -> Result<(), AllocError>
         requires node { i < length circuit.now.shapes }
         requires next { length self.old.literals.items ≡ i }
         requires size { circuit.now.inputs + length circuit.now.shapes ≤ 2 ^ 28 }
@@ -72,7 +71,7 @@ impl Encoding {
     }
 
     // The literal of a shape. A constant, a conjunction and a disjunction get the next variable, and clauses.
-    fn literal_of(&mut self, alloc: Global, shape: Shape) -> Result<Lit, NoMemory>
+    fn literal_of(&mut self, alloc: Global, shape: Shape) -> Result<Lit, AllocError>
         requires inputs { ReadsBelow self.old.vars (length self.old.literals.items) shape }
         requires operands { (m : ℕ) → Reads shape m → IsAmong self.old.vars (literal_at self.old.literals.items m) }
         requires room { self.old.vars + 1 < 2 ^ 31 }

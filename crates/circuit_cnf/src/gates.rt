@@ -4,16 +4,15 @@ ghost use Rattle.cnf_core.specs.Literal.{IsVariable};
 ghost use Rattle.cnf_core.specs.Valuation.{literal_value};
 ghost use Rattle.circuit_cnf.specs.Encoding.{IsPushed, Adds};
 
-use crate::NoMemory;
 use cnf_core::{Clause, Lit};
-use std::alloc::Global;
+use std::alloc::{AllocError, Global};
 
 /// Adds the clause of these literals, where it isn't true of itself.
 pub(crate) fn add_clause(
     alloc: Global,
     clauses: &mut Vec<Clause>,
     lits: &[Lit],
-) -> Result<(), NoMemory>
+) -> Result<(), AllocError>
     requires { All (λ l. IsVariable l.var) lits.now }
     ensures { OnOk result (IsPushed lits.now clauses.old.items clauses.new.items) }
 {
@@ -30,7 +29,7 @@ pub(crate) fn add_conjunction(
     both: Lit,
     a: Lit,
     b: Lit,
-) -> Result<(), NoMemory>
+) -> Result<(), AllocError>
     requires { All (λ l. IsVariable l.var) (both ∷ a ∷ b ∷ []) }
     ensures { OnOk result (Adds 3 (both ∷ a ∷ b ∷ []) (λ v. literal_value v both ≡ (literal_value v a && literal_value v b)) clauses.old.items clauses.new.items) }
 {

@@ -7,5 +7,4 @@ mod gates;
 pub mod laws;
 mod marks;
 
-pub use clauses::{MOST_SIZE, clauses_of};
-pub use std::alloc::AllocError as NoMemory;
+pub use crate::clauses::{MOST_SIZE, clauses_of};

@@ -5,16 +5,15 @@ ghost use Rattle.bool_circuit.specs.Value.{place};
 ghost use Rattle.circuit_cnf.specs.Resting.{Reads};
 ghost use Rattle.circuit_cnf.specs.Encoding.{AreMarks};
 
-use crate::NoMemory;
 use bool_circuit::{Circuit, Node, Shape};
-use std::alloc::Global;
+use std::alloc::{AllocError, Global};
 
 /// A mark for each node: true at exactly those that the output rests on.
 pub(crate) fn marks_of(
     alloc: Global,
     circuit: &Circuit,
     output: Node,
-) -> Result<Vec<bool>, NoMemory>
+) -> Result<Vec<bool>, AllocError>
     requires { output < length circuit.now.shapes }
     ensures { IfOk result (λ marks. AreMarks circuit.now output marks.items) }
 {

@@ -1,3 +1,3 @@
-pub mod Counting
+pub mod NewNumbers
 pub mod Accepting
 pub mod Fitting

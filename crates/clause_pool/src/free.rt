@@ -7,9 +7,8 @@ ghost use Rattle.refutation_check.specs.Renumbering.{free_steps, is_free, kept_n
 ghost use Rattle.clause_pool.specs.Freeing.{free_step};
 
 use crate::renumbering::Renumbering;
-use cnf_core::NoMemory;
 use refutation_check::{Hints, Log, Step, free_steps_are_accepted};
-use std::alloc::Global;
+use std::alloc::{AllocError, Global};
 
 /// The steps of a search's log whose hints, followed down, name no local clause, in order. Hints number the
 /// `clauses`, the `local` clauses, the steps of the `pool` and the log's own steps, from 1 on; those of the answer
@@ -21,7 +20,7 @@ pub fn free_of(
     clauses: u32,
     local: u32,
     pool: u32,
-) -> Result<Log, NoMemory>
+) -> Result<Log, AllocError>
     requires hints { All (λ s. All (λ hint. 1 ≤ hint) s.hints) log.now }
     requires room { clauses + local + pool + length log.now < 2 ^ 32 }
     ensures steps { IfOk result (λ free. free ≡ free_steps (not_local clauses local pool) log.now) }
@@ -38,13 +37,13 @@ pub fn free_of(
     Ok(free)
 }
 
-/// Puts the step at the end of the free ones where it is one, and marks whether it is.
+// Puts the step at the end of the free ones where it is one, and marks whether it is.
 fn take_step(
     alloc: Global,
     kept: &mut Renumbering,
     free: &mut Log,
     step: &Step,
-) -> Result<(), NoMemory>
+) -> Result<(), AllocError>
     requires hints { All (λ hint. 1 ≤ hint) step.now.hints }
     requires room { length kept.old + 1 < 2 ^ 32 }
     requires few { length free.old + 1 < 2 ^ 30 }
@@ -62,8 +61,8 @@ fn take_step(
     Ok(())
 }
 
-/// The hints with the new numbers of what they name, or none where they name a member that isn't kept.
-fn renumbered(alloc: Global, kept: &Renumbering, hints: &[u32]) -> Result<Option<Hints>, NoMemory>
+// The hints with the new numbers of what they name, or none where they name a member that isn't kept.
+fn renumbered(alloc: Global, kept: &Renumbering, hints: &[u32]) -> Result<Option<Hints>, AllocError>
     requires { All (λ hint. 1 ≤ hint) hints.now }
     ensures { IfOk result (λ made. made ≡ (if is_free kept.now hints.now then Some (map (λ hint. kept_number hint kept.now) hints.now) else None)) }
 {

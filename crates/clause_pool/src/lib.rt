@@ -8,6 +8,6 @@ mod pool;
 mod renumbering;
 mod steps;
 
-pub use free::free_of;
-pub use laws::{accepted_hints_name_members, one_length_is_longest};
-pub use pool::{MOST_NUMBERS, MOST_STEPS, Pool};
+pub use crate::free::free_of;
+pub use crate::laws::{accepted_hints_name_members, one_length_is_longest};
+pub use crate::pool::{MOST_NUMBERS, MOST_STEPS, Pool};

@@ -5,9 +5,9 @@ ghost use Rattle.refutation_check.specs.Chain.{members_of, IsAccepted};
 ghost use Rattle.clause_pool.specs.Limits.{numbers_in, IsWithinLimits, IsLongestFit, moved_behind};
 
 use crate::steps::{first_of, lifted_front};
-use cnf_core::{Cnf, NoMemory};
+use cnf_core::Cnf;
 use refutation_check::{Log, Step};
-use std::alloc::Global;
+use std::alloc::{AllocError, Global};
 use std::marker::Model;
 
 /// The steps that a pool has at most.
@@ -57,7 +57,7 @@ impl Pool {
     }
 
     /// The first `n` steps, where `n` is at most the number of steps.
-    pub fn prefix(&self, alloc: Global, n: u32) -> Result<Log, NoMemory>
+    pub fn prefix(&self, alloc: Global, n: u32) -> Result<Log, AllocError>
         requires { n ≤ length self.now }
         ensures { IfOk result (λ log. log ≡ take n self.now) }
     {
@@ -65,7 +65,7 @@ impl Pool {
     }
 
     /// The steps that `share` appends, with the hints that they get: so a caller can keep them before they are shared.
-    pub fn addition(&self, alloc: Global, f: &Cnf, at: u32, free: &Log) -> Result<Log, NoMemory>
+    pub fn addition(&self, alloc: Global, f: &Cnf, at: u32, free: &Log) -> Result<Log, AllocError>
         requires at { at ≤ length self.now }
         requires free { IsAccepted (members_of f.now.clauses (take at self.now)) free.now }
         ensures steps { IfOk result (λ added. added ≡ take (length added) (moved_behind (length f.now.clauses) at self.now free.now)) }
@@ -78,7 +78,7 @@ impl Pool {
     /// Appends as many of the steps, the first ones, as fit both limits, and answers how many they are. The steps go on
     /// from the pool's first `at` ones over the clauses of `f`; where others came behind those, hints are raised to make
     /// room for them. So the pool stays a log over these clauses alone. After an error it is as before.
-    pub fn share(&mut self, alloc: Global, f: &Cnf, at: u32, free: &Log) -> Result<u32, NoMemory>
+    pub fn share(&mut self, alloc: Global, f: &Cnf, at: u32, free: &Log) -> Result<u32, AllocError>
         requires at { at ≤ length self.old }
         requires free { IsAccepted (members_of f.now.clauses (take at self.old)) free.now }
         ensures appended { IfOk result (λ n. self.new ≡ self.old ++ take n (moved_behind (length f.now.clauses) at self.old free.now)) }
@@ -95,8 +95,8 @@ impl Pool {
     }
 }
 
-/// How many of the steps, the first ones, fit behind a pool of so many steps with so many literals and hints; and how
-/// many literals and hints they have.
+// How many of the steps, the first ones, fit behind a pool of so many steps with so many literals and hints; and how
+// many literals and hints they have.
 fn fitting(steps: &[Step], pool_steps: u32, pool_numbers: u32) -> (u32, u32)
     requires steps { pool_steps ≤ 20000 }
     requires numbers { pool_numbers ≤ 2000000 }
@@ -115,7 +115,7 @@ fn fitting(steps: &[Step], pool_steps: u32, pool_numbers: u32) -> (u32, u32)
     (steps.len() as u32, numbers)
 }
 
-/// The literals and hints of a step.
+// The literals and hints of a step.
 fn size_of(step: &Step) -> usize
     ensures { result ≡ length step.now.clause + length step.now.hints }
 {

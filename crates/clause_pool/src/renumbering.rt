@@ -4,8 +4,7 @@ ghost use Rattle.refutation_check.specs.Renumbering.{not_local};
 ghost use Rattle.clause_pool.specs.Freeing.{new_number};
 ghost use Rattle.clause_pool.specs.Pooled.{marks_of, HasNewNumbers};
 
-use cnf_core::NoMemory;
-use std::alloc::Global;
+use std::alloc::{AllocError, Global};
 use std::marker::Model;
 
 /// Which members of a search are kept: its clauses and its pool steps, not its local clauses, and of its own steps
@@ -62,7 +61,7 @@ impl Renumbering {
     }
 
     /// The next own step is kept. After an error it is as before.
-    pub fn keep(&mut self) -> Result<(), NoMemory>
+    pub fn keep(&mut self) -> Result<(), AllocError>
         requires { length self.old + 1 < 2 ^ 32 }
         ensures ok { OnOk result (self.new ≡ self.old ++ true ∷ []) }
         ensures err { OnErr result (self.new ≡ self.old) }
@@ -74,7 +73,7 @@ impl Renumbering {
     }
 
     /// The next own step isn't kept. After an error it is as before.
-    pub fn leave_out(&mut self) -> Result<(), NoMemory>
+    pub fn leave_out(&mut self) -> Result<(), AllocError>
         requires { length self.old + 1 < 2 ^ 32 }
         ensures ok { OnOk result (self.new ≡ self.old ++ false ∷ []) }
         ensures err { OnErr result (self.new ≡ self.old) }
@@ -84,7 +83,7 @@ impl Renumbering {
     }
 }
 
-/// The new number of a member, or 0, where the own steps have these.
+// The new number of a member, or 0, where the own steps have these.
 fn new_number_of(hint: u32, clauses: u32, local: u32, pool: u32, own: &[u32]) -> u32
     requires from_one { 1 ≤ hint }
     requires room { clauses + local + pool < 2 ^ 32 }
@@ -102,7 +101,7 @@ fn new_number_of(hint: u32, clauses: u32, local: u32, pool: u32, own: &[u32]) ->
     }
 }
 
-/// The new number of the own step of this number, or 0.
+// The new number of the own step of this number, or 0.
 fn own_number(own: &[u32], number: u32) -> u32
     requires { 1 ≤ number }
     ensures { result ≡ slice_index own.now (number - 1) }

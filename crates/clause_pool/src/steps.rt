@@ -3,12 +3,11 @@ ghost use Rattle.std.specs.Prelude.{◌≡◌, ◌+◌, ◌<◌, ◌≤◌, ◌^
 ghost use Rattle.refutation_check.specs.Lift.{lifted, HasRoomToLift};
 ghost use Rattle.clause_pool.specs.Pooled.{steps_of};
 
-use cnf_core::NoMemory;
 use refutation_check::{Log, Step, lift};
-use std::alloc::Global;
+use std::alloc::{AllocError, Global};
 
 /// The first so many of the logs' steps, one log after the other.
-pub fn first_of(alloc: Global, logs: &[Log], n: u32) -> Result<Log, NoMemory>
+pub fn first_of(alloc: Global, logs: &[Log], n: u32) -> Result<Log, AllocError>
     requires { n < 2 ^ 30 }
     ensures { IfOk result (λ first. first ≡ take n (steps_of logs.now)) }
 {
@@ -26,7 +25,7 @@ pub fn lifted_front(
     n: u32,
     base: u32,
     added: u32,
-) -> Result<Log, NoMemory>
+) -> Result<Log, AllocError>
     requires room { HasRoomToLift base added log.now }
     requires few { n ≤ length log.now }
     ensures { IfOk result (λ raised. raised ≡ take n (lifted base added log.now)) }
@@ -39,8 +38,8 @@ pub fn lifted_front(
     Ok(lift(alloc, &front, base, added)?)
 }
 
-/// Puts copies of the steps at the end, until there are so many.
-fn add_up_to(alloc: Global, to: &mut Log, log: &Log, n: u32) -> Result<(), NoMemory>
+// Puts copies of the steps at the end, until there are so many.
+fn add_up_to(alloc: Global, to: &mut Log, log: &Log, n: u32) -> Result<(), AllocError>
     requires most { n < 2 ^ 30 }
     requires few { length to.old ≤ n }
     ensures { OnOk result (to.new ≡ take n (to.old ++ log.now)) }
@@ -53,7 +52,7 @@ fn add_up_to(alloc: Global, to: &mut Log, log: &Log, n: u32) -> Result<(), NoMem
     Ok(())
 }
 
-/// The first so many steps, or all.
+// The first so many steps, or all.
 fn first_steps(steps: &[Step], n: usize) -> &[Step]
     ensures { result.now ≡ take n steps.now }
 {

@@ -1,4 +1,4 @@
 pub mod Formulas
-pub mod Kept
+pub mod KeptLiterals
 pub mod Literals
-pub mod Same
+pub mod SameLiterals

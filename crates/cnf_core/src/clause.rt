@@ -1,9 +1,9 @@
+// Clauses.
 ghost use Rattle.std.specs.Prelude.{◌≡◌, ◌↔◌, All, IfOk, IfSome, IsNone};
 ghost use Rattle.cnf_core.specs.Literal.{IsVariable, IsClause, IsTautology, HasSameLiterals};
 
-use super::NoMemory;
-use super::literal::Lit;
-use std::alloc::Global;
+use crate::literal::Lit;
+use std::alloc::{AllocError, Global};
 use std::marker::Model;
 
 /// Literals in the order of their variables, with no variable twice. Contracts see the list of them.
@@ -28,7 +28,7 @@ impl Model for Clause {
 impl Clause {
     /// The clause of exactly these literals, or none where a variable stands there with both signs.
     /// The variables are from 1 to 2,147,483,647.
-    pub fn of(alloc: Global, lits: &[Lit]) -> Result<Option<Clause>, NoMemory>
+    pub fn of(alloc: Global, lits: &[Lit]) -> Result<Option<Clause>, AllocError>
         requires { All (λ l. IsVariable l.var) lits.now }
         ensures none { IfOk result (λ made. IsNone made ↔ IsTautology lits.now) }
         ensures same { IfOk result (λ made. IfSome made (HasSameLiterals lits.now)) }
@@ -59,7 +59,7 @@ impl Clause {
     }
 
     /// An equal clause.
-    pub fn copy(&self, alloc: Global) -> Result<Clause, NoMemory>
+    pub fn copy(&self, alloc: Global) -> Result<Clause, AllocError>
         ensures { IfOk result (λ c. c ≡ self.now) }
     {
         let lits = Vec::from_slice(alloc, self.lits.as_slice())?;

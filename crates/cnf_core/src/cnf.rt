@@ -1,10 +1,10 @@
+// Formulas in conjunctive normal form.
 ghost use Rattle.std.specs.Prelude.{◌≡◌, ◌+◌, ◌-◌, ◌<◌, ◌≤◌, ◌^◌, ◌++◌, ◌∷◌, [], OnOk, OnErr, length, slice_get, Some};
 ghost use Rattle.cnf_core.specs.Literal.{HasVarsUpTo};
 ghost use Rattle.cnf_core.specs.Formula.{IsFormula};
 
-use super::NoMemory;
-use super::clause::Clause;
-use std::alloc::Global;
+use crate::clause::Clause;
+use std::alloc::{AllocError, Global};
 use std::marker::Model;
 
 /// A number of variables and at most 1,073,741,823 clauses over them. Contracts see both.
@@ -37,13 +37,13 @@ impl Cnf {
     }
 
     /// Puts a clause at the end. After an error the formula is as before.
-    pub fn push(&mut self, c: Clause) -> Result<(), NoMemory>
+    pub fn push(&mut self, c: Clause) -> Result<(), AllocError>
         requires vars { HasVarsUpTo self.old.vars c }
         requires room { length self.old.clauses + 1 < 2 ^ 30 }
         ensures ok { OnOk result (self.new ≡ record self.old { clauses = self.old.clauses ++ c ∷ [] }) }
         ensures err { OnErr result (self.new ≡ self.old) }
     {
-        let _ = c.lits();
+        let _ = c.lits(); // for the proof
         self.clauses.push(c)?;
         Ok(())
     }

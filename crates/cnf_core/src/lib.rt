@@ -11,5 +11,4 @@ mod valuation;
 pub use clause::Clause;
 pub use cnf::Cnf;
 pub use literal::Lit;
-pub use std::alloc::AllocError as NoMemory;
 pub use valuation::Valuation;

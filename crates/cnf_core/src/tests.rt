@@ -1,3 +1,4 @@
+// Clauses, formulas and valuations at small values.
 ghost use Rattle.std.specs.Prelude.{◌≤◌, All, IfOk};
 ghost use Rattle.cnf_core.specs.Literal.{HasVarsUpTo};
 

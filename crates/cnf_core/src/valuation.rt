@@ -1,3 +1,4 @@
+// Valuations.
 ghost use Rattle.std.specs.Prelude.{◌≡◌, ◌≤◌, length};
 ghost use Rattle.cnf_core.specs.Valuation.{value_of};
 

@@ -4,5 +4,5 @@ pub mod LongWords
 pub mod Options
 pub mod Program
 pub mod Numbers
-pub mod Said
+pub mod CommandsOfWords
 pub mod ReadNumber

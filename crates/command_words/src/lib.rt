@@ -5,4 +5,6 @@ mod reading;
 #[cfg(test)]
 mod tests;
 
-pub use reading::{Command, DEFAULT_BUDGET, DEFAULT_WORKERS, command_of, words_say_one_command};
+pub use crate::reading::{
+    Command, DEFAULT_BUDGET, DEFAULT_WORKERS, command_of, words_say_one_command,
+};

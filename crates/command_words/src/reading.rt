@@ -16,7 +16,7 @@ use std::alloc::{AllocError, Global};
 /// What the words tell the program to do.
 #[derive(Clone, Copy, Debug, PartialEq, Eq)]
 pub enum Command {
-    /// Run a script, by 1 to 16 workers, at a budget of at most 100,000 units for each step of a session.
+    /// Run a script, by 1 to 16 workers, where sessions begin with a budget of at most 100,000 units a step.
     Run { workers: u32, budget: u32 },
     /// Check a proof text.
     Check,

@@ -6,7 +6,7 @@ use outside_io::{StdSink, StdSource};
 use std::process::ExitCode;
 use std::{env, io};
 
-/// The status where memory is wanting.
+// The status where memory is wanting.
 const NO_MEMORY: u8 = 7;
 
 fn main(rt: HostRuntime) -> ExitCode {

@@ -3,6 +3,6 @@ pub mod Fronts
 pub mod Problems
 pub mod Replied
 pub mod Served
-pub mod Shows
+pub mod ShowingReplies
 pub mod Statuses
 pub mod Usables

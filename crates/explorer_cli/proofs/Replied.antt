@@ -17,7 +17,7 @@ use Rattle.session_rules.specs.Transcripts.{Serves, IsTranscript}
 use Rattle.session_rules.specs.declared.answers.Reply.{Reply}
 use Rattle.session_rules.specs.declared.answers.Reply.TheVariants as reply
 use Rattle.explorer_cli.specs.Runs.{AreRepliesOn, IsReplyAt, Shows, ShowsNew, IsShownBefore, EndsAt, OffersAt}
-use Rattle.explorer_cli.proofs.Shows.{reached_on, kept, shown_after, new_is_fresh, is_due, ends, all_is_shown, offers, once_partly, listed_in_order, asked_by_all, list_ends}
+use Rattle.explorer_cli.proofs.ShowingReplies.{reached_on, kept, shown_after, new_is_fresh, is_due, ends, all_is_shown, offers, once_partly, listed_in_order, asked_by_all, list_ends}
 
 -- the reply was given in this state, which keeps what was shown in the old one and has what earlier replies show
 pub record IsGivenIn (p : Bounded) (replies : List Reply) (floors : List (List ℕ)) (place : ℕ) (reply : Reply) (floor : List ℕ) (old s : State) : Type 0 where

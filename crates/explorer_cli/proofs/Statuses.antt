@@ -5,7 +5,7 @@ use Rattle.script_format.specs.declared.entries.ModelEntry.{ModelEntry}
 use Rattle.script_format.specs.declared.entries.SessionEntry.{SessionEntry}
 use Rattle.script_format.specs.declared.fault.ScriptFault.{ScriptFault}
 use Rattle.script_format.specs.Script.{IsScript, HasFault}
-use Rattle.script_format.proofs.Exact.{one_script, one_fault, no_fault_of_script}
+use Rattle.script_format.proofs.UniqueScripts.{one_script, one_fault, no_fault_of_script}
 use Rattle.script_text.specs.Faults.{script_line, fault_words}
 use Rattle.named_model.specs.Model.{NamedTree}
 use Rattle.served_models.specs.Served.{AreUsable, IsFirstRefused, model_line}

@@ -68,7 +68,7 @@ fn run(
     requires asked { asked_by session.now.commands ≤ 20000 }
     ensures { IfOk result (λ text. (s : PrintedSession) × IsRunOn translation.now.problem budget session.now s × IsSessionText s.problem s.name s.replies text.items) }
 {
-    let _ = translation.problem();
+    let _ = translation.problem(); // for the proof
     let pool = Log::new(alloc);
     let commands = session.commands.commands();
     let transcript = serve(alloc, budget, translation, &pool, commands)?;

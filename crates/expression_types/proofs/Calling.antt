@@ -3,7 +3,7 @@ use Rattle.std.proofs.Common.{◌≡◌, ℕ, zero, suc, ◌+◌, List, [], reve
 use Rattle.named_model.specs.Phrase.{PhraseTree}
 use Rattle.model_types.specs.Bounding.{Lists, Types, type_of}
 use Rattle.bounding_types.specs.Same.{AreSame}
-use Rattle.bounding_types.proofs.Alike.{same_then}
+use Rattle.bounding_types.proofs.SameListsMade.{same_then}
 use Rattle.expression_types.specs.declared.known.Known.{Known}
 use Rattle.expression_types.specs.Types.{AreEachSame, StandFor, called_type, calls_within, types_within, bodies_view}
 use Rattle.expression_types.proofs.Each.{each_reverse}

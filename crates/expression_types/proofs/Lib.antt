@@ -1,5 +1,5 @@
 pub mod Calling
 pub mod Chaining
 pub mod Each
-pub mod Seen
-pub mod Wholes
+pub mod SeenPhrases
+pub mod PartTypes

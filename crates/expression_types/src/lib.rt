@@ -11,4 +11,3 @@ mod parts;
 pub use crate::brackets::brackets_type;
 pub use crate::known::Known;
 pub use crate::parts::{type_of, types_of};
-pub use std::alloc::AllocError as NoMemory;

@@ -19,7 +19,7 @@ use Rattle.rel_formula.specs.Bounds.{Bounded, IsRelation, relation_at, open_tupl
 use Rattle.rel_formula.specs.Meaning.{HasAtLeast}
 use Rattle.rel_formula.proofs.Lists.{pairs_append, pairs_map, Contains-some}
 use Rattle.rel_formula.proofs.Cells.{Ascend, cell_cmp, cell_order, cells_ascend, any_row}
-use Rattle.rel_formula.proofs.Open.{cell_open}
+use Rattle.rel_formula.proofs.OpenCells.{cell_open}
 use Rattle.model_sizes.specs.declared.size.Size.{Size}
 use Rattle.lowering_rules.specs.Relations.{Outline, IsOutlined, MayHave, Has}
 use Rattle.lowering_rules.specs.Problem.{IsCellOf, HasMoreCells}

@@ -12,7 +12,7 @@ use Rattle.tuple_core.proofs.Congruence.{set_of_same, same_then, rows_same, Mult
 use Rattle.tuple_core.proofs.Steps.{set_gained}
 use Rattle.rel_formula.specs.Meaning.{HasAtLeast}
 use Rattle.rel_formula.proofs.Counts.{distinct, at_least}
-use Rattle.rel_formula.proofs.Open.{map_has, has_map}
+use Rattle.rel_formula.proofs.OpenCells.{map_has, has_map}
 use Rattle.model_sizes.specs.declared.size.Size.{Size}
 use Rattle.lowering_rules.specs.declared.fault.LowerFault.{LowerFault}
 use Rattle.lowering_rules.specs.declared.fault.LowerFault.TheVariants as fault

@@ -21,7 +21,7 @@ use relation_bounds::names::field_name;
 use std::alloc::Global;
 use tuple_core::TupleSet;
 
-/// The most columns of a bound.
+// The most columns of a bound.
 const MOST_COLUMNS: usize = 2;
 
 /// The relation of a field, which may have what its bounding type allows, and need have nothing. More tuples than `room` are

@@ -6,4 +6,4 @@ pub mod fields;
 pub mod laws;
 mod products;
 pub mod relations;
-pub mod types;
+mod types;

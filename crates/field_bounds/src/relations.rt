@@ -15,10 +15,10 @@ use rel_formula::Relation;
 use relation_bounds::signatures::signature_relations;
 use std::alloc::Global;
 
-/// The most relations of a problem.
+// The most relations of a problem.
 const MOST_RELATIONS: usize = 128;
 
-/// The most cells of a problem.
+// The most cells of a problem.
 const MOST_CELLS: usize = 4_096;
 
 /// The relations of a model's problem, those of signatures first; or the first of these faults: there are more than 128, or
@@ -63,7 +63,7 @@ fn cells_of(relation: &Relation) -> usize
     ensures count { result ≡ length (open_tuples relation.now) }
     ensures sets { IsRows relation.now.lower × IsRows relation.now.upper }
 {
-    let _ = relation.lower.rows();
+    let _ = relation.lower.rows(); // for the proof
     let mut cells = 0;
     for tuple in relation.upper.rows() {
         cells += usize::from(!relation.lower.contains(tuple));

@@ -10,7 +10,7 @@ use Rattle.hub_lock.specs.Passes.{of_pass}
 use Rattle.hub_lock.specs.Between.{HasView, live_of}
 use Rattle.hub_lock.specs.Orderly.{turn_at, IsOrderly}
 use Rattle.hub_lock.proofs.Lists.{at_one}
-use Rattle.hub_lock.proofs.Taking.{turn_here, front_is_mine}
+use Rattle.hub_lock.proofs.TurnTaking.{turn_here, front_is_mine}
 use Rattle.hub_lock.proofs.Joining.{live_two}
 
 module _ {T E B : Type 0} (by : E → ℕ) (entries : T → List E) (base : T → B) where

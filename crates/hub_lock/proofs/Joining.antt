@@ -12,7 +12,7 @@ use Rattle.hub_lock.specs.Between.{HasView, is_live, live_of}
 use Rattle.hub_lock.specs.Orderly.{turn_at, Fits, Known, IsOrderly}
 use Rattle.hub_lock.proofs.Lists.{there_below, at_one, between, first_begins, second_begins, longer_begins, longer_whole, longer_whole_other}
 use Rattle.hub_lock.proofs.Keeps.{live_set}
-use Rattle.hub_lock.proofs.Taking.{turn_here, front_is_mine}
+use Rattle.hub_lock.proofs.TurnTaking.{turn_here, front_is_mine}
 
 module _ {E B : Type 0} where
   -- one pass less

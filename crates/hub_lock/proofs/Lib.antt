@@ -1,6 +1,6 @@
 pub mod Lists
 pub mod Keeps
-pub mod Taking
+pub mod TurnTaking
 pub mod Beginning
 pub mod Splitting
 pub mod Joining

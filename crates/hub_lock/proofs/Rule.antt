@@ -10,7 +10,7 @@ use Rattle.hub_lock.specs.Passes.{has, of_pass}
 use Rattle.hub_lock.specs.Between.{HasView, IsInTurn, IsHome, HoldsBetweenSteps}
 use Rattle.hub_lock.specs.Orderly.{turn_at, IsOrderly}
 use Rattle.hub_lock.proofs.Lists.{there_below}
-use Rattle.hub_lock.proofs.Taking.{turn_here, taken_turn}
+use Rattle.hub_lock.proofs.TurnTaking.{turn_here, taken_turn}
 
 there_at : {A : Type 0} (l : List A) (i : ℕ) → i < length l → (a : A) × (get_elem? l i ≡ some a)
 there_at [] i lt = absurd (omega arith)

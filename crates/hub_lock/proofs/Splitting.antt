@@ -12,7 +12,7 @@ use Rattle.hub_lock.specs.Between.{HasView, is_live, live_of}
 use Rattle.hub_lock.specs.Orderly.{turn_at, Fits, IsOrderly, looked}
 use Rattle.hub_lock.proofs.Lists.{there_below, at_one, at_pushed, none_of, front_nil, of_pass-append, all_of_prefix}
 use Rattle.hub_lock.proofs.Keeps.{live_set}
-use Rattle.hub_lock.proofs.Taking.{turn_else, unmoved, front_is_mine}
+use Rattle.hub_lock.proofs.TurnTaking.{turn_else, unmoved, front_is_mine}
 
 module _ {E B : Type 0} where
   live_push : (vs : List (View E B)) (v : View E B) → live_of (vs ++ v ∷ []) ≡ live_of vs + is_live v

@@ -16,7 +16,7 @@ use Rattle.journal_rules.specs.Journal.{IsPublished, IsLegal, MayFollow, Shares,
 use Rattle.hub_state.specs.HubView.{HubView, with_entry, HasTranslation, IsPublishing, note_to_record}
 use Rattle.hub_state.specs.Held.{noted_with, translations_in, journal_of, IsHub}
 use Rattle.hub_state.proofs.Journals.{one_more, first_publication}
-use Rattle.hub_state.proofs.Growing.{quiet, sharing, publishing}
+use Rattle.hub_state.proofs.GrowingJournals.{quiet, sharing, publishing}
 
 abbrev pub entry : ℕ → Event → Entry
 entry by event = record { by = by; event = event }

@@ -1,5 +1,5 @@
 pub mod Crosses
 mod Journals
-pub mod Growing
+pub mod GrowingJournals
 mod Sharing
 pub mod Appending

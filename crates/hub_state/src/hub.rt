@@ -6,13 +6,12 @@ ghost use Rattle.journal_rules.specs.Noted.{Published as WasPublished, Imported 
 ghost use Rattle.journal_rules.specs.Journal.{IsLegal, IsPublished, MayFollow, pool_of};
 ghost use Rattle.hub_state.specs.HubView.{with_entry, HasTranslation, IsPublishing, GoesOn, moved, note_to_record};
 
-use crate::NoMemory;
 use clause_pool::{Pool, one_length_is_longest};
 use journal_rules::laws::{a_legal_journal_grows, a_pool_rests_on_the_translation_alone};
 use journal_rules::{Entry, Event};
 use refutation_check::Log;
 use rel_formula::Problem;
-use std::alloc::Global;
+use std::alloc::{AllocError, Global};
 use std::marker::Model;
 use std::sync::Arc;
 use translation::Translation;
@@ -45,7 +44,7 @@ impl Model for Hub {
 
 impl Hub {
     /// A hub of these problems, with nothing done yet. There are at most 4,294,967,295.
-    pub fn new(alloc: Global, problems: Vec<Problem>) -> Result<Hub, NoMemory>
+    pub fn new(alloc: Global, problems: Vec<Problem>) -> Result<Hub, AllocError>
         requires { length problems.items < 2 ^ 32 }
         ensures { IfOk result (λ h. h ≡ record { problems = problems.items; journal = [] }) }
     {
@@ -70,7 +69,7 @@ impl Hub {
     }
 
     /// The key's translation, or none where nothing was published for the key, which is below the number of problems.
-    pub fn find(&self, key: u32) -> Result<Option<Arc<Translation>>, NoMemory>
+    pub fn find(&self, key: u32) -> Result<Option<Arc<Translation>>, AllocError>
         requires { key < length self.now.problems }
         ensures none { IfOk result (λ found. IsNone found ↔ (¬ HasTranslation self.now.journal key)) }
         ensures found { IfOk result (λ found. IfSome found (λ t. IsPublished self.now.journal key t.value)) }
@@ -85,14 +84,14 @@ impl Hub {
         by: u32,
         key: u32,
         t: Arc<Translation>,
-    ) -> Result<Arc<Translation>, NoMemory>
+    ) -> Result<Arc<Translation>, AllocError>
         requires { slice_get self.old.problems key ≡ Some t.value.problem }
         ensures entry { IfOk result (λ kept. IsPublishing self.old by key t.value self.new kept.value) }
         ensures kept { IfOk result (λ kept. IsPublished self.new.journal key kept.value) }
         ensures err { OnErr result (self.new ≡ self.old) }
     {
         a_legal_journal_grows();
-        let _ = t.problem();
+        let _ = t.problem(); // for the proof
         if let Some(first) = self.cache.find(key)? {
             return Ok(first);
         }
@@ -107,7 +106,7 @@ impl Hub {
 
     /// The whole pool of a key that has its translation. Appends an entry that names the pool's length. After an error the
     /// hub is as before.
-    pub fn import(&mut self, alloc: Global, by: u32, key: u32) -> Result<Log, NoMemory>
+    pub fn import(&mut self, alloc: Global, by: u32, key: u32) -> Result<Log, AllocError>
         requires { HasTranslation self.old.journal key }
         ensures pool { IfOk result (λ pool. pool ≡ pool_of key self.old.journal) }
         ensures entry { OnOk result (self.new ≡ with_entry self.old by (WasImported key (length (pool_of key self.old.journal)))) }
@@ -134,7 +133,7 @@ impl Hub {
         key: u32,
         at: u32,
         free: &Log,
-    ) -> Result<u32, NoMemory>
+    ) -> Result<u32, AllocError>
         requires { GoesOn self.old.journal key at free.now }
         ensures entry { (t : Translated) → IsPublished self.old.journal key t → IfOk result (λ n. self.new ≡ with_entry self.old by (WasShared key (take n (moved self.old.journal key t at free.now)))) }
         ensures longest { (t : Translated) → IsPublished self.old.journal key t → IfOk result (λ n. IsLongestFit (pool_of key self.old.journal) (moved self.old.journal key t at free.now) n) }
@@ -158,7 +157,7 @@ impl Hub {
 
     /// Appends that a session was opened, or a step of it with its reply, where the journal stays legal with it. After an
     /// error the hub is as before.
-    pub fn record(&mut self, by: u32, event: Event) -> Result<(), NoMemory>
+    pub fn record(&mut self, by: u32, event: Event) -> Result<(), AllocError>
         requires { IsSomeAnd (note_to_record event) (λ note. MayFollow self.old.problems self.old.journal by note) }
         ensures ok { OnOk result (IfSome (note_to_record event) (λ note. self.new ≡ with_entry self.old by note)) }
         ensures err { OnErr result (self.new ≡ self.old) }
@@ -177,13 +176,13 @@ impl Hub {
     }
 }
 
-/// A pool without steps for each of so many keys.
-fn empty_pools(alloc: Global, keys: u32) -> Result<Vec<Pool>, NoMemory>
+// A pool without steps for each of so many keys.
+fn empty_pools(alloc: Global, keys: u32) -> Result<Vec<Pool>, AllocError>
     ensures { IfOk result (λ pools. pools.items ≡ replicate keys []) }
 {
     let mut pools = Vec::with_capacity(alloc, keys as usize)?;
     for key in 0..keys {
-        let _ = key;
+        let _ = key; // for the proof
         pools.push(Pool::new(alloc))?;
     }
     Ok(pools)

@@ -8,4 +8,3 @@ mod kept;
 pub use crate::hub::Hub;
 pub use crate::kept::SeenEntry;
 pub use journal_rules::{Entry, Event};
-pub use std::alloc::AllocError as NoMemory;

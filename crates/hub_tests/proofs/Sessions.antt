@@ -11,7 +11,7 @@ use Rattle.session_rules.specs.declared.answers.Reply.TheVariants.{Shown, End}
 use Rattle.journal_rules.specs.Noted.{Note, Noted, Published, Imported, Shared, Opened, Recorded}
 use Rattle.journal_rules.specs.Journal.{IsPublished, pool_of}
 use Rattle.hub_state.specs.HubView.{HubView, with_entry, HasTranslation, IsPublishing, GoesOn}
-use Rattle.hub_state.proofs.Growing.{note_is, only_one}
+use Rattle.hub_state.proofs.GrowingJournals.{note_is, only_one}
 use Rattle.hub_state.proofs.Appending.{seen}
 use Rattle.hub_tests.proofs.Bottom.{always}
 use Rattle.hub_tests.proofs.Ended.{noted, imported, shown_once, showing, ending, end_of}

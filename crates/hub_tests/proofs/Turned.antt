@@ -8,7 +8,7 @@ use Rattle.rel_formula.specs.Bounds.{Bounded}
 use Rattle.journal_rules.specs.Noted.{Noted, Opened}
 use Rattle.journal_rules.specs.Journal.{Opens}
 use Rattle.hub_state.specs.HubView.{HubView}
-use Rattle.hub_state.proofs.Growing.{only_one}
+use Rattle.hub_state.proofs.GrowingJournals.{only_one}
 use Rattle.hub_tests.proofs.Bottom.{always}
 
 -- where the entries under a number are none, no entry has the number

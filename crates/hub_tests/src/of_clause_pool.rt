@@ -5,9 +5,9 @@ ghost use Rattle.cnf_core.specs.Literal.{HasVarsUpTo};
 ghost use Rattle.refutation_check.specs.Chain.{IsAccepted};
 
 use clause_pool::{Pool, free_of};
-use cnf_core::{Clause, Cnf, Lit, NoMemory};
+use cnf_core::{Clause, Cnf, Lit};
 use refutation_check::{Hints, Log, Scratch, Step, Verdict, check};
-use std::alloc::Global;
+use std::alloc::{AllocError, Global};
 use std::test::Fail;
 
 /// The clause of the positive literals of these variables.
@@ -55,12 +55,12 @@ fn is_from_one(hints: &[u32]) -> bool
 }
 
 /// So many steps of this clause, with the hint 1.
-fn copies(alloc: Global, clause: &Clause, n: u32) -> Result<Log, NoMemory>
+fn copies(alloc: Global, clause: &Clause, n: u32) -> Result<Log, AllocError>
     requires { n < 100000 }
 {
     let mut log = Log::new(alloc);
     for made in 0..n {
-        let _ = made;
+        let _ = made; // for the proof
         let hints = Hints::of([1].to_vec(alloc)?);
         let clause = clause.copy(alloc)?;
         log.push(Step { clause, hints })?;

@@ -9,8 +9,7 @@ use hub_lock::{Pass, Turns, turns};
 use hub_state::{Entry, Event, Hub};
 use refutation_check::{Hints, Log, Step};
 use rel_formula::{Formula, Problem, Scenario};
-use session_rules::answers::Reply;
-use session_rules::{EndProof, Scenarios};
+use session_rules::{EndProof, Reply, Scenarios};
 use std::alloc::{AllocError, Global};
 use std::sync::{Arc, Wait};
 use std::test::Fail;
@@ -84,7 +83,7 @@ fn restated(alloc: Global, cnf: &Cnf, n: u32) -> Result<Log, Fail>
     let first = cnf.clause(1);
     let mut log = Log::new(alloc);
     for made in 0..n {
-        let _ = made;
+        let _ = made; // for the proof
         let hints = Hints::of([1].to_vec(alloc)?);
         let clause = first.copy(alloc)?;
         log.push(Step { clause, hints })?;
@@ -112,7 +111,7 @@ fn first_session(alloc: Global, hub: &mut Hub, t: &Arc<Translation>) -> Result<(
     ensures published { IfOk result (λ _. HasTranslation hub.new.journal 0) }
 {
     hub.record(1, Event::Opened { key: 0, budget: 5 })?;
-    let _ = t.problem();
+    let _ = t.problem(); // for the proof
     hub.publish(1, 0, Arc::try_clone(t)?)?;
     hub.import(alloc, 1, 0)?;
     let shown = Reply::Shown {

@@ -2,8 +2,7 @@
 use cnf_core::{Clause, Lit};
 use journal_rules::{Entry, Event};
 use refutation_check::{Hints, Log};
-use session_rules::Step;
-use session_rules::answers::Reply;
+use session_rules::{Reply, Step};
 use std::alloc::{AllocError, Global};
 use std::test::Fail;
 

@@ -2,10 +2,8 @@
 ghost use Rattle.std.specs.Prelude.{◌≡◌, IfOk};
 
 use refutation_check::Log;
-use rel_formula::NoMemory;
-use session_rules::Step;
-use session_rules::answers::Reply;
-use std::alloc::Global;
+use session_rules::{Reply, Step};
+use std::alloc::{AllocError, Global};
 
 /// What happened to what the sessions share.
 #[derive(Drop)]
@@ -24,7 +22,7 @@ pub enum Event {
 
 impl Event {
     /// An equal event.
-    pub fn copy(&self, alloc: Global) -> Result<Event, NoMemory>
+    pub fn copy(&self, alloc: Global) -> Result<Event, AllocError>
         ensures { IfOk result (λ e. e ≡ self.now) }
     {
         match self {
@@ -59,7 +57,7 @@ pub struct Entry {
 
 impl Entry {
     /// An equal entry.
-    pub fn copy(&self, alloc: Global) -> Result<Entry, NoMemory>
+    pub fn copy(&self, alloc: Global) -> Result<Entry, AllocError>
         ensures { IfOk result (λ e. e ≡ self.now) }
     {
         Ok(Entry {

@@ -18,9 +18,8 @@ ghost use Rattle.journal_rules.specs.Journal.{HasNoted, HasImported, IsPublished
 ghost use Rattle.journal_rules.specs.Told.{IsTold};
 
 use refutation_check::accepted_is_entailed;
-use session_rules::Step;
-use session_rules::answers::Reply;
 use session_rules::laws::{a_transcript_is_a_run, an_end_is_complete, memory_changes_nothing};
+use session_rules::{Reply, Step};
 
 /// The entries that come first in a legal journal are a legal journal.
 pub fn a_prefix_is_legal()

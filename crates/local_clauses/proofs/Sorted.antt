@@ -4,7 +4,8 @@ use Rattle.std.proofs.lemmas.Bool.{cases_Bool, cases_lt}
 use Rattle.std.proofs.lemmas.List.{get_or_default}
 use Rattle.cnf_core.specs.declared.literal.Lit.{Lit}
 use Rattle.cnf_core.specs.Literal.{IsClause, IsTautology, HasSameLiterals}
-use Rattle.rel_formula.proofs.Open.{cons_cases, cons_first, cons_later}
+use Rattle.cnf_core.proofs.Literals.{not_itself}
+use Rattle.rel_formula.proofs.OpenCells.{cons_cases, cons_first, cons_later}
 
 module _ {X : Type 0} (key : X → ℕ) where
   abbrev Rises : List X → Type 0
@@ -47,10 +48,6 @@ module _ {X : Type 0} (key : X → ℕ) where
 -- clauses with the same literals are one clause
 pub same_clause : (lits others : List Lit) → IsClause lits → IsClause others → HasSameLiterals lits others → lits ≡ others
 same_clause lits others one two same = same_rising (λ (l : Lit). l.var) lits others one.rising two.rising same
-
-not_itself : (b : Bool) → b ≡ not b → ⊥
-not_itself true e = cc
-not_itself false e = cc
 
 -- no clause is true of itself
 pub no_tautology : (lits : List Lit) → IsClause lits → IsTautology lits → ⊥

@@ -4,12 +4,11 @@ ghost use Rattle.cnf_core.specs.Literal.{IsClause, IsVariable, negation_of};
 ghost use Rattle.translation_rules.specs.Translation.{var_of};
 ghost use Rattle.translation_rules.specs.Locals as spec;
 
-use crate::NoMemory;
 use cnf_core::{Clause, Lit};
-use std::alloc::Global;
+use std::alloc::{AllocError, Global};
 
 /// For each of these cells, whose numbers are below 2,147,483,647, the clause which says that it is there.
-pub fn units_of(alloc: Global, cells: &[u32]) -> Result<Vec<Clause>, NoMemory>
+pub fn units_of(alloc: Global, cells: &[u32]) -> Result<Vec<Clause>, AllocError>
     requires { All (λ cell. IsVariable (var_of cell)) cells.now }
     ensures { IfOk result (λ clauses. clauses.items ≡ spec.units_of cells.now) }
 {
@@ -19,7 +18,7 @@ pub fn units_of(alloc: Global, cells: &[u32]) -> Result<Vec<Clause>, NoMemory>
 }
 
 /// The clause which says that some of these cells is absent. Their numbers rise, and are below 2,147,483,647.
-pub fn absence_in(alloc: Global, cells: &[u32]) -> Result<Clause, NoMemory>
+pub fn absence_in(alloc: Global, cells: &[u32]) -> Result<Clause, AllocError>
     requires variables { All (λ cell. IsVariable (var_of cell)) cells.now }
     requires rising { AllPairs (λ m n. m < n) cells.now }
     ensures { IfOk result (λ clause. clause ≡ spec.absence_in cells.now) }
@@ -36,7 +35,7 @@ pub(crate) fn add_units(
     alloc: Global,
     clauses: &mut Vec<Clause>,
     cells: &[u32],
-) -> Result<(), NoMemory>
+) -> Result<(), AllocError>
     requires { All (λ cell. IsVariable (var_of cell)) cells.now }
     ensures { OnOk result (clauses.new.items ≡ clauses.old.items ++ spec.units_of cells.now) }
 {
@@ -69,7 +68,7 @@ pub(crate) fn absent(cell: u32) -> Lit
 }
 
 /// The clause of literals that stand in the order of a clause.
-pub(crate) fn clause_of(alloc: Global, lits: &[Lit]) -> Result<Clause, NoMemory>
+pub(crate) fn clause_of(alloc: Global, lits: &[Lit]) -> Result<Clause, AllocError>
     requires { IsClause lits.now }
     ensures { IfOk result (λ clause. clause ≡ lits.now) }
 {

@@ -6,11 +6,10 @@ ghost use Rattle.rel_formula.specs.Instance.{AreCells};
 ghost use Rattle.translation_rules.specs.Locals.{literal_of};
 ghost use Rattle.translation_rules.specs.Descents as spec;
 
-use crate::NoMemory;
 use crate::clauses::{absence_in, absent, add_units, clause_of};
 use cnf_core::Clause;
 use rel_formula::{Problem, Scenario};
-use std::alloc::Global;
+use std::alloc::{AllocError, Global};
 
 /// The clauses which say that a scenario has the floor's cells and is a proper part of this one: each cell outside is absent,
 /// each cell of the floor is there, and some other cell is absent. Floor and scenario are of the problem's cells.
@@ -19,7 +18,7 @@ pub fn descent_locals(
     problem: &Problem,
     floor: &Scenario,
     scenario: &Scenario,
-) -> Result<Vec<Clause>, NoMemory>
+) -> Result<Vec<Clause>, AllocError>
     requires floor { AreCells problem.now floor.now }
     requires scenario { AreCells problem.now scenario.now }
     ensures { IfOk result (λ clauses. clauses.items ≡ spec.descent_locals problem.now floor.now scenario.now) }
@@ -38,7 +37,7 @@ fn add_absences(
     clauses: &mut Vec<Clause>,
     cells: u32,
     scenario: &Scenario,
-) -> Result<(), NoMemory>
+) -> Result<(), AllocError>
     requires { cells ≤ 4096 }
     ensures { OnOk result (clauses.new.items ≡ clauses.old.items ++ map (λ cell. negation_of (literal_of cell) ∷ []) (spec.outside scenario.now (range_with_len 0 cells))) }
 {
@@ -51,7 +50,7 @@ fn add_absences(
 }
 
 // Those of these cells that the scenario has not.
-fn outside(alloc: Global, scenario: &Scenario, cells: &[u32]) -> Result<Vec<u32>, NoMemory>
+fn outside(alloc: Global, scenario: &Scenario, cells: &[u32]) -> Result<Vec<u32>, AllocError>
     ensures { IfOk result (λ others. others.items ≡ spec.outside scenario.now cells.now) }
 {
     let mut others = Vec::new(alloc);

@@ -6,4 +6,3 @@ mod descent;
 
 pub use crate::clauses::{absence_in, units_of};
 pub use crate::descent::descent_locals;
-pub use std::alloc::AllocError as NoMemory;

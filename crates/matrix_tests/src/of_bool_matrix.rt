@@ -8,8 +8,8 @@ ghost use Rattle.bool_matrix.specs.Terms.{tuples, joins};
 ghost use Rattle.tuple_core.specs.Operators.{Closed};
 
 use bool_circuit::{Circuit, MOST_NODES, Node};
-use bool_matrix::{Matrix, NoMemory};
-use std::alloc::Global;
+use bool_matrix::Matrix;
+use std::alloc::{AllocError, Global};
 use std::process::Abort;
 use tuple_core::{Atom, Tuple, TupleSet};
 
@@ -147,7 +147,7 @@ fn of_matrices(
     operator: Operator,
     a: &Matrix,
     b: &Matrix,
-) -> Result<Matrix, NoMemory> {
+) -> Result<Matrix, AllocError> {
     let (m, n) = (a.arity(), b.arity());
     assert!(rt; are_small(circuit, a, b));
     match operator {
@@ -193,7 +193,7 @@ fn of_sets(
     operator: Operator,
     a: &TupleSet,
     b: &TupleSet,
-) -> Result<TupleSet, NoMemory> {
+) -> Result<TupleSet, AllocError> {
     let (m, n) = (a.arity(), b.arity());
     match operator {
         Operator::Union => {

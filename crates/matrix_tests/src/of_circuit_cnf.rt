@@ -1,8 +1,8 @@
 // What no clause says: that a call succeeds with ample memory, and what comes of circuits that share and fold.
 use bool_circuit::{Circuit, Node};
-use circuit_cnf::{MOST_SIZE, NoMemory, clauses_of};
+use circuit_cnf::{MOST_SIZE, clauses_of};
 use cnf_core::Cnf;
-use std::alloc::Global;
+use std::alloc::{AllocError, Global};
 use std::process::Abort;
 use std::test::Fail;
 
@@ -11,37 +11,37 @@ fn clause_form(
     alloc: Global,
     circuit: &Circuit,
     output: Node,
-) -> Result<Cnf, NoMemory> {
+) -> Result<Cnf, AllocError> {
     assert!(rt; output.place() < circuit.len());
     assert!(rt; circuit.inputs() as u64 + circuit.len() as u64 <= MOST_SIZE as u64);
     clauses_of(alloc, circuit, output)
 }
 
-fn input(rt: &impl Abort, circuit: &mut Circuit, i: u32) -> Result<Node, NoMemory> {
+fn input(rt: &impl Abort, circuit: &mut Circuit, i: u32) -> Result<Node, AllocError> {
     assert!(rt; !circuit.is_full());
     assert!(rt; i < circuit.inputs());
     circuit.input(i)
 }
 
-fn constant(rt: &impl Abort, circuit: &mut Circuit, b: bool) -> Result<Node, NoMemory> {
+fn constant(rt: &impl Abort, circuit: &mut Circuit, b: bool) -> Result<Node, AllocError> {
     assert!(rt; !circuit.is_full());
     circuit.constant(b)
 }
 
-fn not(rt: &impl Abort, circuit: &mut Circuit, a: Node) -> Result<Node, NoMemory> {
+fn not(rt: &impl Abort, circuit: &mut Circuit, a: Node) -> Result<Node, AllocError> {
     assert!(rt; !circuit.is_full());
     assert!(rt; a.place() < circuit.len());
     circuit.not(a)
 }
 
-fn and(rt: &impl Abort, circuit: &mut Circuit, a: Node, b: Node) -> Result<Node, NoMemory> {
+fn and(rt: &impl Abort, circuit: &mut Circuit, a: Node, b: Node) -> Result<Node, AllocError> {
     assert!(rt; !circuit.is_full());
     assert!(rt; a.place() < circuit.len());
     assert!(rt; b.place() < circuit.len());
     circuit.and(a, b)
 }
 
-fn or(rt: &impl Abort, circuit: &mut Circuit, a: Node, b: Node) -> Result<Node, NoMemory> {
+fn or(rt: &impl Abort, circuit: &mut Circuit, a: Node, b: Node) -> Result<Node, AllocError> {
     assert!(rt; !circuit.is_full());
     assert!(rt; a.place() < circuit.len());
     assert!(rt; b.place() < circuit.len());

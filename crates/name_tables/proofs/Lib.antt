@@ -4,6 +4,6 @@ pub mod Occurrences
 pub mod Leveled
 pub mod Numbered
 pub mod Standings
-pub mod Meetings
+pub mod WordsMet
 pub mod Telling
 pub mod Reaching

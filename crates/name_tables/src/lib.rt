@@ -8,5 +8,4 @@ mod locals;
 mod names;
 mod words;
 
-pub use crate::names::{Header, Names};
-pub use std::alloc::AllocError as NoMemory;
+pub use crate::names::{Header, MOST_FIELDS, Names};

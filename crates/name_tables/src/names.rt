@@ -10,6 +10,10 @@ use named_model::Standing;
 use std::alloc::{AllocError, Global};
 use std::marker::Model;
 
+/// The most fields of a model: as many as stand in a text of 1,048,576 bytes, where each belongs to one signature. The fields of
+/// n signatures with m names in one paragraph are n * m, so a short text can have very many.
+pub const MOST_FIELDS: usize = 1_048_576;
+
 /// Whether a name is that of a function, and how many parameters there are.
 #[derive(Clone, Copy)]
 pub struct Header {

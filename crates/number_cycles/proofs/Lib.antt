@@ -1,3 +1,3 @@
-pub mod Leads
+pub mod WalkEdges
 pub mod Raised
-pub mod Meetings
+pub mod NumbersMet

@@ -2,7 +2,7 @@
 use Rattle.std.proofs.Common.{ℕ, ◌-◌, ◌<◌, ◌≤◌, List, arith}
 use Rattle.number_cycles.specs.Walks.{row_of, IsAcyclic}
 use Rattle.number_cycles.specs.Marks.{height_of, AreAtMost, AreHeights}
-use Rattle.number_cycles.proofs.Leads.{stays_in}
+use Rattle.number_cycles.proofs.WalkEdges.{stays_in}
 
 pub never_back : (rows : List (List ℕ)) (heights : List ℕ) (k : ℕ) → AreHeights rows heights → 0 < height_of heights k → AreAtMost heights (height_of heights k - 1) (row_of rows k) → IsAcyclic rows k
 never_back rows heights k are up falls over walk =

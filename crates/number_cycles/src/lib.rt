@@ -10,4 +10,3 @@ mod walk;
 
 pub use crate::first::first_cyclic;
 pub use crate::ordered::order_of;
-pub use std::alloc::AllocError as NoMemory;

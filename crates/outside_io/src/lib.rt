@@ -1,7 +1,7 @@
 //! Bytes from outside and to the outside: where a program reads and writes.
 //!
 //! A [`Source`] means the bytes that are left, a [`Sink`] the bytes that were written, where they tell them. Each
-//! has a count of faults that never falls, and answers [`Failed`] only in a call in which that count rose.
+//! has a count of faults that never falls, and answers [`Failed`] only in a call in which that count rose, or stands at its last value.
 #![tactic(auto)]
 
 mod counter;
@@ -13,7 +13,6 @@ mod streams;
 pub use memory::{MemSink, MemSource};
 pub use sink::{Sink, finish, write_all};
 pub use source::{Failed, ReadFault, Source, read_all};
-pub use std::alloc::AllocError as NoMemory;
 pub use streams::{StdSink, StdSource};
 
 #[cfg(test)]

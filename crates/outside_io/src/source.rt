@@ -6,7 +6,7 @@ ghost use Rattle.outside_io.specs.Front.{TakesFront};
 use std::alloc::{AllocError, Global};
 use thiserror::Error;
 
-/// A read or a write failed. The count of faults of the source or the sink rose in that call.
+/// A read or a write failed. The count of faults of the source or the sink rose in that call, or stands at its last value.
 #[derive(Clone, Copy, Debug, PartialEq, Eq, Error)]
 #[error("the source or the sink failed")]
 pub struct Failed;

@@ -10,4 +10,3 @@ pub mod places;
 pub mod tables;
 
 pub use crate::kinds::Kind;
-pub use std::alloc::AllocError as NoMemory;

@@ -7,5 +7,5 @@ mod laws;
 #[cfg(test)]
 mod tests;
 
-pub use command::check_proof;
-pub use laws::one_answer;
+pub use crate::command::check_proof;
+pub use crate::laws::one_answer;

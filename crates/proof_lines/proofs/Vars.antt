@@ -6,7 +6,7 @@ use Rattle.cnf_core.specs.declared.literal.Lit.{Lit}
 use Rattle.cnf_core.specs.Literal.{negation_of, HasVarsUpTo}
 use Rattle.rel_formula.specs.Bounds.{cells_of}
 use Rattle.rel_formula.specs.Instance.{AreCells}
-use Rattle.rel_formula.proofs.Open.{cons_cases, filter_has}
+use Rattle.rel_formula.proofs.OpenCells.{cons_cases, filter_has}
 use Rattle.translation_rules.specs.Free.{is_free_of}
 use Rattle.translation_rules.specs.Translation.{SwapClauses, Translated, clauses_of_swaps}
 use Rattle.translation_rules.specs.Locals.{literal_of, units_of, absence_in}

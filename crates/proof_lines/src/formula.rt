@@ -3,9 +3,8 @@ ghost use Rattle.std.specs.Prelude.{◌≡◌, ◌<◌, ◌≤◌, ◌+◌, ◌^
 ghost use Rattle.cnf_core.specs.Literal.{HasVarsUpTo};
 ghost use Rattle.proof_lines.specs.Printed.{most_vars};
 
-use crate::NoMemory;
 use cnf_core::{Clause, Cnf};
-use std::alloc::Global;
+use std::alloc::{AllocError, Global};
 use translation::Translation;
 
 /// The clauses of the translation and these behind them, over the variables of the translation.
@@ -13,7 +12,7 @@ pub fn formula_with(
     alloc: Global,
     translation: &Translation,
     local: &[Clause],
-) -> Result<Cnf, NoMemory>
+) -> Result<Cnf, AllocError>
     requires within { All (HasVarsUpTo (most_vars translation.now.cnf.vars translation.now.swaps)) local.now }
     requires few { length translation.now.cnf.clauses + length local.now < 2 ^ 30 }
     ensures { IfOk result (λ f. f ≡ record { vars = most_vars translation.now.cnf.vars translation.now.swaps; clauses = translation.now.cnf.clauses ++ local.now }) }
@@ -30,7 +29,7 @@ fn all_vars(translation: &Translation) -> u32
     ensures few { result < 2 ^ 31 }
     ensures within { translation.now.cnf.vars ≤ result }
 {
-    let _ = translation.problem();
+    let _ = translation.problem(); // for the proof
     let mut vars = translation.cnf().vars();
     for place in 0..translation.pairs().len() {
         vars = vars.max(translation.swap(place as u32).vars());
@@ -39,7 +38,7 @@ fn all_vars(translation: &Translation) -> u32
 }
 
 // Adds the clauses of a formula that has no more variables.
-fn add_formula(alloc: Global, formula: &mut Cnf, other: &Cnf) -> Result<(), NoMemory>
+fn add_formula(alloc: Global, formula: &mut Cnf, other: &Cnf) -> Result<(), AllocError>
     requires vars { other.now.vars ≤ formula.old.vars }
     requires room { length formula.old.clauses + length other.now.clauses < 2 ^ 30 }
     ensures { OnOk result (formula.new ≡ record formula.old { clauses = formula.old.clauses ++ other.now.clauses }) }
@@ -51,7 +50,7 @@ fn add_formula(alloc: Global, formula: &mut Cnf, other: &Cnf) -> Result<(), NoMe
 }
 
 // Adds clauses.
-fn add_clauses(alloc: Global, formula: &mut Cnf, clauses: &[Clause]) -> Result<(), NoMemory>
+fn add_clauses(alloc: Global, formula: &mut Cnf, clauses: &[Clause]) -> Result<(), AllocError>
     requires within { All (HasVarsUpTo formula.old.vars) clauses.now }
     requires room { length formula.old.clauses + length clauses.now < 2 ^ 30 }
     ensures { OnOk result (formula.new ≡ record formula.old { clauses = formula.old.clauses ++ clauses.now }) }

@@ -9,4 +9,3 @@ mod proof;
 mod steps;
 
 pub use crate::proof::{ProofText, proof_of, text_of_proof};
-pub use std::alloc::AllocError as NoMemory;

@@ -4,13 +4,12 @@ ghost use Rattle.rel_formula.specs.Instance.{AreCells};
 ghost use Rattle.translation_rules.specs.Locals as rules;
 ghost use Rattle.session_rules.specs.Proofs as spec;
 
-use crate::NoMemory;
 use cnf_core::Clause;
 use local_clauses::units_of;
 use rel_formula::Scenario;
 use search_rounds::locals_of;
 use session_rules::ProofKind;
-use std::alloc::Global;
+use std::alloc::{AllocError, Global};
 use translation::Translation;
 
 /// The local clauses of a proof: at an end those of the floor with all that is blocked, and else the floor's units.
@@ -20,7 +19,7 @@ pub fn locals_for(
     floor: &Scenario,
     kind: ProofKind,
     blocked: &[Scenario],
-) -> Result<Vec<Clause>, NoMemory>
+) -> Result<Vec<Clause>, AllocError>
     requires floor { AreCells translation.now.problem floor.now }
     requires blocked { All (AreCells translation.now.problem) blocked.now }
     ensures { IfOk result (λ clauses. clauses.items ≡ spec.locals_for translation.now floor.now kind blocked.now) }
@@ -36,11 +35,11 @@ fn units_at(
     alloc: Global,
     translation: &Translation,
     floor: &Scenario,
-) -> Result<Vec<Clause>, NoMemory>
+) -> Result<Vec<Clause>, AllocError>
     requires { AreCells translation.now.problem floor.now }
     ensures { IfOk result (λ clauses. clauses.items ≡ rules.units_of floor.now) }
 {
     let problem = translation.problem();
-    let _ = problem.relations();
+    let _ = problem.relations(); // for the proof
     Ok(units_of(alloc, floor.numbers())?)
 }

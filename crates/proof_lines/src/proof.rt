@@ -6,7 +6,6 @@ ghost use Rattle.rel_formula.specs.Instance.{AreCells};
 ghost use Rattle.session_rules.specs.Proofs.{Proves};
 ghost use Rattle.proof_lines.specs.Printed as spec;
 
-use crate::NoMemory;
 use crate::formula::formula_with;
 use crate::laws::refutations_are_accepted;
 use crate::local::locals_for;
@@ -15,7 +14,7 @@ use cnf_core::Cnf;
 use refutation_check::{Log, write_proof};
 use rel_formula::Scenario;
 use session_rules::{EndProof, ProofKind};
-use std::alloc::Global;
+use std::alloc::{AllocError, Global};
 use translation::Translation;
 
 /// The formula of a proof and its log, which refutes it.
@@ -31,7 +30,7 @@ pub fn proof_of(
     floor: &Scenario,
     kind: ProofKind,
     proof: &EndProof,
-) -> Result<(Cnf, Log), NoMemory>
+) -> Result<(Cnf, Log), AllocError>
     requires floor { AreCells translation.now.problem floor.now }
     requires blocked { All (AreCells translation.now.problem) proof.now.blocked }
     requires proves { Proves translation.now floor.now kind proof.now }
@@ -40,11 +39,11 @@ pub fn proof_of(
     ensures refutation { IfOk result (λ made. IsRefutation made.0.clauses made.1) }
     ensures hints { IfOk result (λ made. HasHintsInRange made.1) }
 {
-    let _ = proof.imported();
+    let _ = proof.imported(); // for the proof
     let problem = translation.problem();
-    let _ = problem.relations();
+    let _ = problem.relations(); // for the proof
     let local = locals_for(alloc, translation, floor, kind, proof.blocked())?;
-    let _ = floor.numbers();
+    let _ = floor.numbers(); // for the proof
     let clauses = local.as_slice();
     let formula = formula_with(alloc, translation, clauses)?;
     let base = translation.cnf().len();
@@ -67,7 +66,7 @@ pub fn text_of_proof(
     floor: &Scenario,
     kind: ProofKind,
     proof: &EndProof,
-) -> Result<ProofText, NoMemory>
+) -> Result<ProofText, AllocError>
     requires floor { AreCells translation.now.problem floor.now }
     requires blocked { All (AreCells translation.now.problem) proof.now.blocked }
     requires proves { Proves translation.now floor.now kind proof.now }

@@ -4,7 +4,7 @@ use Rattle.std.specs.List.{list_any}
 use Rattle.std.proofs.lemmas.List.{length-map}
 use Rattle.std.proofs.lemmas.Bool.{cases_Bool, eqb-true, eq-eqb}
 use Rattle.number_cycles.specs.Walks.{row_of, among, IsWalk, IsAcyclic, IsCyclic, IsFirstCyclic}
-use Rattle.number_cycles.proofs.Leads.{either, or_left, or_right}
+use Rattle.number_cycles.proofs.WalkEdges.{either, or_left, or_right}
 use Rattle.named_model.specs.declared.fault.NameFault.TheVariants.{Recursive}
 use Rattle.named_model.specs.Answers.{first_in}
 use Rattle.named_model.specs.Model.{CalleeTree}

@@ -5,4 +5,3 @@ mod calls;
 mod recursion;
 
 pub use crate::recursion::{first_recursive, rows};
-pub use std::alloc::AllocError as NoMemory;

@@ -9,10 +9,11 @@ use Rattle.std.specs.List.{Contains, slice_get}
 use Rattle.std.specs.Bool.{IsTrue}
 use Rattle.cnf_core.specs.declared.literal.Lit.{Lit}
 use Rattle.cnf_core.specs.Literal.{negation_of}
+use Rattle.cnf_core.proofs.Literals.{not_itself}
 use Rattle.cnf_core.specs.Valuation.{literal_value, clause_value, Satisfies, Entails}
 use Rattle.refutation_check.specs.declared.log.Step.{Step}
 use Rattle.refutation_check.specs.Chain.{Forces, Reaches, IsChain, members_of, IsAccepted, IsRefutation, EachEntailed}
-use Rattle.refutation_check.proofs.Sights.{lit_cases, not_fixed}
+use Rattle.refutation_check.proofs.Sights.{lit_cases}
 use Rattle.refutation_check.proofs.Chains.{names_all}
 
 -- two literals are equal or not
@@ -21,7 +22,7 @@ lit_equal_or_not a b =
     elim (cases_eq a.var b.var) [
       | inl same ↦ elim (lit_cases a b same) [
         | inl one ↦ inl one
-        | inr opposite ↦ inr (λ e. not_fixed b.positive (ap (λ (x : Lit). x.positive) (sym e ∙ opposite)))
+        | inr opposite ↦ inr (λ e. not_itself b.positive (ap (λ (x : Lit). x.positive) (sym e ∙ opposite)))
       ]
       | inr other ↦ inr (λ e. other (ap (λ (x : Lit). x.var) e))
     ]

@@ -8,6 +8,7 @@ use Rattle.std.proofs.lemmas.Bool.{cases_eq}
 use Rattle.std.specs.List.{AllPairs, Contains}
 use Rattle.cnf_core.specs.declared.literal.Lit.{Lit}
 use Rattle.cnf_core.specs.Literal.{negation_of}
+use Rattle.cnf_core.proofs.Literals.{not_itself}
 use Rattle.refutation_check.specs.declared.marks.Sight.{Sight}
 use Rattle.refutation_check.specs.declared.marks.Sight.TheVariants.{Falsified, Unit, Neither}
 use Rattle.refutation_check.specs.Chain.{IsFalsified, IsUnit}
@@ -27,10 +28,6 @@ not_same true true h = refl
 not_same true false h = cc
 not_same false true h = cc
 not_same false false h = refl
-
-pub not_fixed : (a : Bool) → a ≡ not a → ⊥
-not_fixed true h = cc
-not_fixed false h = cc
 
 pub not_not : (a : Bool) → not (not a) ≡ a
 not_not true = refl
@@ -103,7 +100,7 @@ module _ (marks : List (Option Bool)) (lits : List Lit) where
   -- a literal that is true
   pub seen_true : (lit : Lit) → Contains lits lit → get_or marks lit.var None ≡ Some lit.positive → IsSeen (IsFalseIn marks) lits Neither
   seen_true lit in' is =
-      let not_false : IsFalseIn marks lit → ⊥ = λ f. let e : Some lit.positive ≡ Some (not lit.positive) = sym is ∙ f in let s : lit.positive ≡ not lit.positive = cc in not_fixed _ s in (
+      let not_false : IsFalseIn marks lit → ⊥ = λ f. let e : Some lit.positive ≡ Some (not lit.positive) = sym is ∙ f in let s : lit.positive ≡ not lit.positive = cc in not_itself _ s in (
         λ all. not_false (All-contains (IsFalseIn marks) lits lit all in'),
         λ l u. not_false (u.others lit in' (λ e. u.not_true (subst (λ (x : Lit). IsFalseIn marks (negation_of x)) e (is ∙ ap Some (sym (not_not lit.positive)))))),
       )

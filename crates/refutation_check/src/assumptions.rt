@@ -1,11 +1,12 @@
+// Literals that are taken for false while a step is checked.
 ghost use Rattle.std.specs.Prelude.{◌≡◌, ◌≤◌, ◌<◌, ◌^◌, ◌++◌, ◌∷◌, [], ℕ, All, Contains, IfOk, None, length, vec_len, vec_capacity, slice_index_or};
 ghost use Rattle.cnf_core.specs.Literal.{IsClause, HasVarsUpTo};
 ghost use Rattle.refutation_check.specs.Marks.{Marks, IsSeen, IsWithin};
 ghost use Rattle.refutation_check.specs.Assumed.{IsOpen};
 
-use super::marks::{Sight, look};
-use cnf_core::{Lit, NoMemory};
-use std::alloc::Global;
+use crate::marks::{Sight, look};
+use cnf_core::Lit;
+use std::alloc::{AllocError, Global};
 use std::marker::Model;
 
 /// Literals that are taken for false. The marks have the values of the variables, and the trail has the
@@ -31,7 +32,7 @@ impl Model for Assumptions {
 
 impl Assumptions {
     /// No literal is false yet, and there is room for one of each variable.
-    pub fn none(alloc: Global, vars: u32) -> Result<Assumptions, NoMemory>
+    pub fn none(alloc: Global, vars: u32) -> Result<Assumptions, AllocError>
         requires { vars < 2 ^ 31 }
         ensures { IfOk result (λ a. a ≡ record { vars = vars; falses = [] }) }
     {
@@ -82,7 +83,7 @@ impl Assumptions {
     }
 }
 
-/// Puts a literal at the end of a trail that has room for it.
+// Puts a literal at the end of a trail that has room for it.
 fn put(trail: &mut Vec<Lit>, l: Lit)
     requires { vec_len trail.old < vec_capacity trail.old }
     ensures items { trail.new.items ≡ trail.old.items ++ l ∷ [] }
@@ -91,7 +92,7 @@ fn put(trail: &mut Vec<Lit>, l: Lit)
     let _ = trail.push(l);
 }
 
-/// Clears the marks of the literals, which are all marks.
+// Clears the marks of the literals, which are all marks.
 fn unmark(marks: &mut Vec<Option<bool>>, trail: &[Lit])
     requires marked { Marks marks.old.items trail.now }
     requires in_range { IsWithin (length marks.old.items) trail.now }

@@ -1,3 +1,4 @@
+// Laws of logs: each is the contract of a function that does nothing.
 ghost use Rattle.std.specs.Prelude.{◌≡◌, ◌≤◌, ◌+◌, ◌⊎◌, ◌++◌, ◌∷◌, ◌↔◌, [], true, ℕ, List, length, map};
 ghost use Rattle.cnf_core.specs.declared.literal.Lit.{Lit};
 ghost use Rattle.cnf_core.specs.Formula.{Formula};

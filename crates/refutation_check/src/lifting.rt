@@ -1,13 +1,13 @@
+// Logs over a formula with more clauses.
 ghost use Rattle.std.specs.Prelude.{◌≡◌, ◌+◌, ◌<◌, ◌^◌, All, IfOk, map};
 ghost use Rattle.refutation_check.specs.Lift.{lifted_hint, lifted, HasRoomToLift};
 
-use super::log::{Hints, Log, Step};
-use cnf_core::NoMemory;
-use std::alloc::Global;
+use crate::log::{Hints, Log, Step};
+use std::alloc::{AllocError, Global};
 
 /// The log with its hints above `base` raised by `added`, so that as many members can come after the
 /// first `base`. No raised hint goes above 4,294,967,295.
-pub fn lift(alloc: Global, log: &Log, base: u32, added: u32) -> Result<Log, NoMemory>
+pub fn lift(alloc: Global, log: &Log, base: u32, added: u32) -> Result<Log, AllocError>
     requires { HasRoomToLift base added log.now }
     ensures { IfOk result (λ raised. raised ≡ lifted base added log.now) }
 {
@@ -21,7 +21,7 @@ pub fn lift(alloc: Global, log: &Log, base: u32, added: u32) -> Result<Log, NoMe
     Ok(raised)
 }
 
-fn raised_hints(alloc: Global, hints: &[u32], base: u32, added: u32) -> Result<Hints, NoMemory>
+fn raised_hints(alloc: Global, hints: &[u32], base: u32, added: u32) -> Result<Hints, AllocError>
     requires { All (λ hint. base < hint → hint + added < 2 ^ 32) hints.now }
     ensures { IfOk result (λ raised. raised ≡ map (lifted_hint base added) hints.now) }
 {

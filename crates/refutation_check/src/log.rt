@@ -1,9 +1,10 @@
+// Logs: derived clauses with their hints.
 ghost use Rattle.std.specs.Prelude.{◌≡◌, ◌+◌, ◌<◌, ◌^◌, ◌++◌, ◌∷◌, [], IfOk, OnOk, OnErr, length};
 ghost use Rattle.cnf_core.specs.Literal.{IsClause};
 ghost use Rattle.refutation_check.specs.Log.{IsLog};
 
-use cnf_core::{Clause, NoMemory};
-use std::alloc::Global;
+use cnf_core::Clause;
+use std::alloc::{AllocError, Global};
 use std::marker::Model;
 
 /// Numbers of clauses and earlier steps. Contracts see the list of them.
@@ -43,7 +44,7 @@ impl Hints {
     }
 
     /// Equal hints.
-    pub fn copy(&self, alloc: Global) -> Result<Hints, NoMemory>
+    pub fn copy(&self, alloc: Global) -> Result<Hints, AllocError>
         ensures { IfOk result (λ h. h ≡ self.now) }
     {
         let numbers = Vec::from_slice(alloc, self.numbers.as_slice())?;
@@ -61,7 +62,7 @@ pub struct Step {
 
 impl Step {
     /// An equal step.
-    pub fn copy(&self, alloc: Global) -> Result<Step, NoMemory>
+    pub fn copy(&self, alloc: Global) -> Result<Step, AllocError>
         ensures { IfOk result (λ s. s ≡ self.now) }
     {
         let clause = self.clause.copy(alloc)?;
@@ -100,12 +101,12 @@ impl Log {
     }
 
     /// Puts a step at the end. After an error the log is as before.
-    pub fn push(&mut self, s: Step) -> Result<(), NoMemory>
+    pub fn push(&mut self, s: Step) -> Result<(), AllocError>
         requires room { length self.old + 1 < 2 ^ 30 }
         ensures ok { OnOk result (self.new ≡ self.old ++ s ∷ []) }
         ensures err { OnErr result (self.new ≡ self.old) }
     {
-        let _ = s.clause.lits();
+        let _ = s.clause.lits(); // for the proof
         self.steps.push(s)?;
         Ok(())
     }
@@ -119,7 +120,7 @@ impl Log {
     }
 
     /// An equal log.
-    pub fn copy(&self, alloc: Global) -> Result<Log, NoMemory>
+    pub fn copy(&self, alloc: Global) -> Result<Log, AllocError>
         ensures { IfOk result (λ log. log ≡ self.now) }
     {
         let steps = copies_of(alloc, self.steps.as_slice())?;
@@ -127,7 +128,7 @@ impl Log {
     }
 }
 
-fn copies_of(alloc: Global, steps: &[Step]) -> Result<Vec<Step>, NoMemory>
+fn copies_of(alloc: Global, steps: &[Step]) -> Result<Vec<Step>, AllocError>
     ensures { IfOk result (λ copies. copies.items ≡ steps.now) }
 {
     let mut copies = Vec::new(alloc);

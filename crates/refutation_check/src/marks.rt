@@ -1,3 +1,4 @@
+// What a clause is where some literals are false.
 ghost use Rattle.std.specs.Prelude.{length};
 ghost use Rattle.cnf_core.specs.Literal.{IsClause};
 ghost use Rattle.refutation_check.specs.Marks.{IsFalseIn, IsSeen, IsWithin};

@@ -1,8 +1,9 @@
+// Parts of a search: local clauses and what was derived with them.
 ghost use Rattle.std.specs.Prelude.{◌≡◌, ◌+◌, ◌≤◌, ◌^◌, IfOk, length};
 
-use super::log::Log;
-use cnf_core::{Clause, NoMemory};
-use std::alloc::Global;
+use crate::log::Log;
+use cnf_core::Clause;
+use std::alloc::{AllocError, Global};
 use std::marker::Model;
 
 /// Clauses that hold in one part of a search alone, and the log of what was derived with them: at most
@@ -58,7 +59,7 @@ impl Part {
     }
 
     /// An equal part.
-    pub fn copy(&self, alloc: Global) -> Result<Part, NoMemory>
+    pub fn copy(&self, alloc: Global) -> Result<Part, AllocError>
         ensures { IfOk result (λ p. p ≡ self.now) }
     {
         let local = copies_of(alloc, self.local.as_slice())?;
@@ -67,7 +68,7 @@ impl Part {
     }
 }
 
-fn copies_of(alloc: Global, clauses: &[Clause]) -> Result<Vec<Clause>, NoMemory>
+fn copies_of(alloc: Global, clauses: &[Clause]) -> Result<Vec<Clause>, AllocError>
     ensures { IfOk result (λ copies. copies.items ≡ clauses.now) }
 {
     let mut copies = Vec::new(alloc);

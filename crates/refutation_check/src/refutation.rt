@@ -1,3 +1,4 @@
+// The check of a log against a formula.
 ghost use Rattle.std.specs.Prelude.{◌≡◌, ◌<◌, ◌≤◌, ◌^◌, ◌↔◌, [], All, length, MatchOption, IfOk, ℕ, Bool, List};
 ghost use Rattle.cnf_core.specs.declared.literal.Lit.{Lit};
 ghost use Rattle.cnf_core.specs.Literal.{HasVarsUpTo};
@@ -7,11 +8,11 @@ ghost use Rattle.refutation_check.specs.Chain.{members_of, Names, IsChain, IsAcc
 ghost use Rattle.refutation_check.specs.Marks.{HintIs};
 ghost use Rattle.refutation_check.specs.Verdict.{FailsAt, FailsFirst, Fits};
 
-use super::assumptions::Assumptions;
-use super::log::{Log, Step};
-use super::marks::Sight;
-use cnf_core::{Clause, Cnf, Lit, NoMemory};
-use std::alloc::Global;
+use crate::assumptions::Assumptions;
+use crate::log::{Log, Step};
+use crate::marks::Sight;
+use cnf_core::{Clause, Cnf, Lit};
+use std::alloc::{AllocError, Global};
 use std::marker::Model;
 
 /// What a check of a log says: steps and hints are numbered from 1, and a step without hints is refused
@@ -41,7 +42,7 @@ impl Model for Scratch {
 
 impl Scratch {
     /// Room for this many variables, at most 2,147,483,647.
-    pub fn for_vars(alloc: Global, vars: u32) -> Result<Scratch, NoMemory>
+    pub fn for_vars(alloc: Global, vars: u32) -> Result<Scratch, AllocError>
         requires { vars < 2 ^ 31 }
         ensures { IfOk result (λ s. s ≡ vars) }
     {
@@ -77,7 +78,7 @@ fn verdict_of(f: &Cnf, log: &Log, assumed: &mut Assumptions) -> Verdict
     ensures fits { Fits f.now.clauses log.now result }
     ensures assumed { assumed.new ≡ assumed.old }
 {
-    let _vars = f.vars();
+    let _ = f.vars(); // for the proof
     let steps = log.steps();
     for (i, step) in steps.iter().enumerate() {
         if let Some(hint) = first_failure(f, &steps[..i], step, assumed) {
@@ -93,7 +94,7 @@ fn verdict_of(f: &Cnf, log: &Log, assumed: &mut Assumptions) -> Verdict
     }
 }
 
-/// The hint at which a step fails first, if it is no chain.
+// The hint at which a step fails first, if it is no chain.
 fn first_failure(f: &Cnf, earlier: &[Step], step: &Step, assumed: &mut Assumptions) -> Option<u32>
     requires none { assumed.old.falses ≡ [] }
     requires members { All (HasVarsUpTo assumed.old.vars) (members_of f.now.clauses earlier.now) }
@@ -107,7 +108,7 @@ fn first_failure(f: &Cnf, earlier: &[Step], step: &Step, assumed: &mut Assumptio
     failure
 }
 
-/// The hint at which a step fails first whose literals are false, if it is no chain.
+// The hint at which a step fails first whose literals are false, if it is no chain.
 fn failing_hint(f: &Cnf, earlier: &[Step], hints: &[u32], assumed: &mut Assumptions) -> Option<u32>
     requires members { All (HasVarsUpTo assumed.old.vars) (members_of f.now.clauses earlier.now) }
     requires few { length assumed.old.falses ≤ 2 ^ 31 }
@@ -125,7 +126,7 @@ fn failing_hint(f: &Cnf, earlier: &[Step], hints: &[u32], assumed: &mut Assumpti
     Some(0)
 }
 
-/// What the clause is that a hint names; a hint that names none is no help.
+// What the clause is that a hint names; a hint that names none is no help.
 fn sight_of(f: &Cnf, earlier: &[Step], hint: u32, assumed: &Assumptions) -> Sight
     requires { All (HasVarsUpTo assumed.now.vars) (members_of f.now.clauses earlier.now) }
     ensures sight { HintIs (members_of f.now.clauses earlier.now) assumed.now.falses hint result }

@@ -8,7 +8,7 @@ use Rattle.rel_formula.specs.Instance.{AreCells, IsScenario, with_cell}
 use Rattle.rel_formula.specs.Renaming.{KeepsBounds, IsImage}
 use Rattle.rel_formula.proofs.Lists.{pairs_nil, get-Some, some_at, some_below}
 use Rattle.rel_formula.proofs.WithCell.{all_of, with_cell_has, with_cell_rises}
-use Rattle.rel_formula.proofs.Open.{open_cell, cell_open, cons_cases, cons_first, cons_later}
+use Rattle.rel_formula.proofs.OpenCells.{open_cell, cell_open, cons_cases, cons_first, cons_later}
 
 -- a map of the atoms, undone
 pub map_undone : (f g : Atom → Atom) → ((a : Atom) → f (g a) ≡ a) → (row : List Atom) → map f (map g row) ≡ row

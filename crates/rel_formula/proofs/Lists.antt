@@ -1,5 +1,7 @@
 -- Lists whose elements are related in pairs.
-use Rattle.std.proofs.Common.{◌≡◌, ℕ, zero, suc, ◌<◌, List, [], ◌∷◌, ◌++◌, map, length, get_or, Contains, All, AllPairs, refl, arith, Some, slice_get, ◌∙◌, ap}
+use Rattle.std.proofs.Common.{◌≡◌, ℕ, zero, suc, ◌+◌, ◌<◌, ◌⊎◌, inl, inr, List, [], ◌∷◌, ◌++◌, map, length, get_or, take, Contains, All, AllPairs, refl, arith, Some, slice_get, ◌∙◌, ap, sym, subst}
+use Rattle.std.proofs.lemmas.Bool.{cases_lt}
+use Rattle.std.proofs.lemmas.List.{length-take-le, get_or-take}
 use Rattle.std.proofs.lemmas.List.Elements.{All-append, All-head, All-map}
 use Rattle.std.proofs.lemmas.List.Kept.{AllPairs-cons}
 
@@ -43,3 +45,15 @@ Contains-some xs x c = (c.0, get-Some xs c.0 x c.1 ∙ ap (λ y. Some y) c.2)
 
 pub some-Contains : {X : Type 0} (xs : List X) (i : ℕ) (x : X) → slice_get xs i ≡ Some x → Contains xs x
 some-Contains xs i x e = (i, some_below xs i x e, some_at xs i x x e)
+
+-- what stands among the first i + 1 stands among the first i, or is the next
+pub take_last : {X : Type 0} (xs : List X) (i : ℕ) (y : X) → i < length xs → Contains (take (i + 1) xs) y → Contains (take i xs) y ⊎ (get_or xs i y ≡ y)
+take_last xs i y l c =
+    let short = length-take-le i xs (omega arith) in
+    let long = length-take-le (i + 1) xs (omega arith) in
+    let h = c.1 in
+    let at : get_or xs c.0 y ≡ y = sym (get_or-take (i + 1) xs c.0 y (omega arith)) ∙ c.2 in
+    elim (cases_lt c.0 i) [
+      | inl less ↦ inl (c.0, omega arith, get_or-take i xs c.0 y less ∙ at)
+      | inr past ↦ let same : c.0 ≡ i = omega arith in inr (subst (λ k. get_or xs k y ≡ y) same at)
+    ]

@@ -6,9 +6,9 @@ use Rattle.rel_formula.specs.Bounds.{Bounded, IsProblem, relation_at, cell_of, c
 use Rattle.rel_formula.specs.Instance.{AreCells, IsScenario, HasCell, InRelation, structure_of, IsInstance, Includes, IsMinimalAbove}
 use Rattle.rel_formula.specs.Renaming.{KeepsBounds, IsImage}
 use Rattle.rel_formula.proofs.Lists.{get-Some}
-use Rattle.rel_formula.proofs.Open.{cell_once}
+use Rattle.rel_formula.proofs.OpenCells.{cell_once}
 use Rattle.rel_formula.proofs.Images.{map_undone, has_image}
-use Rattle.rel_formula.proofs.Moved.{Renames, truth_moved}
+use Rattle.rel_formula.proofs.RenamedAtoms.{Renames, truth_moved}
 
 -- the tuples that the one scenario gives to the relations, the other gives too
 abbrev Covers : Bounded → List ℕ → List ℕ → Type 0

@@ -13,9 +13,9 @@ use Rattle.tuple_core.specs.Swap.{swap_atoms}
 use Rattle.rel_formula.specs.Bounds.{Bounded, IsProblem, cell_of, cells_of}
 use Rattle.rel_formula.specs.Instance.{AreCells, IsScenario, HasCell}
 use Rattle.rel_formula.specs.Renaming.{KeepsBounds, IsCellImage, IsImage}
-use Rattle.rel_formula.proofs.Rising.{Rises}
+use Rattle.rel_formula.proofs.RisingNumbers.{Rises}
 use Rattle.rel_formula.proofs.Lists.{get-Some, some_at, some_below}
-use Rattle.rel_formula.proofs.Open.{cell_once}
+use Rattle.rel_formula.proofs.OpenCells.{cell_once}
 use Rattle.rel_formula.proofs.Images.{cell_parts, one_row, image_cell}
 use Rattle.rel_formula.proofs.SwapLaws.{swap_back}
 

@@ -1,5 +1,5 @@
 -- The relations' sets in a scenario.
-use Rattle.std.proofs.Common.{◌≡◌, ◌≢◌, ℕ, ◌+◌, ◌<◌, ◌⊎◌, inl, inr, List, [], ◌∷◌, ◌++◌, length, get_or, take, Some, slice_get, Contains, sym, ◌∙◌, ap, subst, arith}
+use Rattle.std.proofs.Common.{◌≡◌, ◌≢◌, ℕ, ◌+◌, ◌<◌, inl, inr, List, [], ◌∷◌, ◌++◌, length, get_or, take, Some, slice_get, Contains, sym, ◌∙◌, ap, subst, arith}
 use Rattle.std.proofs.lemmas.Bool.{cases_lt}
 use Rattle.std.proofs.lemmas.List.{get_or_default, get_or_append_left, get_or_push, length_push, length-take-le, get_or-take}
 use Rattle.std.proofs.lemmas.List.Elements.{All-contains}
@@ -11,7 +11,8 @@ use Rattle.rel_formula.specs.declared.problem.Cell.{Cell}
 use Rattle.rel_formula.specs.declared.problem.Relation.{Relation}
 use Rattle.rel_formula.specs.Bounds.{Bounded, IsProblem, relation_at, cell_of, cells_of}
 use Rattle.rel_formula.specs.Instance.{InRelation, InSome}
-use Rattle.rel_formula.proofs.Open.{cell_open}
+use Rattle.rel_formula.proofs.Lists.{take_last}
+use Rattle.rel_formula.proofs.OpenCells.{cell_open}
 use Rattle.rel_formula.proofs.Images.{cell_parts}
 
 abbrev pub no_rows : Rows
@@ -59,17 +60,6 @@ take_grows xs i y l c =
     let long = length-take-le (i + 1) xs (omega arith) in
     let h = c.1 in
     (c.0, omega arith, get_or-take (i + 1) xs c.0 y (omega arith) ∙ sym (get_or-take i xs c.0 y (omega arith)) ∙ c.2)
-
-take_last : (xs : List ℕ) (i y : ℕ) → i < length xs → Contains (take (i + 1) xs) y → Contains (take i xs) y ⊎ (get_or xs i y ≡ y)
-take_last xs i y l c =
-    let short = length-take-le i xs (omega arith) in
-    let long = length-take-le (i + 1) xs (omega arith) in
-    let h = c.1 in
-    let at : get_or xs c.0 y ≡ y = sym (get_or-take (i + 1) xs c.0 y (omega arith)) ∙ c.2 in
-    elim (cases_lt c.0 i) [
-      | inl less ↦ inl (c.0, omega arith, get_or-take i xs c.0 y less ∙ at)
-      | inr past ↦ let same : c.0 ≡ i = omega arith in inr (subst (λ k. get_or xs k y ≡ y) same at)
-    ]
 
 -- one top-level signature more
 pub some_more : (tops : List ℕ) (i x : ℕ) (V : ℕ → Pred) → i < length tops → x ≡ get_or tops i x → Same (United (InSome (take i tops) V) (V x)) (InSome (take (i + 1) tops) V)

@@ -13,7 +13,7 @@ use Rattle.rel_formula.specs.Kernel.{FormulaTree}
 use Rattle.rel_formula.specs.Bounds.{Bounded, IsRelation, IsProblem, relation_at, open_tuples, cell_of, cells_of}
 use Rattle.rel_formula.specs.Shape.{IsProper}
 use Rattle.rel_formula.proofs.Lists.{pairs_nil}
-use Rattle.rel_formula.proofs.Open.{cons_cases}
+use Rattle.rel_formula.proofs.OpenCells.{cons_cases}
 
 -- there are no more open tuples than upper ones
 few_open : (relation : Relation) → length (open_tuples relation) ≤ length relation.upper.rows

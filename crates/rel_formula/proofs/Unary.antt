@@ -11,10 +11,10 @@ use Rattle.rel_formula.specs.Kernel.{FormulaTree}
 use Rattle.rel_formula.specs.Bounds.{Bounded, IsRelation, IsProblem, IsAtomOf, relation_at, open_tuples, cell_of, cells_from, cells_of}
 use Rattle.rel_formula.specs.Shape.{IsProper}
 use Rattle.rel_formula.specs.Renaming.{IsRenaming, KeepsBounds, IsSymmetric}
-use Rattle.rel_formula.proofs.Open.{cons_first}
+use Rattle.rel_formula.proofs.OpenCells.{cons_first}
 use Rattle.rel_formula.proofs.Images.{map_undone}
 use Rattle.rel_formula.proofs.SwapLaws.{laws_of, renames}
-use Rattle.rel_formula.proofs.Single.{filter_shorter, only_one, one_pair}
+use Rattle.rel_formula.proofs.OneSetOfAtoms.{filter_shorter, only_one, one_pair}
 use Rattle.std.specs.List.{list_any}
 use Rattle.std.specs.Ordering.{eq_by_cmp}
 use Rattle.tuple_core.specs.Order.{tuple_cmp, IsAscending}

@@ -4,10 +4,10 @@ use Rattle.std.proofs.lemmas.Bool.{cases_lt, lt-ltb, le-ltb, eq-eqb, ne_eqb}
 use Rattle.std.proofs.lemmas.List.Elements.{All-contains, All-nil, All-cons}
 use Rattle.std.proofs.lemmas.List.Kept.{AllPairs-cons}
 use Rattle.rel_formula.specs.Instance.{with_cell}
-use Rattle.rel_formula.proofs.Rising.{Rises}
+use Rattle.rel_formula.proofs.RisingNumbers.{Rises}
 use Rattle.rel_formula.proofs.Lists.{pairs_nil, pairs_head, pairs_tail}
-use Rattle.rel_formula.proofs.Open.{cons_cases, cons_first, cons_later}
-use Rattle.rel_formula.proofs.Same.{same_rising}
+use Rattle.rel_formula.proofs.OpenCells.{cons_cases, cons_first, cons_later}
+use Rattle.rel_formula.proofs.SameNumbers.{same_rising}
 
 before : (x m : ℕ) (ms : List ℕ) → x < m → with_cell x (m ∷ ms) ≡ x ∷ m ∷ ms
 before x m ms l = ap (λ b. cond b (x ∷ m ∷ ms) (cond (eqb x m) (m ∷ ms) (m ∷ with_cell x ms))) (lt-ltb x m l)

@@ -15,8 +15,8 @@ pub fn holds(alloc: Global, problem: &Problem, scenario: &Scenario) -> Result<bo
     ensures { IfOk result (λ is. IsTrue is ↔ IsInstance problem.now scenario.now) }
 {
     // the bounds and the formula of a problem fit each other, and the numbers of a scenario rise
-    let _relations = problem.relations();
-    let _numbers = scenario.numbers();
+    let _ = problem.relations(); // for the proof
+    let _ = scenario.numbers(); // for the proof
     let tables = Tables::of(alloc, problem, scenario)?;
     let mut env = Vec::new(alloc);
     Ok(truth(alloc, &tables, &mut env, problem.formula())?)

@@ -17,4 +17,3 @@ pub use crate::instance::holds;
 pub use crate::problem::{Cell, Problem, Relation};
 pub use crate::scenario::Scenario;
 pub use crate::tables::Tables;
-pub use std::alloc::AllocError as NoMemory;

@@ -120,7 +120,7 @@ fn swap_in_numbers(problem: &Problem, numbers: &mut [u32], first: Atom, second: 
     ensures scenario { IsScenario problem.now numbers.new }
     ensures image { IsImage problem.now (swap_atoms first second) numbers.old numbers.new }
 {
-    let _ = problem.relations();
+    let _ = problem.relations(); // for the proof
     for place in 0..numbers.len() {
         numbers[place] = swapped_number(problem, numbers[place], first, second);
     }

@@ -12,7 +12,7 @@ use Rattle.rel_terms.specs.Numbers.{Number, Is, ◌⊕◌, ◌⊗◌, Only}
 use Rattle.rel_terms.specs.Counting.{Adds, AddsForEach}
 use Rattle.rel_terms.proofs.Numbers.{Once, only, only_is, only_sum, only_product}
 use Rattle.rel_formula.proofs.Counts.{no_longer}
-use Rattle.rel_terms.proofs.Sized.{size_once, size_same, rows_size}
+use Rattle.rel_terms.proofs.TupleSizes.{size_once, size_same, rows_size}
 use Rattle.std.proofs.lemmas.List.Elements.{All-contains}
 
 pub adds_same : (C D : Number) (b a : ℕ) → ((n : ℕ) → C n → D n) → ((n : ℕ) → D n → C n) → Adds C b a → Adds D b a

@@ -9,7 +9,7 @@ use Rattle.rel_formula.specs.Sizes.{HasSize}
 use Rattle.rel_terms.specs.Numbers.{Number, Is, ◌⊕◌, ◌⊗◌}
 use Rattle.rel_terms.specs.Terms.{Meeting}
 use Rattle.rel_terms.specs.Counting.{Adds, IsCounted}
-use Rattle.rel_terms.proofs.Sized.{size_same}
+use Rattle.rel_terms.proofs.TupleSizes.{size_same}
 use Rattle.rel_terms.proofs.Adding.{adds_same, adds_then, adds_both, adds_left}
 
 -- one number has both facts

@@ -15,7 +15,7 @@ use Rattle.rel_formula.proofs.Tabled.{no_relation}
 use Rattle.rel_terms.specs.Upper.{InUpperSet, IsAtomAt}
 use Rattle.rel_terms.specs.Counting.{IsCounted, arities_of}
 use Rattle.rel_terms.proofs.Numbers.{only}
-use Rattle.rel_terms.proofs.Sized.{size_once}
+use Rattle.rel_terms.proofs.TupleSizes.{size_once}
 use Rattle.rel_terms.proofs.Adding.{adds_only, adds_none}
 use Rattle.rel_terms.proofs.Counted.{adds_alike, alike_size}
 

@@ -1,13 +1,13 @@
 pub mod Numbers
-pub mod Sized
+pub mod TupleSizes
 pub mod Once
 pub mod Uppers
 pub mod Adding
-pub mod Meetings
+pub mod MeetingTuples
 pub mod Starting
 pub mod Walked
 pub mod Counted
 pub mod Leaves
 pub mod Parted
-pub mod Compared
+pub mod FormulaTerms
 pub mod Translatable

@@ -8,7 +8,7 @@ use Rattle.rel_formula.specs.Meaning.{Structure}
 use Rattle.rel_terms.specs.Numbers.{Number, ◌⊕◌}
 use Rattle.rel_terms.specs.Terms.{InUpperAt, UpperHas, Meeting, SumsTo, SumsOver, ExpressionHas, FormulaHas, FormulasHave}
 use Rattle.rel_terms.proofs.Numbers.{Once, sum_once, product_once, is_once}
-use Rattle.rel_terms.proofs.Sized.{size_once, list_once}
+use Rattle.rel_terms.proofs.TupleSizes.{size_once, list_once}
 
 pub singles_once : (xs ys : List Atom) → map (λ (x : Atom). x ∷ []) xs ≡ map (λ (x : Atom). x ∷ []) ys → xs ≡ ys
 singles_once [] [] e = refl

@@ -8,11 +8,11 @@ use Rattle.rel_formula.specs.Kernel.{FormulaTree, formulas_of}
 use Rattle.rel_formula.specs.View.{formula_tree}
 use Rattle.rel_formula.specs.Meaning.{Structure}
 use Rattle.rel_formula.specs.Sizes.{IsListOf}
-use Rattle.rel_formula.proofs.Parts.{And-tree, Or-tree}
+use Rattle.rel_formula.proofs.AndOrParts.{And-tree, Or-tree}
 use Rattle.rel_terms.specs.Numbers.{Number, Is, ◌⊕◌}
 use Rattle.rel_terms.specs.Terms.{FormulaHas, FormulasHave, SumsTo, SumsOver}
 use Rattle.rel_terms.specs.Counting.{Adds, RowsHave}
-use Rattle.rel_terms.proofs.Sized.{list_once}
+use Rattle.rel_terms.proofs.TupleSizes.{list_once}
 use Rattle.rel_terms.proofs.Adding.{adds_both, adds_none, adds_above, adds_right, sum_left, sum_right}
 use Rattle.rel_terms.proofs.Counted.{Alike, alike_itself, alike_sum, adds_alike}
 

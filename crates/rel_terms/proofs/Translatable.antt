@@ -4,7 +4,7 @@ use Rattle.std.proofs.lemmas.List.{length-map, get_or-map}
 use Rattle.tuple_core.specs.declared.atom.Atom.{Atom}
 use Rattle.tuple_core.specs.Rows.{Rows, IsSetOf}
 use Rattle.rel_formula.specs.Bounds.{Bounded, InAtoms}
-use Rattle.rel_formula.proofs.Single.{only_one}
+use Rattle.rel_formula.proofs.OneSetOfAtoms.{only_one}
 use Rattle.rel_terms.specs.Terms.{HasTerms, IsTranslatable}
 
 -- the first atom of a tuple

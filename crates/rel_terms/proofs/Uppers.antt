@@ -10,7 +10,7 @@ use Rattle.rel_formula.specs.Kernel.{ExpressionTree, rel, var, nothing, univ, id
 use Rattle.rel_formula.specs.Bounds.{Bounded, IsProblem, relation_at}
 use Rattle.rel_formula.specs.Meaning.{Structure, InValue}
 use Rattle.rel_formula.specs.Instance.{InRelation, structure_of}
-use Rattle.rel_formula.proofs.Open.{cell_open}
+use Rattle.rel_formula.proofs.OpenCells.{cell_open}
 use Rattle.rel_formula.proofs.Tabled.{no_relation}
 use Rattle.rel_terms.specs.Upper.{InUpper, InUpperSet, IsAtomAt, upper_structure}
 

@@ -1,4 +1,4 @@
-//! The number of terms of a problem: how much a translation of its formula looks at.
+//! The number of terms of a problem, by which the nodes of its circuit are counted.
 #![tactic(auto)]
 
 mod expression;
@@ -10,4 +10,3 @@ mod tally;
 
 pub use crate::formula::terms;
 pub use crate::tally::MOST_TERMS;
-pub use std::alloc::AllocError as NoMemory;

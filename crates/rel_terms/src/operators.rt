@@ -169,7 +169,7 @@ pub fn closed(alloc: Global, tally: &mut Tally, pairs: &TupleSet) -> Result<Tupl
     requires { pairs.now.arity ≡ 2 }
     ensures { IfOk result (λ v. IsCounted v 2 (Closed (Contains pairs.now.rows)) (Is 6 ⊗ HasSize (Meeting (Closed (Contains pairs.now.rows)) (Closed (Contains pairs.now.rows)))) tally.old.terms tally.new.terms) }
 {
-    let _ = pairs.rows();
+    let _ = pairs.rows(); // for the proof
     let before = tally.terms;
     let mut walks = pairs.copy(alloc)?;
     loop {

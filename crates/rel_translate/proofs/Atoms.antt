@@ -12,7 +12,7 @@ use Rattle.rel_formula.specs.declared.problem.Relation.{Relation}
 use Rattle.rel_formula.specs.Bounds.{Bounded, IsAtomOf, HasFewAtoms, relation_at}
 use Rattle.rel_formula.specs.Kernel.{ExpressionTree, rel, var, nothing, univ, iden, union, minus, meet, product, join, transpose, closure, override, dom, ran}
 use Rattle.rel_formula.proofs.Lists.{some-Contains}
-use Rattle.rel_formula.proofs.Open.{cons_cases}
+use Rattle.rel_formula.proofs.OpenCells.{cons_cases}
 use Rattle.rel_formula.proofs.Tabled.{no_relation}
 use Rattle.rel_terms.specs.Upper.{InUpperSet, upper_structure}
 use Rattle.rel_terms.specs.Terms.{InUpperAt}

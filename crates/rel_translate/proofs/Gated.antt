@@ -6,7 +6,7 @@ use Rattle.bool_circuit.proofs.CallerLemmas.{Extends-trans}
 use Rattle.bool_matrix.specs.Cells.{Says}
 use Rattle.bool_matrix.proofs.Edits.{or_says}
 use Rattle.bool_matrix.proofs.Nodes.{and_says, not_true, says_kept, from_stands, within_says}
-use Rattle.bool_matrix.proofs.Compared.{says_same, says_itself, says_both}
+use Rattle.bool_matrix.proofs.ComparedEntries.{says_same, says_itself, says_both}
 
 -- a node says the same in a circuit that has grown
 pub says_later : {old new : Network} {n : ℕ} {F : (ℕ → Bool) → Type 0} → Extends old new → Says old n F → Says new n F

@@ -17,7 +17,7 @@ use Rattle.bool_circuit.specs.Folding.{IsConstant}
 use Rattle.bool_circuit.proofs.CallerLemmas.{Extends-trans}
 use Rattle.bool_matrix.specs.declared.entry.Entry.{Entry}
 use Rattle.bool_matrix.specs.Cells.{Cells, TrueIn, ThereIn, Says}
-use Rattle.bool_matrix.proofs.Compared.{says_same}
+use Rattle.bool_matrix.proofs.ComparedEntries.{says_same}
 use Rattle.bool_matrix.proofs.Nodes.{says_kept}
 use Rattle.rel_formula.specs.declared.formula.Formula.{Formula, And, Or}
 use Rattle.rel_formula.specs.Bounds.{Bounded, IsAtomOf}
@@ -26,7 +26,7 @@ use Rattle.rel_formula.specs.View.{formula_tree}
 use Rattle.rel_formula.specs.Meaning.{Structure, InValue, Truth}
 use Rattle.rel_formula.specs.Evaluation.{IsTrueAt}
 use Rattle.rel_formula.specs.Shape.{arity_of}
-use Rattle.rel_formula.proofs.Parts.{And-tree, Or-tree, Truth-And, Truth-Or}
+use Rattle.rel_formula.proofs.AndOrParts.{And-tree, Or-tree, Truth-And, Truth-Or}
 use Rattle.rel_formula.proofs.Valued.{one_atom, first_same}
 use Rattle.rel_terms.specs.Numbers.{Number, Is, ◌⊕◌}
 use Rattle.rel_terms.specs.Upper.{upper_structure}
@@ -37,10 +37,10 @@ use Rattle.rel_translate.specs.Tables.{structure_at, IsWell}
 use Rattle.rel_translate.specs.Makes.{HasRoomFor, Spends, TermsOf, FormulaTermsOf, IsMatrixFor, IsMade, Tells, IsTold}
 use Rattle.rel_translate.specs.Grounding.{IsImplied, IsMet, AreNotBothMet}
 use Rattle.rel_translate.proofs.Lists.{take_last, all_more, any_more, two_more}
-use Rattle.rel_translate.proofs.Sized.{tuples_list}
+use Rattle.rel_translate.proofs.MatrixSizes.{tuples_list}
 use Rattle.rel_translate.proofs.Spending.{spends_both, spends_same, room_same, room_left, room_right}
 use Rattle.rel_translate.proofs.Gated.{says_later}
-use Rattle.rel_translate.proofs.Compared.{tells_same}
+use Rattle.rel_translate.proofs.FormulaNodes.{tells_same}
 use Rattle.rel_translate.proofs.Operators.{UpperOf}
 use Rattle.rel_translate.proofs.Atoms.{upper_atoms}
 

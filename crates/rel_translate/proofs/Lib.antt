@@ -1,13 +1,13 @@
 pub mod Lists
-pub mod Sized
+pub mod MatrixSizes
 pub mod Spending
-pub mod Kept
+pub mod GrownCircuits
 pub mod Atoms
 pub mod Operators
 pub mod Plain
 pub mod Tabled
 pub mod Doubled
-pub mod Whole
+pub mod WholeProblems
 pub mod Gated
-pub mod Compared
+pub mod FormulaNodes
 pub mod Grounded

@@ -22,9 +22,9 @@ use Rattle.rel_terms.specs.Counting.{arities_of}
 use Rattle.rel_terms.proofs.Adding.{sum_right}
 use Rattle.rel_translate.specs.Tables.{structure_at, IsWell}
 use Rattle.rel_translate.specs.Makes.{HasRoomFor, Spends, TermsOf, IsMatrixFor, IsMade, AreMade}
-use Rattle.rel_translate.proofs.Sized.{entries_size, joins_size}
+use Rattle.rel_translate.proofs.MatrixSizes.{entries_size, joins_size}
 use Rattle.rel_translate.proofs.Spending.{IsAtMost, spends_own, spends_same, room_same, room_left, room_own}
-use Rattle.rel_translate.proofs.Kept.{well_of}
+use Rattle.rel_translate.proofs.GrownCircuits.{well_of}
 
 module _ (p : Bounded) (env : List Atom) where
   abbrev pub UpperOf : ExpressionTree → Pred

@@ -18,7 +18,7 @@ use Rattle.rel_terms.specs.Upper.{upper_structure, IsAtomAt}
 use Rattle.rel_translate.specs.Tables.{structure_at, IsWell, AreTables, IsRelationOf}
 use Rattle.rel_translate.specs.Makes.{Spends, IsMatrixFor, IsMade, AreMade}
 use Rattle.rel_translate.proofs.Spending.{spends_both}
-use Rattle.rel_translate.proofs.Kept.{well_of, well_kept}
+use Rattle.rel_translate.proofs.GrownCircuits.{well_of, well_kept}
 
 spends_nothing : (network : Network) (C : Number) → Spends network network C
 spends_nothing network C = record { extends = Extends-refl network; most = λ n h. omega arith }

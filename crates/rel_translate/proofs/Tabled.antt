@@ -30,7 +30,7 @@ use Rattle.rel_formula.specs.Bounds.{Bounded, IsProblem, HasDisjointTops, relati
 use Rattle.rel_formula.specs.Kernel.{rel}
 use Rattle.rel_formula.specs.Instance.{HasCell, InRelation, InSome}
 use Rattle.rel_formula.proofs.Cells.{any_row}
-use Rattle.rel_formula.proofs.Open.{open_cell, cell_open}
+use Rattle.rel_formula.proofs.OpenCells.{open_cell, cell_open}
 use Rattle.rel_formula.proofs.Tabled.{no_relation, some_more}
 use Rattle.rel_terms.specs.Upper.{InUpperSet, upper_structure}
 use Rattle.rel_terms.specs.Counting.{arities_of}

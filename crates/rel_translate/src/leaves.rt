@@ -52,7 +52,7 @@ pub fn relation(
         let node = node_of(problem, always, inputs, number, tuple);
         out.put(tuple.copy(), node)?;
     }
-    let _ = out.entries();
+    let _ = out.entries(); // for the proof
     Ok(out)
 }
 
@@ -62,7 +62,7 @@ pub fn single(alloc: Global, always: Node, atom: Atom) -> Result<Matrix, AllocEr
 {
     let mut out = Matrix::new(alloc, 1);
     out.put(Tuple::single(atom), always)?;
-    let _ = out.entries();
+    let _ = out.entries(); // for the proof
     Ok(out)
 }
 
@@ -71,7 +71,7 @@ pub fn nothing(alloc: Global) -> Matrix
     ensures { (network : Network) → IsWell network result 1 (λ s t. ⊥) (λ t. ⊥) }
 {
     let out = Matrix::new(alloc, 1);
-    let _ = out.entries();
+    let _ = out.entries(); // for the proof
     out
 }
 
@@ -85,6 +85,6 @@ pub fn identity(alloc: Global, atoms: &Matrix) -> Result<Matrix, AllocError>
         let atom = entry.tuple.first();
         out.put(Tuple::of(&[atom, atom]), entry.node)?;
     }
-    let _ = out.entries();
+    let _ = out.entries(); // for the proof
     Ok(out)
 }

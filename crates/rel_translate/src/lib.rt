@@ -10,4 +10,3 @@ mod tables;
 mod translate;
 
 pub use crate::translate::{ProblemCircuit, circuit_of};
-pub use std::alloc::AllocError as NoMemory;

@@ -34,7 +34,7 @@ impl Tables {
         ensures size { OnOk result (size circuit.new ≤ length (cells_of problem.now) + 2) }
         ensures problem { IsProblem problem.now }
     {
-        let _relations = problem.relations();
+        let _ = problem.relations(); // for the proof
         let always = circuit.constant(true)?;
         let inputs = all_inputs(alloc, circuit, problem.cells())?;
         let relations = all_relations(alloc, problem, always, &inputs)?;
@@ -97,12 +97,12 @@ fn universe(
     requires each { (network : Network) → AreLeaves network problem.now always inputs.now → (r : ℕ) (d : Cells) → r < length relations.now → IsRelationOf network problem.now r (slice_index_or relations.now r d) }
     ensures { IfOk result (λ m. (network : Network) → AreLeaves network problem.now always inputs.now → IsUniverseOf network problem.now m) }
 {
-    let _relations = problem.relations();
+    let _ = problem.relations(); // for the proof
     let mut out = Matrix::new(alloc, 1);
     for top in problem.tops() {
         put_all(&mut out, relations[*top as usize].entries())?;
     }
-    let _ = out.entries();
+    let _ = out.entries(); // for the proof
     Ok(out)
 }
 

@@ -2,7 +2,7 @@
 use Rattle.std.proofs.Common.{◌≡◌, ℕ, ◌+◌, List, [], ◌∷◌, ◌++◌, map, Bool, Contains, IsTrue, refl, sym, ◌∙◌, ap, subst, arith, inl, inr}
 use Rattle.std.specs.List.{AllZip, range_with_len}
 use Rattle.std.proofs.lemmas.List.FromFn.{map-range_with_len_more}
-use Rattle.rel_formula.proofs.Open.{cons_first, cons_cases}
+use Rattle.rel_formula.proofs.OpenCells.{cons_first, cons_cases}
 use Rattle.tuple_core.specs.declared.atom.Atom.{Atom}
 use Rattle.tuple_core.specs.Rows.{Rows, IsSetOf}
 use Rattle.rel_formula.specs.declared.problem.Relation.{Relation}

@@ -16,7 +16,7 @@ use Rattle.model_types.specs.Bounding.{Lists, type_of, types_of, links_type, ste
 use Rattle.model_types.specs.Sorts.{Kind, relation, formula, unless, first_place, as_relation, as_formula, joined_arity, operator_arity, brackets_arity, is_connective, prefix_kind, may_stand_left, fits_left}
 use Rattle.model_types.specs.Typing.{Local, Field, Header, Declared, call_type, types_in, local_types, type_in, ends_of, tops_behind, fitting, field_name, the_one, chosen, is_shared, Settled, is_field, referent_settled, arguments_fit, call_kind, onto, formula_from, settled, formulas_settled, arguments_settled, links_settled, steps_settled, tops_in, domains_settled, values_settled}
 use Rattle.bounding_types.specs.Same.{AreSame}
-use Rattle.bounding_types.proofs.Alike.{same_prefix, same_operator, same_joins}
+use Rattle.bounding_types.proofs.SameListsMade.{same_prefix, same_operator, same_joins}
 use Rattle.bounding_types.proofs.Sets.{any-filter, any-flat_map}
 use Rattle.expression_types.specs.Types.{AreEachSame}
 use Rattle.expression_types.proofs.Each.{each_at}

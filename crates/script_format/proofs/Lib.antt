@@ -1,9 +1,9 @@
-pub mod Leads
+pub mod LineReadings
 pub mod Sizes
 pub mod Soundness
 pub mod Placed
-pub mod Asked
-pub mod Exact
+pub mod AskedCommands
+pub mod UniqueScripts
 pub mod Changed
 pub mod Digits
 pub mod Taken

@@ -18,7 +18,7 @@ use Rattle.script_format.specs.Lines.{line_of}
 use Rattle.script_format.specs.Reading.{Reading, Start, place_from, model_named, session_named, is_there, or_zero, asks, new_session, fault_of, after, changed, with_text, with_command}
 use Rattle.script_format.specs.Script.{Leads}
 use Rattle.script_format.specs.Sound.{IsThere, IsSound}
-use Rattle.script_format.proofs.Leads.{beyond}
+use Rattle.script_format.proofs.LineReadings.{beyond}
 use Rattle.script_format.proofs.Sizes.{text_of, more, sizes, sizes_more, sizes_changed}
 
 -- no fault from a test on

@@ -10,7 +10,7 @@ use Rattle.script_format.specs.declared.line.Line.TheVariants as line
 use Rattle.script_format.specs.Lines.{line_of}
 use Rattle.script_format.specs.Reading.{Reading, fault_of, after, changed, with_text}
 use Rattle.script_format.specs.Read.{Takes}
-use Rattle.script_format.proofs.Leads.{blame, beyond}
+use Rattle.script_format.proofs.LineReadings.{blame, beyond}
 
 pub idle_taken : (r : Reading) (text : List ℕ) → line_of r.began text ≡ line.Idle → (blame r text ≡ None) × (r ≡ beyond r text)
 unfolding fault_of after

@@ -4,10 +4,9 @@ ghost use Rattle.std.specs.Prelude.{◌≡◌, ◌<◌, IfOk, length};
 use cnf_core::{Clause, Lit};
 use refutation_check::{Hints, Log, Part};
 use rel_formula::Scenario;
-use session_rules::answers::Reply;
 use session_rules::{
-    CellNumbers, Command, Commands, EndProof, Parts, Refusal, Replies, Scenarios, SessionScript,
-    Step, Transcript, WorkDone,
+    CellNumbers, Command, Commands, EndProof, Parts, Refusal, Replies, Reply, Scenarios,
+    SessionScript, Step, Transcript, WorkDone,
 };
 use std::alloc::{AllocError, Global};
 use std::test::Fail;

@@ -1,3 +1,4 @@
+// The words of sessions at small values.
 use session_words::{AtomName, AtomNames, Command, Commands, Step};
 use std::alloc::{AllocError, Global};
 use std::test::Fail;

@@ -5,7 +5,7 @@ pub mod ReplyLemmas
 pub mod SameOutputs
 pub mod SameReplies
 pub mod Separated
-pub mod Shown
+pub mod ScenarioLineTexts
 pub mod Tables
-pub mod Told
+pub mod RelationLineTexts
 pub mod Zips

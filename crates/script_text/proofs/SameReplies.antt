@@ -10,7 +10,7 @@ use Rattle.refutation_check.specs.WrittenProof.{proof_text}
 use Rattle.rel_formula.specs.declared.problem.Cell.{Cell}
 use Rattle.rel_formula.specs.Bounds.{Bounded, relation_at, cell_of, cells_of}
 use Rattle.rel_formula.specs.Instance.{IsScenario}
-use Rattle.rel_formula.proofs.Open.{cell_open, cell_once}
+use Rattle.rel_formula.proofs.OpenCells.{cell_open, cell_once}
 use Rattle.std.proofs.lemmas.Option.{slice_get-get_or}
 use Rattle.tuple_core.specs.declared.atom.Atom.{Atom}
 use Rattle.script_text.specs.Lines.{tuple_text}
@@ -22,8 +22,8 @@ use Rattle.script_text.specs.Printable.{IsWritable, Answers, MayPrint, IsProper}
 use Rattle.script_text.specs.Replies.{IsScenarioText, AreNumbered, cell_line, IsReplyText, AreReplyTexts}
 use Rattle.script_text.proofs.Cuts.{head_is, tail_is, same_front, same_number, Begins, group3, group4, group5}
 use Rattle.script_text.proofs.ProofLines.{same_proof}
-use Rattle.script_text.proofs.Told.{IsTuple, name_plain, one_relation, same_tuple}
-use Rattle.script_text.proofs.Shown.{tuple_fits, same_scenario}
+use Rattle.script_text.proofs.RelationLineTexts.{IsTuple, name_plain, one_relation, same_tuple}
+use Rattle.script_text.proofs.ScenarioLineTexts.{tuple_fits, same_scenario}
 
 feed_other : ¬ IsDigit 10
 feed_other d = let l = d.0 in absurd (omega arith)

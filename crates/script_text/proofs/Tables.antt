@@ -7,7 +7,7 @@ use Rattle.tuple_core.specs.Rows.{Rows}
 use Rattle.rel_formula.specs.declared.problem.Relation.{Relation}
 use Rattle.rel_formula.specs.Bounds.{Bounded, IsProblem, relation_at, cell_of, cells_of}
 use Rattle.rel_formula.specs.Tables.{AreTables}
-use Rattle.rel_formula.proofs.Open.{cell_open}
+use Rattle.rel_formula.proofs.OpenCells.{cell_open}
 use Rattle.rel_formula.proofs.Tabled.{no_relation}
 use Rattle.script_text.specs.Lines.{relation_line, relation_lines}
 

@@ -10,7 +10,7 @@ use crate::offer_lines::push_offers;
 use crate::refusal_lines::push_refused;
 use crate::scenario_lines::push_shown;
 use rel_formula::Problem;
-use session_rules::answers::Reply;
+use session_rules::Reply;
 use std::alloc::{AllocError, Global};
 
 /// Adds the lines of a reply that prints no proof. The cells that it names are the problem's.

@@ -11,8 +11,7 @@ use crate::answer_lines::push_answer;
 use crate::numbers::push_number_line;
 use proof_lines::text_of_proof;
 use rel_formula::Scenario;
-use session_rules::answers::Reply;
-use session_rules::{EndProof, ProofKind, Transcript};
+use session_rules::{EndProof, ProofKind, Reply, Transcript};
 use std::alloc::{AllocError, Global};
 use translation::Translation;
 

@@ -5,8 +5,7 @@ ghost use Rattle.rel_formula.specs.Bounds.{cells_of};
 use crate::answer_lines::push_answer;
 use rel_formula::{Expression, Formula, Problem, Scenario};
 use sample_problems::set_of;
-use session_rules::answers::Reply;
-use session_rules::{CellNumbers, Refusal, Scenarios};
+use session_rules::{CellNumbers, Refusal, Reply, Scenarios};
 use std::alloc::{AllocError, Global};
 use std::test::Fail;
 

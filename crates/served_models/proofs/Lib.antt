@@ -1,3 +1,3 @@
-pub mod Asked
+pub mod CommandsWithSessions
 pub mod Refusals
 pub mod Usables

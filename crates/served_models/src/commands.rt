@@ -63,7 +63,7 @@ fn translated(
     problems_are_symmetric();
     match lower(alloc, model, number) {
         Ok(problem) => {
-            let _ = problem.relations();
+            let _ = problem.relations(); // for the proof
             let translation = Translation::build(alloc, problem)?;
             Ok(Ok(ServedCommand {
                 number,

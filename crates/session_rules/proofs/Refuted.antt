@@ -7,10 +7,10 @@ use Rattle.refutation_check.specs.declared.log.Step.{Step}
 use Rattle.refutation_check.specs.Chain.{IsRefutation}
 use Rattle.rel_formula.specs.Bounds.{Bounded}
 use Rattle.rel_formula.specs.Instance.{AreCells, IsScenario, Includes, IsMinimalAbove}
-use Rattle.rel_formula.proofs.Same.{same_rising}
+use Rattle.rel_formula.proofs.SameNumbers.{same_rising}
 use Rattle.swap_symmetry.specs.Swaps.{IsSettledBeside}
 use Rattle.swap_symmetry.specs.Due.{IsDue}
-use Rattle.swap_symmetry.proofs.Tried.{tried}
+use Rattle.swap_symmetry.proofs.ListSearches.{tried}
 use Rattle.translation_rules.specs.Translation.{Translated, IsSatisfiableAt}
 use Rattle.translation_rules.specs.Locals.{IsLeft, locals_of}
 use Rattle.translation_rules.proofs.Tests.{includes_or_not, cells_within, from_each}

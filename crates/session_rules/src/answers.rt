@@ -3,8 +3,8 @@ ghost use Rattle.std.specs.Prelude.{◌≡◌, IfOk};
 
 use crate::end_proof::EndProof;
 use crate::lists::{CellNumbers, Parts, Scenarios};
-use rel_formula::{NoMemory, Scenario};
-use std::alloc::Global;
+use rel_formula::Scenario;
+use std::alloc::{AllocError, Global};
 
 /// What was done until the budget was spent: the parts of the searches, and the copies of shown scenarios that they found.
 #[derive(Drop)]
@@ -16,7 +16,7 @@ pub struct WorkDone {
 
 impl WorkDone {
     /// Equal work.
-    pub fn copy(&self, alloc: Global) -> Result<WorkDone, NoMemory>
+    pub fn copy(&self, alloc: Global) -> Result<WorkDone, AllocError>
         ensures { IfOk result (λ w. w ≡ self.now) }
     {
         let parts = self.parts.copy(alloc)?;
@@ -52,7 +52,7 @@ pub enum Refusal {
 
 impl Refusal {
     /// An equal refusal.
-    pub fn copy(&self, alloc: Global) -> Result<Refusal, NoMemory>
+    pub fn copy(&self, alloc: Global) -> Result<Refusal, AllocError>
         ensures { IfOk result (λ r. r ≡ self.now) }
     {
         match self {
@@ -97,7 +97,7 @@ pub enum Reply {
 
 impl Reply {
     /// An equal reply.
-    pub fn copy(&self, alloc: Global) -> Result<Reply, NoMemory>
+    pub fn copy(&self, alloc: Global) -> Result<Reply, AllocError>
         ensures { IfOk result (λ r. r ≡ self.now) }
     {
         match self {

@@ -3,8 +3,8 @@ ghost use Rattle.std.specs.Prelude.{◌≡◌, ◌+◌, ◌≤◌, ◌^◌, IfOk
 
 use crate::lists::Scenarios;
 use refutation_check::Log;
-use rel_formula::{NoMemory, Scenario};
-use std::alloc::Global;
+use rel_formula::Scenario;
+use std::alloc::{AllocError, Global};
 use std::marker::Model;
 
 /// What a proof shows: that nothing is left to be found at a floor, or that no instance contains it.
@@ -80,7 +80,7 @@ impl EndProof {
     }
 
     /// An equal proof.
-    pub fn copy(&self, alloc: Global) -> Result<EndProof, NoMemory>
+    pub fn copy(&self, alloc: Global) -> Result<EndProof, AllocError>
         ensures { IfOk result (λ p. p ≡ self.now) }
     {
         let blocked = self.blocked.copy(alloc)?;

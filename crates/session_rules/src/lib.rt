@@ -2,7 +2,7 @@
 //! work that a search does; transcripts. The types of replies, of proofs, and of what sessions are asked for and answered.
 #![tactic(auto)]
 
-pub mod answers;
+mod answers;
 mod end_proof;
 pub mod laws;
 mod lists;

@@ -3,8 +3,8 @@ ghost use Rattle.std.specs.Prelude.{◌≡◌, IfOk};
 
 use crate::answers::Reply;
 use refutation_check::Part;
-use rel_formula::{NoMemory, Scenario};
-use std::alloc::Global;
+use rel_formula::Scenario;
+use std::alloc::{AllocError, Global};
 use std::marker::Model;
 
 /// Cells, by their numbers.
@@ -44,7 +44,7 @@ impl CellNumbers {
     }
 
     /// Equal numbers.
-    pub fn copy(&self, alloc: Global) -> Result<CellNumbers, NoMemory>
+    pub fn copy(&self, alloc: Global) -> Result<CellNumbers, AllocError>
         ensures { IfOk result (λ s. s ≡ self.now) }
     {
         let numbers = Vec::from_slice(alloc, self.numbers.as_slice())?;
@@ -89,7 +89,7 @@ impl Scenarios {
     }
 
     /// Equal scenarios.
-    pub fn copy(&self, alloc: Global) -> Result<Scenarios, NoMemory>
+    pub fn copy(&self, alloc: Global) -> Result<Scenarios, AllocError>
         ensures { IfOk result (λ s. s ≡ self.now) }
     {
         let scenarios = copies_of_scenarios(alloc, self.scenarios.as_slice())?;
@@ -97,7 +97,7 @@ impl Scenarios {
     }
 }
 
-fn copies_of_scenarios(alloc: Global, scenarios: &[Scenario]) -> Result<Vec<Scenario>, NoMemory>
+fn copies_of_scenarios(alloc: Global, scenarios: &[Scenario]) -> Result<Vec<Scenario>, AllocError>
     ensures { IfOk result (λ copies. copies.items ≡ scenarios.now) }
 {
     let mut copies = Vec::new(alloc);
@@ -145,7 +145,7 @@ impl Parts {
     }
 
     /// Equal parts.
-    pub fn copy(&self, alloc: Global) -> Result<Parts, NoMemory>
+    pub fn copy(&self, alloc: Global) -> Result<Parts, AllocError>
         ensures { IfOk result (λ s. s ≡ self.now) }
     {
         let parts = copies_of_parts(alloc, self.parts.as_slice())?;
@@ -153,7 +153,7 @@ impl Parts {
     }
 }
 
-fn copies_of_parts(alloc: Global, parts: &[Part]) -> Result<Vec<Part>, NoMemory>
+fn copies_of_parts(alloc: Global, parts: &[Part]) -> Result<Vec<Part>, AllocError>
     ensures { IfOk result (λ copies. copies.items ≡ parts.now) }
 {
     let mut copies = Vec::new(alloc);
@@ -201,7 +201,7 @@ impl Replies {
     }
 
     /// Equal replies.
-    pub fn copy(&self, alloc: Global) -> Result<Replies, NoMemory>
+    pub fn copy(&self, alloc: Global) -> Result<Replies, AllocError>
         ensures { IfOk result (λ s. s ≡ self.now) }
     {
         let replies = copies_of_replies(alloc, self.replies.as_slice())?;
@@ -209,7 +209,7 @@ impl Replies {
     }
 }
 
-fn copies_of_replies(alloc: Global, replies: &[Reply]) -> Result<Vec<Reply>, NoMemory>
+fn copies_of_replies(alloc: Global, replies: &[Reply]) -> Result<Vec<Reply>, AllocError>
     ensures { IfOk result (λ copies. copies.items ≡ replies.now) }
 {
     let mut copies = Vec::new(alloc);

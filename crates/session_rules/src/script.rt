@@ -2,9 +2,8 @@
 ghost use Rattle.std.specs.Prelude.{◌≡◌, IfOk};
 
 use crate::lists::{Replies, Scenarios};
-use rel_formula::NoMemory;
 use session_words::Commands;
-use std::alloc::Global;
+use std::alloc::{AllocError, Global};
 use tuple_core::Name;
 
 /// A session: its name, the key of its problem, its budget at the start, and its commands.
@@ -18,7 +17,7 @@ pub struct SessionScript {
 
 impl SessionScript {
     /// An equal session.
-    pub fn copy(&self, alloc: Global) -> Result<SessionScript, NoMemory>
+    pub fn copy(&self, alloc: Global) -> Result<SessionScript, AllocError>
         ensures { IfOk result (λ s. s ≡ self.now) }
     {
         let name = self.name.copy(alloc)?;
@@ -41,7 +40,7 @@ pub struct Transcript {
 
 impl Transcript {
     /// An equal transcript.
-    pub fn copy(&self, alloc: Global) -> Result<Transcript, NoMemory>
+    pub fn copy(&self, alloc: Global) -> Result<Transcript, AllocError>
         ensures { IfOk result (λ t. t ≡ self.now) }
     {
         let replies = self.replies.copy(alloc)?;

@@ -2,10 +2,9 @@
 ghost use Rattle.std.specs.Prelude.{◌≡◌, ◌≢◌, ◌⊎◌, ◌+◌, ◌-◌, ◌<◌, ◌≤◌, ◌++◌, ◌∷◌, [], List, ℕ, All, AllPairs, Contains, IfOk, MatchOption, if◌then◌else◌, slice_get, slice_index_or, Some, map, take, length, vec_len, vec_capacity};
 ghost use Rattle.session_store.specs.Numbered.{scenarios_at, is_ended};
 
-use crate::NoMemory;
 use rel_formula::Scenario;
 use session_rules::EndProof;
-use std::alloc::Global;
+use std::alloc::{AllocError, Global};
 
 /// The most copies of shown scenarios that are kept.
 pub(crate) const MOST_COPIES: usize = 1_000_000;
@@ -48,7 +47,7 @@ pub(crate) fn copies_at(
     alloc: Global,
     found: &[Found],
     floor: usize,
-) -> Result<Vec<Scenario>, NoMemory>
+) -> Result<Vec<Scenario>, AllocError>
     ensures { IfOk result (λ copies. copies.items ≡ scenarios_at floor found.now) }
 {
     let mut copies = Vec::new(alloc);
@@ -122,7 +121,7 @@ pub(crate) fn push_all(found: &mut Vec<Found>, floor: usize, scenarios: Vec<Scen
     }
 }
 
-/// Whether the floor of this number has ended.
+// Whether the floor of this number has ended.
 fn has_end(ended: &[Ended], floor: usize) -> bool
     ensures { result ≡ is_ended floor ended.now }
 {

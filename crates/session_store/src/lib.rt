@@ -6,4 +6,3 @@ mod floors;
 mod store;
 
 pub use crate::store::SessionStore;
-pub use std::alloc::AllocError as NoMemory;

@@ -3,15 +3,13 @@ ghost use Rattle.std.specs.Prelude.{◌≡◌, ◌≢◌, ◌∷◌, ◌++◌, �
 ghost use Rattle.session_rules.specs.States.{Start, top_floor, shown_here, has_ended, HasEndedWith, IsCurrent, after};
 ghost use Rattle.session_store.specs.Stored.{copies_at, copies_kept, copies_after};
 
-use crate::NoMemory;
 use crate::floors::{
     Ended, Found, copies_at as copies_of, enter, last_at, proof_at, push_all, push_end, put_first,
     top_of,
 };
 use rel_formula::Scenario;
-use session_rules::answers::Reply;
-use session_rules::{EndProof, Scenarios};
-use std::alloc::Global;
+use session_rules::{EndProof, Reply, Scenarios};
+use std::alloc::{AllocError, Global};
 use std::marker::Model;
 
 /// The state of a session, and the copies of shown scenarios that its searches found, each with its floor. Contracts see these,
@@ -46,7 +44,7 @@ impl Model for SessionStore {
 
 impl SessionStore {
     /// The store of a session at the start, with this budget.
-    pub fn new(alloc: Global, budget: u32) -> Result<SessionStore, NoMemory>
+    pub fn new(alloc: Global, budget: u32) -> Result<SessionStore, AllocError>
         ensures { IfOk result (λ s. s ≡ record { state = Start budget; copies = []; room = 0 }) }
     {
         let floors = vec![in alloc; Scenario::new(alloc)]?;
@@ -83,14 +81,14 @@ impl SessionStore {
     }
 
     /// Copies of the scenarios that were shown at the top floor, in order.
-    pub fn shown_here(&self, alloc: Global) -> Result<Vec<Scenario>, NoMemory>
+    pub fn shown_here(&self, alloc: Global) -> Result<Vec<Scenario>, AllocError>
         ensures { IfOk result (λ shown. shown.items ≡ shown_here self.now.state) }
     {
         copies_of(alloc, self.shown.as_slice(), top_of(self.above.as_slice()))
     }
 
     /// Copies of the copies that were found at the top floor, in order.
-    pub fn copies_here(&self, alloc: Global) -> Result<Vec<Scenario>, NoMemory>
+    pub fn copies_here(&self, alloc: Global) -> Result<Vec<Scenario>, AllocError>
         ensures { IfOk result (λ copies. copies.items ≡ copies_at (top_floor self.now.state) self.now) }
     {
         copies_of(alloc, self.copies.as_slice(), top_of(self.above.as_slice()))
@@ -111,7 +109,7 @@ impl SessionStore {
     }
 
     /// Makes room for a reply that was reached with so many copies, fewer than a million. The error comes only for want of memory.
-    pub fn reserve(&mut self, copies: usize) -> Result<(), NoMemory>
+    pub fn reserve(&mut self, copies: usize) -> Result<(), AllocError>
         requires { copies < 1000000 }
         ensures state { self.new.state ≡ self.old.state }
         ensures copies { self.new.copies ≡ self.old.copies }
@@ -162,7 +160,7 @@ impl SessionStore {
         }
     }
 
-    /// Keeps copies that were found at the top floor, up to a million in all.
+    // Keeps copies that were found at the top floor, up to a million in all.
     fn keep_copies(&mut self, copies: Scenarios)
         requires room { length copies < self.old.room }
         ensures state { self.new.state ≡ self.old.state }
@@ -174,7 +172,7 @@ impl SessionStore {
         self.room = 1;
     }
 
-    /// A scenario was shown at the top floor.
+    // A scenario was shown at the top floor.
     fn show(&mut self, scenario: Scenario)
         requires room { 0 < self.old.room }
         ensures state { self.new.state ≡ record self.old.state { shown = self.old.state.shown ++ record { floor = top_floor self.old.state; scenario = scenario } ∷ [] } }
@@ -185,7 +183,7 @@ impl SessionStore {
         self.room = 0;
     }
 
-    /// The top floor has ended with this proof, if it has not ended before.
+    // The top floor has ended with this proof, if it has not ended before.
     fn end(&mut self, proof: EndProof)
         requires room { 0 < self.old.room }
         ensures state { self.new.state ≡ (if has_ended (top_floor self.old.state) self.old.state then self.old.state else record self.old.state { ended = self.old.state.ended ++ record { floor = top_floor self.old.state; proof = proof } ∷ [] }) }
@@ -196,7 +194,7 @@ impl SessionStore {
         self.room = 0;
     }
 
-    /// One floor more stands on top.
+    // One floor more stands on top.
     fn go_up(&mut self, floor: Scenario)
         requires room { 0 < self.old.room }
         ensures state { self.new.state ≡ record self.old.state { above = floor ∷ self.old.state.above } }
@@ -207,7 +205,7 @@ impl SessionStore {
         self.room = 0;
     }
 
-    /// The top floor is left, if it is not the bottom.
+    // The top floor is left, if it is not the bottom.
     fn go_back(&mut self)
         ensures state { self.new.state ≡ record self.old.state { above = drop 1 self.old.state.above } }
         ensures copies { self.new.copies ≡ self.old.copies }
@@ -217,7 +215,7 @@ impl SessionStore {
         }
     }
 
-    /// Another budget.
+    // Another budget.
     fn set_budget(&mut self, budget: u32)
         ensures state { self.new.state ≡ record self.old.state { budget = budget } }
         ensures copies { self.new.copies ≡ self.old.copies }

@@ -1,9 +1,9 @@
 // Atoms as they are written.
 ghost use Rattle.std.specs.Prelude.{◌≡◌, IfOk};
 
-use std::alloc::Global;
+use std::alloc::{AllocError, Global};
 use std::marker::Model;
-use tuple_core::{Name, NoMemory};
+use tuple_core::Name;
 
 /// An atom as it is written: the name of its top-level signature, and its place there.
 #[derive(Drop)]
@@ -14,7 +14,7 @@ pub struct AtomName {
 
 impl AtomName {
     /// An equal name.
-    pub fn copy(&self, alloc: Global) -> Result<AtomName, NoMemory>
+    pub fn copy(&self, alloc: Global) -> Result<AtomName, AllocError>
         ensures { IfOk result (λ a. a ≡ self.now) }
     {
         let top = self.top.copy(alloc)?;
@@ -63,7 +63,7 @@ impl AtomNames {
     }
 
     /// Equal names.
-    pub fn copy(&self, alloc: Global) -> Result<AtomNames, NoMemory>
+    pub fn copy(&self, alloc: Global) -> Result<AtomNames, AllocError>
         ensures { IfOk result (λ s. s ≡ self.now) }
     {
         let names = copies_of(alloc, self.names.as_slice())?;
@@ -71,7 +71,7 @@ impl AtomNames {
     }
 }
 
-fn copies_of(alloc: Global, names: &[AtomName]) -> Result<Vec<AtomName>, NoMemory>
+fn copies_of(alloc: Global, names: &[AtomName]) -> Result<Vec<AtomName>, AllocError>
     ensures { IfOk result (λ copies. copies.items ≡ names.now) }
 {
     let mut copies = Vec::new(alloc);

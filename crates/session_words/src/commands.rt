@@ -2,9 +2,8 @@
 ghost use Rattle.std.specs.Prelude.{◌≡◌, ◌++◌, ◌∷◌, [], IfOk, OnOk, OnErr};
 
 use crate::steps::Step;
-use std::alloc::Global;
+use std::alloc::{AllocError, Global};
 use std::marker::Model;
-use tuple_core::NoMemory;
 
 /// A line of a session in a script: one step, or so many times the next scenario.
 #[derive(Drop)]
@@ -15,7 +14,7 @@ pub enum Command {
 
 impl Command {
     /// An equal command.
-    pub fn copy(&self, alloc: Global) -> Result<Command, NoMemory>
+    pub fn copy(&self, alloc: Global) -> Result<Command, AllocError>
         ensures { IfOk result (λ c. c ≡ self.now) }
     {
         match self {
@@ -49,7 +48,7 @@ impl Commands {
     }
 
     /// Puts a command at the end. After an error the commands are as before.
-    pub fn push(&mut self, command: Command) -> Result<(), NoMemory>
+    pub fn push(&mut self, command: Command) -> Result<(), AllocError>
         ensures ok { OnOk result (self.new ≡ self.old ++ command ∷ []) }
         ensures err { OnErr result (self.new ≡ self.old) }
     {
@@ -72,7 +71,7 @@ impl Commands {
     }
 
     /// Equal commands.
-    pub fn copy(&self, alloc: Global) -> Result<Commands, NoMemory>
+    pub fn copy(&self, alloc: Global) -> Result<Commands, AllocError>
         ensures { IfOk result (λ s. s ≡ self.now) }
     {
         let commands = copies_of(alloc, self.commands.as_slice())?;
@@ -80,7 +79,7 @@ impl Commands {
     }
 }
 
-fn copies_of(alloc: Global, commands: &[Command]) -> Result<Vec<Command>, NoMemory>
+fn copies_of(alloc: Global, commands: &[Command]) -> Result<Vec<Command>, AllocError>
     ensures { IfOk result (λ copies. copies.items ≡ commands.now) }
 {
     let mut copies = Vec::new(alloc);

@@ -2,8 +2,8 @@
 ghost use Rattle.std.specs.Prelude.{◌≡◌, IfOk};
 
 use crate::atom_names::AtomNames;
-use std::alloc::Global;
-use tuple_core::{Name, NoMemory};
+use std::alloc::{AllocError, Global};
+use tuple_core::Name;
 
 /// What a session is asked for.
 #[derive(Drop)]
@@ -24,7 +24,7 @@ pub enum Step {
 
 impl Step {
     /// An equal step.
-    pub fn copy(&self, alloc: Global) -> Result<Step, NoMemory>
+    pub fn copy(&self, alloc: Global) -> Result<Step, AllocError>
         ensures { IfOk result (λ s. s ≡ self.now) }
     {
         match self {

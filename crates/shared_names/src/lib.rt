@@ -8,4 +8,3 @@ mod tests;
 pub mod walk;
 
 pub use crate::headers::{Header, call_kind};
-pub use std::alloc::AllocError as NoMemory;

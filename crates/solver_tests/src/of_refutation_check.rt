@@ -1,3 +1,4 @@
+// The check of logs over two variables.
 ghost use Rattle.std.specs.Prelude.{◌≡◌, ◌<◌, ◌≤◌, All, IfOk, length};
 ghost use Rattle.cnf_core.specs.Literal.{HasVarsUpTo};
 

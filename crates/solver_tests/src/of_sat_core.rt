@@ -1,3 +1,4 @@
+// Searches over small formulas.
 ghost use Rattle.std.specs.Prelude.{◌≡◌, ◌≤◌, ◌<◌, All, IfOk, length};
 ghost use Rattle.cnf_core.specs.Literal.{IsClause, HasVarsUpTo};
 ghost use Rattle.refutation_check.specs.Chain.{IsAccepted};
@@ -87,7 +88,7 @@ fn answer(alloc: Global, f: &Cnf, budget: u64) -> Result<(Kind, usize), Fail>
     requires few { length f.now.clauses < 1000 }
     requires budget { budget < 100000 }
 {
-    let _vars = f.vars();
+    let _vars = f.vars(); // for the proof
     match solve(alloc, f, &Log::new(alloc), &[], budget)? {
         Answer::Found { valuation, log } if is_satisfied(f, &valuation) => Ok((
             Kind::Found,

@@ -4,7 +4,7 @@ use Rattle.std.proofs.lemmas.List.Elements.{All-push, All-contains, Contains-pus
 use Rattle.cnf_core.specs.declared.literal.Lit.{Lit}
 use Rattle.cnf_core.specs.Literal.{IsTautology, HasSameLiterals}
 use Rattle.cnf_core.specs.Valuation.{clause_value}
-use Rattle.cnf_core.proofs.Same.{clause_value-same, clause_value-tautology}
+use Rattle.cnf_core.proofs.SameLiterals.{clause_value-same, clause_value-tautology}
 use Rattle.translation_rules.proofs.Tests.{front}
 use Rattle.swap_clauses.specs.Comparison.{AddsClause}
 

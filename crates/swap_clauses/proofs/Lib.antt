@@ -2,5 +2,5 @@ pub mod Added
 pub mod Cases
 pub mod SameCells
 pub mod OneCell
-pub mod Links
+pub mod CellChains
 pub mod Pairs

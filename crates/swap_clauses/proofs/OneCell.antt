@@ -10,7 +10,7 @@ use Rattle.rel_formula.specs.Bounds.{Bounded, IsProblem, cell_of, cells_of}
 use Rattle.rel_formula.specs.Renaming.{IsCellImage}
 use Rattle.rel_formula.proofs.Images.{map_undone, cell_parts}
 use Rattle.rel_formula.proofs.Lists.{some_below}
-use Rattle.rel_formula.proofs.Open.{cell_once}
+use Rattle.rel_formula.proofs.OpenCells.{cell_once}
 use Rattle.rel_formula.proofs.SwapLaws.{swap_back}
 use Rattle.swap_symmetry.specs.Swaps.{IsTakenInto}
 use Rattle.swap_symmetry.proofs.SwapLemmas.{taken_at, taken_nowhere}

@@ -4,11 +4,10 @@ ghost use Rattle.refutation_check.specs.SearchLog.{IsVarOf};
 ghost use Rattle.rel_formula.specs.Bounds.{cells_of};
 ghost use Rattle.swap_clauses.specs.Chain.{ComparesCell, ForbidsSwap};
 
-use crate::NoMemory;
 use crate::comparison::{add_clause, add_comparison, true_at};
 use cnf_core::Clause;
 use rel_formula::Problem;
-use std::alloc::Global;
+use std::alloc::{AllocError, Global};
 use tuple_core::Atom;
 
 /// Adds that the swap makes the chosen cells no earlier, with fresh variables from this one on, and gives the last of them.
@@ -19,7 +18,7 @@ pub(crate) fn add_swap(
     first_variable: u32,
     first: Atom,
     second: Atom,
-) -> Result<u32, NoMemory>
+) -> Result<u32, AllocError>
     requires above { length (cells_of problem.now) < first_variable }
     requires room { first_variable + length (cells_of problem.now) + 1 < 2 ^ 31 }
     requires fresh { (var : ℕ) → IsVarOf clauses.old.items var → var < first_variable }
@@ -43,14 +42,14 @@ fn add_cell(
     cell: u32,
     first: Atom,
     second: Atom,
-) -> Result<u32, NoMemory>
+) -> Result<u32, AllocError>
     requires cell { cell < length (cells_of problem.now) }
     requires above { length (cells_of problem.now) < so_far }
     requires room { so_far + 1 < 2 ^ 31 }
     requires fresh { (var : ℕ) → IsVarOf clauses.old.items var → var ≤ so_far }
     ensures { IfOk result (λ next. ComparesCell problem.now first second cell so_far next clauses.old.items clauses.new.items) }
 {
-    let _ = problem.relations();
+    let _ = problem.relations(); // for the proof
     let image = problem.swapped(cell, first, second);
     if !comes_later(image, cell) {
         return Ok(so_far);

@@ -4,16 +4,15 @@ ghost use Rattle.cnf_core.specs.Literal.{IsVariable};
 ghost use Rattle.translation_rules.specs.Translation.{var_of};
 ghost use Rattle.swap_clauses.specs.Comparison.{AddsClause, Compares};
 
-use crate::NoMemory;
 use cnf_core::{Clause, Lit};
-use std::alloc::Global;
+use std::alloc::{AllocError, Global};
 
 /// Adds the clause of these literals, where it isn't true of itself.
 pub(crate) fn add_clause(
     alloc: Global,
     clauses: &mut Vec<Clause>,
     lits: &[Lit],
-) -> Result<(), NoMemory>
+) -> Result<(), AllocError>
     requires { All (λ l. IsVariable l.var) lits.now }
     ensures { OnOk result (AddsClause lits.now clauses.old.items clauses.new.items) }
 {
@@ -31,7 +30,7 @@ pub(crate) fn add_comparison(
     so_far: u32,
     cell: u32,
     image: Option<u32>,
-) -> Result<(), NoMemory>
+) -> Result<(), AllocError>
     requires so_far { 1 ≤ so_far }
     requires room { so_far + 1 < 2 ^ 31 }
     requires cell { cell + 1 < 2 ^ 31 }

@@ -6,4 +6,3 @@ mod comparison;
 mod swaps;
 
 pub use crate::swaps::{swap_clauses, swap_clauses_of};
-pub use std::alloc::AllocError as NoMemory;

@@ -6,11 +6,10 @@ ghost use Rattle.rel_formula.specs.Bounds.{cells_of};
 ghost use Rattle.swap_symmetry.specs.Swaps.{SwapIsEarlier, NoSwapIsEarlier};
 ghost use Rattle.translation_rules.specs.Translation.{IsSatisfiableAt, IsCellVar};
 
-use crate::NoMemory;
 use crate::cells::add_swap;
 use cnf_core::{Clause, Cnf};
 use rel_formula::Problem;
-use std::alloc::Global;
+use std::alloc::{AllocError, Global};
 use tuple_core::Atom;
 
 /// The clauses which say that the swap of two atoms makes no scenario earlier.
@@ -23,7 +22,7 @@ pub fn swap_clauses_of(
     first_variable: u32,
     first: Atom,
     second: Atom,
-) -> Result<Cnf, NoMemory>
+) -> Result<Cnf, AllocError>
     requires above { length (cells_of problem.now) < first_variable }
     requires room { first_variable < 2 ^ 30 }
     ensures says { IfOk result (λ f. (s : List ℕ) → (¬ SwapIsEarlier problem.now first second (Contains s)) ↔ IsSatisfiableAt problem.now s f.clauses) }
@@ -31,7 +30,7 @@ pub fn swap_clauses_of(
     ensures few_variables { IfOk result (λ f. (first_variable ≤ f.vars) × (f.vars ≤ first_variable + length (cells_of problem.now))) }
     ensures few_clauses { IfOk result (λ f. length f.clauses ≤ 3 * length (cells_of problem.now) + 1) }
 {
-    let _ = problem.cells();
+    let _ = problem.cells(); // for the proof
     let mut clauses = Vec::new(alloc);
     let last = add_swap(alloc, &mut clauses, problem, first_variable, first, second)?;
     Ok(formula_of(alloc, last, clauses)?)
@@ -46,7 +45,7 @@ pub fn swap_clauses(
     problem: &Problem,
     first_variable: u32,
     pairs: &[(Atom, Atom)],
-) -> Result<Cnf, NoMemory>
+) -> Result<Cnf, AllocError>
     requires above { length (cells_of problem.now) < first_variable }
     requires room { first_variable < 2 ^ 30 }
     requires pairs { length pairs.now ≤ 64 }
@@ -55,7 +54,7 @@ pub fn swap_clauses(
     ensures few_variables { IfOk result (λ f. (first_variable ≤ f.vars + 1) × (f.vars < first_variable + length pairs.now * (length (cells_of problem.now) + 1))) }
     ensures few_clauses { IfOk result (λ f. length f.clauses ≤ length pairs.now * (3 * length (cells_of problem.now) + 1)) }
 {
-    let _ = problem.cells();
+    let _ = problem.cells(); // for the proof
     let mut clauses = Vec::new(alloc);
     let mut next = first_variable;
     for pair in pairs {
@@ -65,7 +64,7 @@ pub fn swap_clauses(
 }
 
 // The formula of these clauses.
-fn formula_of(alloc: Global, vars: u32, clauses: Vec<Clause>) -> Result<Cnf, NoMemory>
+fn formula_of(alloc: Global, vars: u32, clauses: Vec<Clause>) -> Result<Cnf, AllocError>
     requires vars { vars < 2 ^ 31 }
     requires within { All (HasVarsUpTo vars) clauses.items }
     requires few { length clauses.items < 2 ^ 30 }

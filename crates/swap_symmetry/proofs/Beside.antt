@@ -8,7 +8,7 @@ use Rattle.rel_formula.specs.Instance.{AreCells, IsScenario, HasCell, StandsIn, 
 use Rattle.rel_formula.specs.Renaming.{IsRenaming, IsImage, IsRenamingBeside, IsSymmetric}
 use Rattle.rel_formula.proofs.Images.{map_undone}
 use Rattle.rel_formula.proofs.Lists.{get-Some}
-use Rattle.rel_formula.proofs.Open.{cons_first, cons_later, cell_once}
+use Rattle.rel_formula.proofs.OpenCells.{cons_first, cons_later, cell_once}
 use Rattle.rel_formula.proofs.Renamed.{minimal_moved}
 use Rattle.rel_formula.proofs.SwapLaws.{laws_of, renames}
 use Rattle.swap_symmetry.specs.Swaps.{IsFreeOf}

@@ -12,11 +12,11 @@ use Rattle.rel_formula.proofs.SwapLaws.{laws_of, renames}
 use Rattle.swap_symmetry.specs.Order.{IsEarlier}
 use Rattle.swap_symmetry.specs.Swaps.{SwapIsEarlier, IsFreeOf, IsSettledBeside}
 use Rattle.swap_symmetry.specs.Due.{IsDue, HasDueRenaming, HasDueRenamingBeside}
-use Rattle.swap_symmetry.proofs.Compared.{compared, only_one}
+use Rattle.swap_symmetry.proofs.ScenarioOrders.{compared, only_one}
 use Rattle.swap_symmetry.proofs.SwapLemmas.{earlier_from}
 use Rattle.swap_symmetry.proofs.Beside.{beside_itself, beside_then, beside_swap, minimal_beside}
 use Rattle.swap_symmetry.proofs.Stands.{free_or_not}
-use Rattle.swap_symmetry.proofs.Tried.{same_or_not, tried_atoms}
+use Rattle.swap_symmetry.proofs.ListSearches.{same_or_not, tried_atoms}
 use Rattle.swap_symmetry.proofs.Weights.{descend}
 
 -- some renaming that keeps the floor's atoms gives an earlier scenario

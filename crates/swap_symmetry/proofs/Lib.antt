@@ -1,10 +1,10 @@
-pub mod Compared
-pub mod First
+pub mod ScenarioOrders
+pub mod FirstDifferences
 pub mod Adjacent
 pub mod Listed
 pub mod SwapLemmas
 pub mod Weights
-pub mod Tried
+pub mod ListSearches
 pub mod Stands
 pub mod Beside
 pub mod Descent

@@ -9,7 +9,7 @@ use Rattle.rel_formula.specs.Bounds.{Bounded, cell_of, cells_of}
 use Rattle.rel_formula.specs.Instance.{StandsIn}
 use Rattle.rel_formula.proofs.Lists.{get-Some, some_at, some_below}
 use Rattle.swap_symmetry.specs.Swaps.{IsFreeOf}
-use Rattle.swap_symmetry.proofs.Tried.{tried}
+use Rattle.swap_symmetry.proofs.ListSearches.{tried}
 
 -- two atoms are one or not
 one_or_not : (a b : Atom) → (a ≡ b) ⊎ (a ≡ b → ⊥)

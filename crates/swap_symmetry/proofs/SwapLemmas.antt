@@ -7,7 +7,7 @@ use Rattle.rel_formula.specs.Bounds.{Bounded, IsProblem, cell_of, cells_of}
 use Rattle.rel_formula.specs.Instance.{AreCells, IsScenario, HasCell, StandsIn}
 use Rattle.rel_formula.specs.Renaming.{IsCellImage, IsImage, IsSymmetric}
 use Rattle.rel_formula.proofs.Lists.{get-Some}
-use Rattle.rel_formula.proofs.Open.{cell_once}
+use Rattle.rel_formula.proofs.OpenCells.{cell_once}
 use Rattle.rel_formula.proofs.Images.{map_undone, has_image}
 use Rattle.rel_formula.proofs.SwapLaws.{Laws, laws_of, renames}
 use Rattle.swap_symmetry.specs.Order.{IsEarlier}

@@ -2,11 +2,11 @@
 use Rattle.std.proofs.Common.{◌≡◌, ℕ, zero, suc, ◌+◌, ◌-◌, ◌<◌, ◌≤◌, inl, inr, List, [], ◌∷◌, Contains, All, sym, ap, subst, arith}
 use Rattle.std.proofs.lemmas.Bool.{cases_lt}
 use Rattle.std.proofs.lemmas.List.Elements.{All-cons, All-head, All-tail, All-weaker}
-use Rattle.rel_formula.proofs.Rising.{Rises}
+use Rattle.rel_formula.proofs.RisingNumbers.{Rises}
 use Rattle.rel_formula.proofs.Lists.{pairs_head, pairs_tail}
-use Rattle.rel_formula.proofs.Open.{cons_cases, cons_first, cons_later}
+use Rattle.rel_formula.proofs.OpenCells.{cons_cases, cons_first, cons_later}
 use Rattle.swap_symmetry.specs.Order.{IsEarlier}
-use Rattle.swap_symmetry.proofs.Compared.{least, not_again}
+use Rattle.swap_symmetry.proofs.ScenarioOrders.{least, not_again}
 
 -- each number is below the count
 abbrev pub AllBelow : ℕ → List ℕ → Type 0

@@ -44,8 +44,8 @@ fn settle_without(problem: &Problem, floor: &[u32], scenario: &mut Scenario)
     ensures above { Includes scenario.old floor.now → Includes scenario.new floor.now }
     ensures minimal { IsScenario problem.now floor.now → IsMinimalAbove problem.now floor.now scenario.old → IsMinimalAbove problem.now floor.now scenario.new }
 {
-    let _ = problem.relations();
-    let _ = scenario.numbers();
+    let _ = problem.relations(); // for the proof
+    let _ = scenario.numbers(); // for the proof
     'swaps: while swap_once(problem, floor, scenario) {}
 }
 

@@ -4,7 +4,7 @@ use Rattle.std.proofs.Math.Seq.{take-suc}
 use Rattle.tuple_core.specs.declared.atom.Atom.{Atom}
 use Rattle.cnf_core.specs.Formula.{Formula}
 use Rattle.rel_formula.specs.Bounds.{Bounded, cells_of}
-use Rattle.rel_formula.proofs.Open.{cons_cases}
+use Rattle.rel_formula.proofs.OpenCells.{cons_cases}
 use Rattle.translation_rules.specs.Translation.{SwapClauses}
 use Rattle.translation.specs.Numbered.{swaps_of, pair_of, IsNext, AreNumbered}
 

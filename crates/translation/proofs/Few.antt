@@ -10,7 +10,7 @@ use Rattle.tuple_core.specs.Order.{atom_cmp}
 use Rattle.rel_formula.specs.Bounds.{Bounded, IsAtomOf, HasFewAtoms}
 use Rattle.rel_formula.proofs.Counts.{no_longer}
 use Rattle.rel_formula.proofs.Lists.{pairs_map}
-use Rattle.rel_formula.proofs.Open.{map_has}
+use Rattle.rel_formula.proofs.OpenCells.{map_has}
 use Rattle.translation.specs.Kept.{AreAllSwaps}
 
 number_not_less : (m : ℕ) → nat_cmp m m ≡ Less → ⊥

@@ -2,4 +2,4 @@ pub mod Chains
 pub mod Together
 pub mod Instances
 pub mod Few
-pub mod Whole
+pub mod ProblemClauses

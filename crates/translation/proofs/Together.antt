@@ -9,7 +9,7 @@ use Rattle.cnf_core.specs.declared.literal.Lit.{Lit}
 use Rattle.cnf_core.specs.Valuation.{clause_value, Satisfies}
 use Rattle.refutation_check.specs.SearchLog.{IsVarOf}
 use Rattle.rel_formula.specs.Bounds.{Bounded, cells_of}
-use Rattle.rel_formula.proofs.Open.{cons_cases, cons_first, cons_later, filter_has}
+use Rattle.rel_formula.proofs.OpenCells.{cons_cases, cons_first, cons_later, filter_has}
 use Rattle.rel_formula.proofs.Lists.{pairs_append}
 use Rattle.swap_symmetry.specs.Swaps.{AreNeighbours, SwapIsEarlier, NoSwapIsEarlier}
 use Rattle.translation_rules.specs.Free.{IsPicked}

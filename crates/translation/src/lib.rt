@@ -5,4 +5,3 @@ mod swaps;
 mod translation;
 
 pub use crate::translation::Translation;
-pub use std::alloc::AllocError as NoMemory;

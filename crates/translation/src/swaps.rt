@@ -3,10 +3,9 @@ ghost use Rattle.std.specs.Prelude.{◌≡◌, ◌<◌, ◌≤◌, ◌^◌, leng
 ghost use Rattle.rel_formula.specs.Bounds.{cells_of};
 ghost use Rattle.translation.specs.Numbered.{swaps_of, AreNumbered};
 
-use crate::NoMemory;
 use cnf_core::Cnf;
 use rel_formula::Problem;
-use std::alloc::Global;
+use std::alloc::{AllocError, Global};
 use swap_clauses::swap_clauses_of;
 use tuple_core::Atom;
 
@@ -16,14 +15,14 @@ pub(crate) fn clauses_of_pairs(
     problem: &Problem,
     last: u32,
     pairs: &[(Atom, Atom)],
-) -> Result<Vec<Cnf>, NoMemory>
+) -> Result<Vec<Cnf>, AllocError>
     requires above { length (cells_of problem.now) ≤ last }
     requires room { last < 2 ^ 29 }
     requires pairs { length pairs.now ≤ 64 }
     ensures count { IfOk result (λ cnfs. length cnfs.items ≡ length pairs.now) }
     ensures numbered { IfOk result (λ cnfs. AreNumbered problem.now last (swaps_of pairs.now cnfs.items)) }
 {
-    let _ = problem.cells();
+    let _ = problem.cells(); // for the proof
     let mut cnfs = Vec::new(alloc);
     let mut behind = last;
     for pair in pairs {

@@ -7,13 +7,12 @@ ghost use Rattle.translation_rules.specs.Translation.{SwapClauses};
 ghost use Rattle.translation.specs.Numbered.{pair_of};
 ghost use Rattle.translation.specs.Kept.{IsTranslation};
 
-use crate::NoMemory;
 use crate::swaps::clauses_of_pairs;
 use circuit_cnf::clauses_of;
 use cnf_core::Cnf;
 use rel_formula::Problem;
 use rel_translate::circuit_of;
-use std::alloc::Global;
+use std::alloc::{AllocError, Global};
 use std::marker::Model;
 use swap_symmetry::neighbours;
 use tuple_core::Atom;
@@ -50,7 +49,7 @@ impl Model for Translation {
 impl Translation {
     /// Translates a symmetric problem that has at most 64 atoms, top-level signatures with disjoint upper sets, and at most
     /// 262,144 terms. The error comes only for want of memory.
-    pub fn build(alloc: Global, problem: Problem) -> Result<Translation, NoMemory>
+    pub fn build(alloc: Global, problem: Problem) -> Result<Translation, AllocError>
         requires translatable { IsTranslatable problem }
         requires symmetric { IsSymmetric problem }
         ensures { IfOk result (λ t. t.problem ≡ problem) }

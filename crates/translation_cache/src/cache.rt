@@ -2,8 +2,7 @@
 ghost use Rattle.std.specs.Prelude.{◌≡◌, ◌<◌, Some, None, IfOk, OnOk, OnErr, length, replicate, slice_index_or, slice_set};
 ghost use Rattle.translation_cache.specs.Published.{shown, first_of};
 
-use crate::NoMemory;
-use std::alloc::Global;
+use std::alloc::{AllocError, Global};
 use std::marker::Model;
 use std::sync::Arc;
 use translation::Translation;
@@ -31,19 +30,19 @@ impl Model for Cache {
 
 impl Cache {
     /// Nothing published yet, for so many keys.
-    pub fn new(alloc: Global, keys: u32) -> Result<Cache, NoMemory>
+    pub fn new(alloc: Global, keys: u32) -> Result<Cache, AllocError>
         ensures { IfOk result (λ c. c ≡ replicate keys None) }
     {
         let mut kept = Vec::with_capacity(alloc, keys as usize)?;
         for key in 0..keys {
-            let _ = key;
+            let _ = key; // for the proof
             kept.push(None)?;
         }
         Ok(Cache { kept })
     }
 
     /// The key's translation, or none where nothing was published for it. The key is below the number of keys.
-    pub fn find(&self, key: u32) -> Result<Option<Arc<Translation>>, NoMemory>
+    pub fn find(&self, key: u32) -> Result<Option<Arc<Translation>>, AllocError>
         requires { key < length self.now }
         ensures { IfOk result (λ found. shown found ≡ slice_index_or self.now key None) }
     {
@@ -55,7 +54,7 @@ impl Cache {
 
     /// Keeps the translation for the key, which is below the number of keys, where nothing was published for it before.
     /// Answers the one that is kept. After an error the cache is as before.
-    pub fn publish(&mut self, key: u32, t: Arc<Translation>) -> Result<Arc<Translation>, NoMemory>
+    pub fn publish(&mut self, key: u32, t: Arc<Translation>) -> Result<Arc<Translation>, AllocError>
         requires { key < length self.old }
         ensures first { IfOk result (λ kept. kept.value ≡ first_of self.old key t.value) }
         ensures kept { OnOk result (self.new ≡ slice_set self.old key (Some (first_of self.old key t.value))) }

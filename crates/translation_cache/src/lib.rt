@@ -4,4 +4,3 @@
 mod cache;
 
 pub use crate::cache::Cache;
-pub use std::alloc::AllocError as NoMemory;

@@ -10,7 +10,7 @@ use Rattle.cnf_core.specs.Valuation.{clause_value, Satisfies}
 use Rattle.refutation_check.specs.SearchLog.{IsVarOf}
 use Rattle.rel_formula.specs.Bounds.{Bounded}
 use Rattle.rel_formula.specs.Instance.{IsInstance}
-use Rattle.rel_formula.proofs.Open.{cons_first, cons_later, filter_has}
+use Rattle.rel_formula.proofs.OpenCells.{cons_first, cons_later, filter_has}
 use Rattle.swap_symmetry.specs.Swaps.{NoSwapIsEarlier}
 use Rattle.translation_rules.specs.Free.{IsPicked}
 use Rattle.translation_rules.specs.Translation.{SwapClauses, Translated, HasCellsOf, IsSatisfiableAt, var_of, IsCellVar, AreApart, StandsFor, clauses_of_swaps}

@@ -1,4 +1,4 @@
 pub mod Tests
 mod FreeLemmas
 pub mod Joining
-mod Said
+mod LocalClauseLemmas

@@ -82,7 +82,8 @@ module _ (xs : List (List Atom)) (x : List Atom) (i : ℕ) (up : IsAscending xs)
         ]
       ]
 
-pub insert_contains : (xs : List (List Atom)) (i : ℕ) (x t : List Atom) → Contains (insert xs i x) t ↔ (Contains xs t ⊎ (t ≡ x))
+-- what a list contains after one more
+pub insert_contains : {X : Type 0} (xs : List X) (i : ℕ) (x t : X) → Contains (insert xs i x) t ↔ (Contains xs t ⊎ (t ≡ x))
 insert_contains xs i x t =
     let moved = IsPermutation-insert xs i x in (
       λ c. elim (Contains-append_cases (x ∷ []) xs t (Contains-permutation (insert xs i x) (x ∷ xs) t (IsPermutation-sym (x ∷ xs) (insert xs i x) moved) c)) [

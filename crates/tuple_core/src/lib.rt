@@ -11,4 +11,3 @@ pub use crate::atom::Atom;
 pub use crate::name::Name;
 pub use crate::tuple::Tuple;
 pub use crate::tuple_set::TupleSet;
-pub use std::alloc::AllocError as NoMemory;

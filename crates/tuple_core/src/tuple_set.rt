@@ -205,7 +205,7 @@ impl TupleSet {
         requires { self.now.arity ≡ 2 }
         ensures { IfOk result (λ v. IsSetOf v 2 (Closed (Contains self.now.rows))) }
     {
-        let _ = self.rows();
+        let _ = self.rows(); // for the proof
         let mut walks = self.copy(alloc)?;
         loop {
             let before = walks.len();

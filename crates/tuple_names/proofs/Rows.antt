@@ -10,7 +10,7 @@ use Rattle.rel_formula.specs.declared.problem.Relation.{Relation}
 use Rattle.rel_formula.specs.declared.problem.Cell.{Cell}
 use Rattle.rel_formula.specs.Bounds.{Bounded, IsProblem, IsAtomOf, relation_at, cell_of, cells_of}
 use Rattle.rel_formula.proofs.Cells.{any_row}
-use Rattle.rel_formula.proofs.Open.{open_cell}
+use Rattle.rel_formula.proofs.OpenCells.{open_cell}
 use Rattle.session_words.specs.declared.atom_names.AtomName.{AtomName}
 use Rattle.session_rules.specs.Naming.{NamesTuple}
 

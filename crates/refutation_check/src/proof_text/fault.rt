@@ -1,8 +1,7 @@
 // Why bytes are no proof text.
 ghost use Rattle.std.specs.Prelude.{◌≡◌};
 
-use cnf_core::NoMemory;
-use std::alloc::AllocFailed;
+use std::alloc::{AllocError, AllocFailed};
 use thiserror::Error;
 
 /// Why bytes are no proof text: there are too many, or it is the first fault of the first line that has one. Lines are
@@ -26,12 +25,12 @@ pub enum ProofFault {
     Memory,
 }
 
-impl From<NoMemory> for ProofFault {
+impl From<AllocError> for ProofFault {
     ghost use Rattle.refutation_check.specs.declared.proof_text.fault.ProofFault.TheVariants.{Memory};
 
     ghost from_gives = { λ _ fault. fault ≡ Memory };
 
-    fn from(_: NoMemory) -> Self {
+    fn from(_: AllocError) -> Self {
         ProofFault::Memory
     }
 }

@@ -4,8 +4,9 @@ ghost use Rattle.refutation_check.specs.declared.proof_text.word.Word.TheVariant
 ghost use Rattle.refutation_check.specs.ProofText.{words_in, IsLiteral, IsNumber};
 ghost use Rattle.refutation_check.specs.Scanned.{literal_in, number_in, read_literal, read_number, IsReadTo, HasNoFront, IsForm};
 
-use super::word::{MOST, Word, next_word};
-use cnf_core::{Lit, NoMemory};
+use crate::proof_text::word::{MOST, Word, next_word};
+use cnf_core::Lit;
+use std::alloc::AllocError;
 
 /// Which form a line has.
 #[derive(Clone, Copy, Debug, PartialEq, Eq)]
@@ -57,7 +58,7 @@ fn behind_end<'a>(word: Word, behind: &'a [u8]) -> Option<&'a [u8]>
 }
 
 // Reads literals to their `0`, puts them at the end, and gives what stands behind; none where another word comes first.
-fn literals<'a>(line: &'a [u8], into: &mut Vec<Lit>) -> Result<Option<&'a [u8]>, NoMemory>
+fn literals<'a>(line: &'a [u8], into: &mut Vec<Lit>) -> Result<Option<&'a [u8]>, AllocError>
     ensures none { IfOk result (λ found. IfNone found (HasNoFront IsLiteral line.now)) }
     ensures some { IfOk result (λ found. IfSome found (λ rest. IsReadTo IsLiteral read_literal line.now into.old.items into.new.items rest.now)) }
 {
@@ -73,7 +74,7 @@ fn literals<'a>(line: &'a [u8], into: &mut Vec<Lit>) -> Result<Option<&'a [u8]>,
 }
 
 // Reads hints to their `0`, puts them at the end, and gives what stands behind; none where another word comes first.
-fn hints<'a>(line: &'a [u8], into: &mut Vec<u32>) -> Result<Option<&'a [u8]>, NoMemory>
+fn hints<'a>(line: &'a [u8], into: &mut Vec<u32>) -> Result<Option<&'a [u8]>, AllocError>
     ensures none { IfOk result (λ found. IfNone found (HasNoFront IsNumber line.now)) }
     ensures some { IfOk result (λ found. IfSome found (λ rest. IsReadTo IsNumber read_number line.now into.old.items into.new.items rest.now)) }
 {
@@ -96,7 +97,7 @@ fn is_blank(line: &[u8]) -> bool
 }
 
 // The form of a line that begins with `c`, from behind that word.
-fn clause_form(rest: &[u8], lits: &mut Vec<Lit>) -> Result<Form, NoMemory>
+fn clause_form(rest: &[u8], lits: &mut Vec<Lit>) -> Result<Form, AllocError>
     requires { lits.old.items ≡ [] }
     ensures { IfOk result (λ form. IsForm (codes "c" ∷ words_in rest.now) form lits.new.items []) }
 {
@@ -107,7 +108,7 @@ fn clause_form(rest: &[u8], lits: &mut Vec<Lit>) -> Result<Form, NoMemory>
 }
 
 // The form of a line that begins with `s`, from behind that word.
-fn step_form(rest: &[u8], lits: &mut Vec<Lit>, numbers: &mut Vec<u32>) -> Result<Form, NoMemory>
+fn step_form(rest: &[u8], lits: &mut Vec<Lit>, numbers: &mut Vec<u32>) -> Result<Form, AllocError>
     requires lits { lits.old.items ≡ [] }
     requires numbers { numbers.old.items ≡ [] }
     ensures { IfOk result (λ form. IsForm (codes "s" ∷ words_in rest.now) form lits.new.items numbers.new.items) }
@@ -122,7 +123,7 @@ fn step_form(rest: &[u8], lits: &mut Vec<Lit>, numbers: &mut Vec<u32>) -> Result
 }
 
 /// The form of a line, with its literals and hints, which are put into empty lists.
-pub fn form_of(line: &[u8], lits: &mut Vec<Lit>, numbers: &mut Vec<u32>) -> Result<Form, NoMemory>
+pub fn form_of(line: &[u8], lits: &mut Vec<Lit>, numbers: &mut Vec<u32>) -> Result<Form, AllocError>
     requires lits { lits.old.items ≡ [] }
     requires numbers { numbers.old.items ≡ [] }
     ensures { IfOk result (λ form. IsForm (words_in line.now) form lits.new.items numbers.new.items) }

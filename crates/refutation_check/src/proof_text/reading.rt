@@ -11,11 +11,11 @@ ghost use Rattle.refutation_check.specs.Scanned.{is_in_line};
 ghost use Rattle.refutation_check.specs.WrittenProof.{HasHintsInRange};
 ghost use Rattle.refutation_check.specs.Progress.{progress_of, IsNumberFault, IsReadAs, AddsClause, AddsStep, IsClauseFault, AddsLine, IsLineFault, IsProgress};
 
-use super::fault::ProofFault;
-use super::line::{Form, are_small, form_of};
 use crate::log::{Hints, Log, Step};
-use cnf_core::{Clause, Cnf, Lit, NoMemory};
-use std::alloc::Global;
+use crate::proof_text::fault::ProofFault;
+use crate::proof_text::line::{Form, are_small, form_of};
+use cnf_core::{Clause, Cnf, Lit};
+use std::alloc::{AllocError, Global};
 
 /// At most so many bytes are a proof text.
 pub const MOST_BYTES: usize = 268_435_456;
@@ -180,7 +180,7 @@ fn read_lines(alloc: Global, bytes: &[u8]) -> Result<Reading, ProofFault>
 }
 
 // The formula of these clauses.
-fn formula_of(alloc: Global, vars: u32, clauses: Vec<Clause>) -> Result<Cnf, NoMemory>
+fn formula_of(alloc: Global, vars: u32, clauses: Vec<Clause>) -> Result<Cnf, AllocError>
     requires vars { vars < 2 ^ 31 }
     requires within { All (HasVarsUpTo vars) clauses.items }
     requires few { length clauses.items < 2 ^ 30 }

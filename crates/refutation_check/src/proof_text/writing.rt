@@ -6,11 +6,11 @@ ghost use Rattle.refutation_check.specs.ProofText.{IsProofText, largest_in};
 ghost use Rattle.refutation_check.specs.WrittenProof.{number_text, literal_text, clause_text, step_text, proof_text, HasHintsInRange};
 
 use crate::log::{Log, Step};
-use cnf_core::{Clause, Cnf, Lit, NoMemory};
+use cnf_core::{Clause, Cnf, Lit};
 use itoa::Buffer;
-use std::alloc::Global;
+use std::alloc::{AllocError, Global};
 
-fn push_number(out: &mut Vec<u8>, number: u32) -> Result<(), NoMemory>
+fn push_number(out: &mut Vec<u8>, number: u32) -> Result<(), AllocError>
     ensures { OnOk result (out.new.items ≡ out.old.items ++ number_text number) }
 {
     let mut buffer = Buffer::new();
@@ -19,7 +19,7 @@ fn push_number(out: &mut Vec<u8>, number: u32) -> Result<(), NoMemory>
     Ok(())
 }
 
-fn push_literal(out: &mut Vec<u8>, l: Lit) -> Result<(), NoMemory>
+fn push_literal(out: &mut Vec<u8>, l: Lit) -> Result<(), AllocError>
     ensures { OnOk result (out.new.items ≡ out.old.items ++ literal_text l) }
 {
     if l.positive {
@@ -29,7 +29,7 @@ fn push_literal(out: &mut Vec<u8>, l: Lit) -> Result<(), NoMemory>
     push_number(out, l.var)
 }
 
-fn push_literals(out: &mut Vec<u8>, lits: &[Lit]) -> Result<(), NoMemory>
+fn push_literals(out: &mut Vec<u8>, lits: &[Lit]) -> Result<(), AllocError>
     ensures { OnOk result (out.new.items ≡ out.old.items ++ flat_map literal_text lits.now) }
 {
     let mut rest = lits;
@@ -40,7 +40,7 @@ fn push_literals(out: &mut Vec<u8>, lits: &[Lit]) -> Result<(), NoMemory>
     Ok(())
 }
 
-fn push_hints(out: &mut Vec<u8>, hints: &[u32]) -> Result<(), NoMemory>
+fn push_hints(out: &mut Vec<u8>, hints: &[u32]) -> Result<(), AllocError>
     ensures { OnOk result (out.new.items ≡ out.old.items ++ flat_map number_text hints.now) }
 {
     let mut rest = hints;
@@ -51,7 +51,7 @@ fn push_hints(out: &mut Vec<u8>, hints: &[u32]) -> Result<(), NoMemory>
     Ok(())
 }
 
-fn push_clause(out: &mut Vec<u8>, clause: &Clause) -> Result<(), NoMemory>
+fn push_clause(out: &mut Vec<u8>, clause: &Clause) -> Result<(), AllocError>
     ensures { OnOk result (out.new.items ≡ out.old.items ++ clause_text clause.now) }
 {
     out.extend_from_slice(b"c ")?;
@@ -60,7 +60,7 @@ fn push_clause(out: &mut Vec<u8>, clause: &Clause) -> Result<(), NoMemory>
     Ok(())
 }
 
-fn push_step(out: &mut Vec<u8>, step: &Step) -> Result<(), NoMemory>
+fn push_step(out: &mut Vec<u8>, step: &Step) -> Result<(), AllocError>
     ensures { OnOk result (out.new.items ≡ out.old.items ++ step_text step.now) }
 {
     out.extend_from_slice(b"s ")?;
@@ -71,7 +71,7 @@ fn push_step(out: &mut Vec<u8>, step: &Step) -> Result<(), NoMemory>
     Ok(())
 }
 
-fn push_clauses(out: &mut Vec<u8>, f: &Cnf) -> Result<(), NoMemory>
+fn push_clauses(out: &mut Vec<u8>, f: &Cnf) -> Result<(), AllocError>
     ensures { OnOk result (out.new.items ≡ out.old.items ++ flat_map clause_text f.now.clauses) }
 {
     for number in 0..f.len() {
@@ -80,7 +80,7 @@ fn push_clauses(out: &mut Vec<u8>, f: &Cnf) -> Result<(), NoMemory>
     Ok(())
 }
 
-fn push_steps(out: &mut Vec<u8>, steps: &[Step]) -> Result<(), NoMemory>
+fn push_steps(out: &mut Vec<u8>, steps: &[Step]) -> Result<(), AllocError>
     ensures { OnOk result (out.new.items ≡ out.old.items ++ flat_map step_text steps.now) }
 {
     let mut rest = steps;
@@ -94,13 +94,13 @@ fn push_steps(out: &mut Vec<u8>, steps: &[Step]) -> Result<(), NoMemory>
 /// Writes a formula and a log as a proof text: the literals in rising order of variables, one space between words, no
 /// empty line. Each hint is from 1 to 2,147,483,647. Within the limit of bytes the text says the same clauses and steps;
 /// its number of variables is the largest in them, or 0.
-pub fn write_proof(alloc: Global, f: &Cnf, log: &Log) -> Result<Vec<u8>, NoMemory>
+pub fn write_proof(alloc: Global, f: &Cnf, log: &Log) -> Result<Vec<u8>, AllocError>
     requires { HasHintsInRange log.now }
     ensures written { IfOk result (λ text. text.items ≡ proof_text f.now.clauses log.now) }
     ensures proof { IfOk result (λ text. length text.items ≤ 268435456
         → IsProofText text.items (record { vars = largest_in (members_of f.now.clauses log.now); clauses = f.now.clauses }) log.now) }
 {
-    let _vars = f.vars();
+    let _ = f.vars(); // for the proof
     let steps = log.steps();
     let mut text = Vec::new(alloc);
     push_clauses(&mut text, f)?;

@@ -1,4 +1,4 @@
-use Rattle.alloy_lex.proofs.Exact.{reading_unique}
+use Rattle.alloy_lex.proofs.UniqueReadings.{reading_unique}
 use Rattle.alloy_lex.proofs.laws.a_reading_is_unique.Goals as goal
 
 pub returns : goal.returns

@@ -1,5 +1,5 @@
 use Rattle.alloy_lex.proofs.Readings.{tokens_read}
-use Rattle.alloy_lex.proofs.Exact.{read_tokens}
+use Rattle.alloy_lex.proofs.UniqueReadings.{read_tokens}
 use Rattle.alloy_lex.proofs.laws.tokens_are_the_reading.Goals as goal
 
 pub returns : goal.returns

@@ -1,7 +1,7 @@
 use Rattle.std.proofs.Common.{◌≡◌, Ok, ◌<◌, ◌++◌, ◌∷◌, [], length, Some, None, arith}
 use Rattle.std.proofs.lemmas.Result.{err_from_is_err_and}
 use Rattle.std.proofs.lemmas.List.{append-nil}
-use Rattle.alloy_lex.proofs.Turns.{lexes_more, lexes_fails, lexes_ends}
+use Rattle.alloy_lex.proofs.LexingSteps.{lexes_more, lexes_fails, lexes_ends}
 use Rattle.alloy_lex.specs.Tokens.{tokens_of}
 use Rattle.alloy_lex.proofs.Slices.{tokens_sized, tokens_few}
 use Rattle.alloy_lex.proofs.lexing.lex.Goals as goal

@@ -1,6 +1,6 @@
 use Rattle.std.proofs.Common.{◌+◌, ◌≤◌, length}
 use Rattle.alloy_lex.specs.Tokens.{tokens_of}
-use Rattle.alloy_lex.proofs.Turns.{Lexes}
+use Rattle.alloy_lex.proofs.LexingSteps.{Lexes}
 use Rattle.alloy_lex.proofs.lexing.lex.Given as goal
 
 abbrev pub invariant-each : goal.invariant-each

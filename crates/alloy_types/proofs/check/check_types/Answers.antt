@@ -4,7 +4,7 @@ use Rattle.named_model.specs.View.{callee_view, formulas_view, command_view, nam
 use Rattle.model_types.specs.Typing.{formulas_settled}
 use Rattle.model_types.specs.Models.{callee_settled, declared_in, parts_checked}
 use Rattle.alloy_types.specs.Outcomes.{outcome_view}
-use Rattle.alloy_types.proofs.Whole.{as_many, things_settled, targets_settled, typed_is}
+use Rattle.alloy_types.proofs.SettledModels.{as_many, things_settled, targets_settled, typed_is}
 use Rattle.alloy_types.proofs.check.check_types.Goals as goal
 
 pub settle-requires : goal.settle-requires

@@ -1,5 +1,5 @@
 use Rattle.std.proofs.Common.{◌≡◌, true, false, get_or, Contains, arith}
-use Rattle.augmenter.proofs.Marked.{Listed, listed_in, listed_out}
+use Rattle.augmenter.proofs.MarkedCells.{Listed, listed_in, listed_out}
 use Rattle.augmenter.proofs.cells.marked_outside.Goals.{then-mark+then-not-has+in_ok-push, else-mark, else-mark-via-then-mark+else-not-has, else-mark-via-else-mark}
 use Rattle.augmenter.proofs.cells.marked_outside.Goals as goal
 

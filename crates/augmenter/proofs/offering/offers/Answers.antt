@@ -11,7 +11,7 @@ use Rattle.augmenter.specs.declared.search.Sought.{Sought}
 use Rattle.augmenter.specs.Search.{part_in, IsSearchFor, IsRightFor, GivesInstance}
 use Rattle.augmenter.specs.Offering.{AreTrials}
 use Rattle.augmenter.proofs.Trying.{Trying, set_out, skipped, spent_trials, spent_all, refused, given, all_offers, with_cell_in}
-use Rattle.augmenter.proofs.Marked.{written_back}
+use Rattle.augmenter.proofs.MarkedCells.{written_back}
 use Rattle.augmenter.proofs.offering.offers.Goals.{then-has-via-then-has, then-has-via-else-has+then-index, in-Possible+in_ok-push-in-Possible, in-Impossible+in_ok-push-in-Impossible}
 use Rattle.augmenter.proofs.offering.offers.Goals as goal
 

@@ -1,7 +1,7 @@
 use Rattle.std.proofs.Common.{◌≡◌, ◌≤◌, Option, Some, None, List, All, IfSome, sym}
 use Rattle.cnf_core.specs.declared.literal.Lit.{Lit}
 use Rattle.cnf_core.specs.Literal.{HasSameLiterals, HasVarsUpTo}
-use Rattle.cnf_core.proofs.Same.{All-same}
+use Rattle.cnf_core.proofs.SameLiterals.{All-same}
 use Rattle.bench.proofs.refutations.implication.Goals as goal
 
 few_vars : (made : Option (List Lit)) (lits : List Lit) → IfSome made (HasSameLiterals lits) → All (λ (l : Lit). l.var ≤ 1020) lits → IfSome made (HasVarsUpTo 1020)

@@ -1,6 +1,6 @@
 use Rattle.std.proofs.Common.{sym, subst}
 use Rattle.rel_formula.specs.Shape.{IsProper}
-use Rattle.rel_formula.proofs.Parts.{are_proper}
+use Rattle.rel_formula.proofs.AndOrParts.{are_proper}
 use Rattle.bench_descents.proofs.asked.all_of.Goals as goal
 
 pub returns : goal.returns

@@ -13,7 +13,7 @@ use Rattle.name_tables.specs.Told.{IsTold, Answers}
 use Rattle.body_names.specs.Each.{faults_of_step, resolved_before, domain_resolved}
 use Rattle.body_names.proofs.Calls.{call_taken, call_told, call_kept, call_joined}
 use Rattle.body_names.proofs.Depths.{declarations_inside, bindings_inside, all_left}
-use Rattle.body_names.proofs.Seen.{called_seen}
+use Rattle.body_names.proofs.SeenPaths.{called_seen}
 use Rattle.body_names.proofs.Nodes.{nodes_more, nodes_fault, nodes_all, links_more, links_fault, links_all, steps_more, steps_fault, steps_all}
 use Rattle.body_names.proofs.Variables.{DomainsLeft, ValuesLeft, declarations_behind, bindings_behind, domains_more, domains_mark, domains_fault, domains_all, values_more, values_fault, values_all}
 use Rattle.body_names.proofs.parts.+parts.Goals as goal

@@ -1,7 +1,7 @@
 use Rattle.std.proofs.Common.{◌≡◌, ◌==◌, false, subst, ap, ◌∙◌, map, refl}
 use Rattle.named_model.specs.Phrase as phrase
 use Rattle.named_model.specs.View as seen
-use Rattle.body_names.proofs.Seen.{path_seen}
+use Rattle.body_names.proofs.SeenPaths.{path_seen}
 use Rattle.body_names.proofs.Steps.{path_some}
 use Rattle.body_names.proofs.signs.path_of.Goals as goal
 

@@ -1,7 +1,7 @@
 use Rattle.std.proofs.Common.{refl, [], ◌∷◌}
 use Rattle.std.proofs.lemmas.Result.{IfOk-weaker}
 use Rattle.model_types.specs.Bounding.{Lists, ending_in, starting_in, joins}
-use Rattle.bounding_types.proofs.Alike.{same_then, same_joins, same_ending, same_starting}
+use Rattle.bounding_types.proofs.SameListsMade.{same_then, same_joins, same_ending, same_starting}
 use Rattle.bounding_types.proofs.closure.by_way_of.Goals as goal
 
 pub returns : goal.returns

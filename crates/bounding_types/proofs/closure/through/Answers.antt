@@ -1,6 +1,6 @@
 use Rattle.std.proofs.Common.{refl, arith}
 use Rattle.model_types.specs.Bounding.{through}
-use Rattle.bounding_types.proofs.Turns.{put, way_turn, way_end}
+use Rattle.bounding_types.proofs.SetsSoFar.{put, way_turn, way_end}
 use Rattle.bounding_types.proofs.closure.through.Goals as goal
 
 pub loop-top-init : goal.loop-top-init

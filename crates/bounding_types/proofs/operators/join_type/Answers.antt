@@ -1,5 +1,5 @@
 use Rattle.model_types.specs.Bounding.{joins}
-use Rattle.bounding_types.proofs.Alike.{same_then, same_joins}
+use Rattle.bounding_types.proofs.SameListsMade.{same_then, same_joins}
 use Rattle.bounding_types.proofs.operators.join_type.Goals as goal
 
 pub returns : goal.returns

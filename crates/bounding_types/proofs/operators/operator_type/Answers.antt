@@ -1,5 +1,5 @@
 use Rattle.model_types.specs.Bounding.{operator_type}
-use Rattle.bounding_types.proofs.Alike.{same_then, same_operator}
+use Rattle.bounding_types.proofs.SameListsMade.{same_then, same_operator}
 use Rattle.bounding_types.proofs.operators.operator_type.Goals as goal
 
 pub returns : goal.returns

@@ -1,5 +1,5 @@
 use Rattle.model_types.specs.Bounding.{prefix_type}
-use Rattle.bounding_types.proofs.Alike.{same_then, same_prefix}
+use Rattle.bounding_types.proofs.SameListsMade.{same_then, same_prefix}
 use Rattle.bounding_types.proofs.operators.prefix_type.Goals as goal
 
 pub returns : goal.returns

@@ -1,6 +1,6 @@
 use Rattle.std.proofs.Common.{refl, ◌++◌}
 use Rattle.model_types.specs.Bounding.{through, doubles}
-use Rattle.bounding_types.proofs.Alike.{same_then, same_append}
+use Rattle.bounding_types.proofs.SameListsMade.{same_then, same_append}
 use Rattle.bounding_types.proofs.operators.reflexive.Goals as goal
 
 pub returns : goal.returns

@@ -1,4 +1,4 @@
-use Rattle.bounding_types.proofs.Turns.{put}
+use Rattle.bounding_types.proofs.SetsSoFar.{put}
 use Rattle.bounding_types.proofs.operators.united.Goals as goal
 
 pub returns : goal.returns

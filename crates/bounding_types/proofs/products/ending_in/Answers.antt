@@ -1,6 +1,6 @@
 use Rattle.std.proofs.Common.{ap, ◌∙◌, [], ◌∷◌, if◌then◌else◌, arith}
 use Rattle.model_types.specs.Bounding.{has, end_of, ending_in}
-use Rattle.bounding_types.proofs.Turns.{row_turn, whole, keeping, all_kept}
+use Rattle.bounding_types.proofs.SetsSoFar.{row_turn, whole, keeping, all_kept}
 use Rattle.bounding_types.proofs.products.ending_in.Goals as goal
 
 pub loop-list-preserved : goal.loop-list-preserved

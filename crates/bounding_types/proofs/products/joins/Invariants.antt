@@ -1,7 +1,7 @@
 use Rattle.std.proofs.Common.{flat_map}
 use Rattle.model_types.specs.Bounding.{joined}
 use Rattle.bounding_types.specs.Same.{AreSame}
-use Rattle.bounding_types.proofs.Turns.{added}
+use Rattle.bounding_types.proofs.SetsSoFar.{added}
 use Rattle.bounding_types.proofs.products.joins.Given as goal
 
 abbrev pub invariant-loop-left : goal.invariant-loop-left

@@ -1,7 +1,7 @@
 use Rattle.std.proofs.Common.{refl, map, ◌++◌, [], arith}
 use Rattle.model_types.specs.Bounding.{products}
 use Rattle.bounding_types.specs.Same.{lists_of}
-use Rattle.bounding_types.proofs.Turns.{row_turn, whole}
+use Rattle.bounding_types.proofs.SetsSoFar.{row_turn, whole}
 use Rattle.bounding_types.proofs.products.products.Goals as goal
 
 pub loop-left-preserved : goal.loop-left-preserved

@@ -1,6 +1,6 @@
 use Rattle.std.proofs.Common.{[], ◌∷◌, ◌++◌}
 use Rattle.bounding_types.specs.Same.{AreSame}
-use Rattle.bounding_types.proofs.Turns.{added}
+use Rattle.bounding_types.proofs.SetsSoFar.{added}
 use Rattle.bounding_types.proofs.products.put_all.Given as goal
 
 abbrev pub invariant-loop-list : goal.invariant-loop-list

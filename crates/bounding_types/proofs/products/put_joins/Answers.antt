@@ -3,7 +3,7 @@ use Rattle.std.specs.List.{list_any}
 use Rattle.std.proofs.lemmas.List.{append-nil}
 use Rattle.model_types.specs.Bounding.{joined}
 use Rattle.bounding_types.specs.Same.{lists_of}
-use Rattle.bounding_types.proofs.Turns.{row_turn, whole}
+use Rattle.bounding_types.proofs.SetsSoFar.{row_turn, whole}
 use Rattle.bounding_types.proofs.products.put_joins.Goals as goal
 
 pub loop-right-init : goal.loop-right-init

@@ -2,7 +2,7 @@ use Rattle.std.proofs.Common.{refl, sym, ap, ◌∙◌, [], ◌∷◌, ◌++◌,
 use Rattle.std.specs.List.{list_any}
 use Rattle.std.proofs.lemmas.List.{append-nil}
 use Rattle.bounding_types.specs.Same.{lists_of}
-use Rattle.bounding_types.proofs.Turns.{row_turn, whole, all_mapped}
+use Rattle.bounding_types.proofs.SetsSoFar.{row_turn, whole, all_mapped}
 use Rattle.bounding_types.proofs.products.put_products.Goals as goal
 
 pub loop-right-init : goal.loop-right-init

@@ -1,5 +1,5 @@
 use Rattle.std.proofs.Common.{ap, ◌∙◌, [], ◌∷◌, map, reverse, arith}
-use Rattle.bounding_types.proofs.Turns.{row_turn, whole, all_mapped}
+use Rattle.bounding_types.proofs.SetsSoFar.{row_turn, whole, all_mapped}
 use Rattle.bounding_types.proofs.products.reversed.Goals as goal
 
 pub loop-list-preserved : goal.loop-list-preserved

@@ -1,5 +1,5 @@
 use Rattle.std.proofs.Common.{[], ◌∷◌, arith}
-use Rattle.bounding_types.proofs.Turns.{all_numbered}
+use Rattle.bounding_types.proofs.SetsSoFar.{all_numbered}
 use Rattle.bounding_types.proofs.products.singles.Goals as goal
 
 pub returns : goal.returns

@@ -1,5 +1,5 @@
 use Rattle.std.proofs.Common.{ap, length}
-use Rattle.circuit_cnf.proofs.Growing.{nothing_so_far}
+use Rattle.circuit_cnf.proofs.GrowingEncodings.{nothing_so_far}
 use Rattle.circuit_cnf.proofs.encoding.encoding_of.Goals as goal
 
 pub loop-i-init : goal.loop-i-init

@@ -1,5 +1,5 @@
 use Rattle.std.proofs.Common.{◌∙◌, ◌-◌, ap, sym, subst, arith, length, List, Bool}
-use Rattle.circuit_cnf.proofs.Marking.{HasPassed, passes_on, are_marks, written_back}
+use Rattle.circuit_cnf.proofs.OutputMarks.{HasPassed, passes_on, are_marks, written_back}
 use Rattle.circuit_cnf.proofs.marks.marks_of.Goals as goal
 
 pub loop-i-preserved : goal.loop-i-preserved

@@ -1,5 +1,5 @@
 -- From the last node on, the marked ones have passed their marks on.
-use Rattle.circuit_cnf.proofs.Marking.{HasPassed}
+use Rattle.circuit_cnf.proofs.OutputMarks.{HasPassed}
 use Rattle.circuit_cnf.proofs.marks.marks_of.Given as goal
 
 abbrev pub invariant-loop-i : goal.invariant-loop-i

@@ -2,7 +2,7 @@ use Rattle.std.proofs.Common.{◌≡◌, ◌-◌, ℕ, List, Bool, false, get_or
 use Rattle.std.proofs.lemmas.List.Folds.{list_all_at}
 use Rattle.refutation_check.specs.Renumbering.{is_free}
 use Rattle.clause_pool.specs.Freeing.{new_number}
-use Rattle.clause_pool.proofs.Counting.{is_none}
+use Rattle.clause_pool.proofs.NewNumbers.{is_none}
 use Rattle.clause_pool.proofs.free.renumbered.Goals as goal
 
 pub returns-in-0 : goal.returns-in-0

@@ -1,6 +1,6 @@
 use Rattle.std.proofs.Common.{arith, sym, ◌∙◌}
 use Rattle.clause_pool.specs.Pooled.{marks_of}
-use Rattle.clause_pool.proofs.Counting.{number_of_clause, number_of_pool, number_of_own}
+use Rattle.clause_pool.proofs.NewNumbers.{number_of_clause, number_of_pool, number_of_own}
 use Rattle.clause_pool.proofs.renumbering.new_number_of.Goals as goal
 
 pub returns-then-hint-clauses : goal.returns-then-hint-clauses

@@ -1,7 +1,7 @@
 use Rattle.std.proofs.Common.{◌≤◌, Option, List, IfSome, subst}
 use Rattle.cnf_core.specs.declared.literal.Lit.{Lit}
 use Rattle.cnf_core.specs.Literal.{HasSameLiterals}
-use Rattle.cnf_core.proofs.Same.{All-same}
+use Rattle.cnf_core.proofs.SameLiterals.{All-same}
 use Rattle.cnf_core.proofs.tests.clause_of.Goals as goal
 
 pub returns-in-Some : goal.returns-in-Some

@@ -6,7 +6,7 @@ use Rattle.clap.proofs.WalkLemmas.{list_any-map}
 use Rattle.command_words.specs.Read.{texts}
 use Rattle.command_words.proofs.LongWords.{dashes}
 use Rattle.command_words.proofs.Program.{free_program, simple_program}
-use Rattle.command_words.proofs.Said.{escape_says_none, fault_says_none, is_said}
+use Rattle.command_words.proofs.CommandsOfWords.{escape_says_none, fault_says_none, is_said}
 use Rattle.command_words.proofs.reading.command_of.Goals as goal
 
 pub returns-then-has_escape-clause-none : goal.returns-then-has_escape-clause-none

@@ -1,6 +1,6 @@
 use Rattle.std.proofs.Common.{[], slice_index_or, refl}
 use Rattle.std.proofs.lemmas.List.{get_or_read_under}
-use Rattle.bounding_types.proofs.Alike.{same}
+use Rattle.bounding_types.proofs.SameListsMade.{same}
 use Rattle.expression_types.proofs.names.copy_at.Goals as goal
 
 pub returns : goal.returns

@@ -1,7 +1,7 @@
 use Rattle.std.specs.List.{list_any}
 use Rattle.expression_types.proofs.Chaining.{typed_turn, typed_end, linked_turn, linked_end, stepped_turn, stepped_end}
 use Rattle.expression_types.proofs.Calling.{called_body, called_unknown}
-use Rattle.expression_types.proofs.Wholes.{named_whole, called_whole, chain_whole, path_whole}
+use Rattle.expression_types.proofs.PartTypes.{named_whole, called_whole, chain_whole, path_whole}
 use Rattle.named_model.specs.View.{phrase_view}
 use Rattle.std.proofs.Common.{ap, ◌∙◌, sym}
 use Rattle.expression_types.proofs.parts.+parts.Goals as goal

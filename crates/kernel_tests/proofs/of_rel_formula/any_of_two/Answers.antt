@@ -7,7 +7,7 @@ use Rattle.rel_formula.specs.declared.problem.Relation.{Relation}
 use Rattle.rel_formula.specs.Kernel.{at_least, rel}
 use Rattle.rel_formula.specs.Bounds.{Bounded, IsProblem}
 use Rattle.rel_formula.specs.Renaming.{KeepsBounds}
-use Rattle.rel_formula.proofs.Single.{one_pair}
+use Rattle.rel_formula.proofs.OneSetOfAtoms.{one_pair}
 use Rattle.rel_formula.proofs.Unary.{IsSetOver, any_set, sets_problem, two_kept, has_first, has_second, all_of_two, arity_of_two}
 use Rattle.kernel_tests.proofs.of_rel_formula.any_of_two.Goals as goal
 

@@ -1,6 +1,6 @@
 use Rattle.std.proofs.Common.{◌∷◌, [], sym, subst}
 use Rattle.rel_formula.specs.Shape.{IsProper}
-use Rattle.rel_formula.proofs.Parts.{are_proper}
+use Rattle.rel_formula.proofs.AndOrParts.{are_proper}
 use Rattle.kernel_tests.proofs.of_rel_terms.lists_of_formulas.Goals as goal
 
 pub terms_of-requires : goal.terms_of-requires

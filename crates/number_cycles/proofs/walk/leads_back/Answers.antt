@@ -1,6 +1,6 @@
 use Rattle.std.proofs.Common.{◌≡◌, ◌<◌, ◌≤◌, length, sym, ◌∙◌, arith}
 use Rattle.number_cycles.specs.Walks.{rows_of}
-use Rattle.number_cycles.proofs.Meetings.{among_is, rows_count, begun_at, further_at, met_below, few_met, ended_with, ended_without}
+use Rattle.number_cycles.proofs.NumbersMet.{among_is, rows_count, begun_at, further_at, met_below, few_met, ended_with, ended_without}
 use Rattle.number_cycles.proofs.walk.leads_back.Goals as goal
 
 pub row-requires-in-loop-next : goal.row-requires-in-loop-next

@@ -1,6 +1,6 @@
 use Rattle.std.proofs.Common.{◌-◌, length}
 use Rattle.number_cycles.specs.Walks.{rows_of}
-use Rattle.number_cycles.proofs.Meetings.{Walk}
+use Rattle.number_cycles.proofs.NumbersMet.{Walk}
 use Rattle.number_cycles.proofs.walk.leads_back.Given as goal
 
 abbrev pub invariant-loop-next : goal.invariant-loop-next

@@ -1,7 +1,7 @@
 use Rattle.std.proofs.Common.{take, get_or, ap, subst, refl, sym}
 use Rattle.std.proofs.lemmas.List.{take_all, get_or_default}
 use Rattle.number_cycles.specs.Marks.{Meets}
-use Rattle.number_cycles.proofs.Meetings.{none_met, one_met}
+use Rattle.number_cycles.proofs.NumbersMet.{none_met, one_met}
 use Rattle.number_cycles.proofs.walk.meet.Goals as goal
 
 pub loop-number-init : goal.loop-number-init

@@ -10,7 +10,7 @@ use Rattle.refutation_check.proofs.refutation.verdict_of.Goals as goal
 pub first_failure-requires-clause-members : goal.first_failure-requires-clause-members
 first_failure-requires-clause-members c =
     subst (λ (a : Assumed). All (HasVarsUpTo a.vars) (members_of c.args.f.now.clauses (take c.loop-i.i c.steps-steps.result.now))) (sym c.loop-i.invariant.assumed)
-    (members_within _ _ _ _ c.loop-i.i c.vars-vars.ensures.formula.within c.requires.formula (rw c.steps-steps.ensures.steps c.requires.log))
+    (members_within _ _ _ _ c.loop-i.i c.vars.ensures.formula.within c.requires.formula (rw c.steps-steps.ensures.steps c.requires.log))
 
 pub returns-in-Some-clause-fits : goal.returns-in-Some-clause-fits
 returns-in-Some-clause-fits c =

@@ -11,7 +11,7 @@ use Rattle.rel_formula.specs.Evaluation.{IsTrueAt, AreNotBothTrue}
 use Rattle.rel_formula.specs.Shape.{arity_of, IsProper}
 use Rattle.rel_formula.specs.Tables.{Tabled, arities, tabled}
 use Rattle.rel_formula.proofs.Counts.{distinct}
-use Rattle.rel_formula.proofs.Parts.{Truth-And, Truth-Or, IsProper-And, IsProper-Or}
+use Rattle.rel_formula.proofs.AndOrParts.{Truth-And, Truth-Or, IsProper-And, IsProper-Or}
 use Rattle.rel_formula.proofs.Loops.{any_none, found_first, found_none, found_two, none_two, for_all_is, for_some_is, for_two_is, says_not}
 use Rattle.rel_formula.proofs.evaluate.+truth.Goals.{true_for_at_most_one-then-holds+else-found, true_for_at_most_one-else-holds}
 use Rattle.rel_formula.proofs.evaluate.+truth.Goals as goal

@@ -1,7 +1,7 @@
 use Rattle.std.proofs.Common.{map, ◌∙◌, ap, sym}
 use Rattle.rel_formula.specs.Kernel.{conjunction, disjunction, formulas_of}
 use Rattle.rel_formula.specs.View.{formula_tree}
-use Rattle.rel_formula.proofs.Parts.{And-tree, Or-tree}
+use Rattle.rel_formula.proofs.AndOrParts.{And-tree, Or-tree}
 use Rattle.rel_formula.proofs.formula.+copy.Goals as goal
 
 pub Formula::copy-returns-in_ok-copies-in-And : goal.Formula::copy-returns-in_ok-copies-in-And

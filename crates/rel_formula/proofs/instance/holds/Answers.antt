@@ -7,13 +7,13 @@ use Rattle.rel_formula.specs.View.{formula_tree}
 use Rattle.rel_formula.specs.Meaning.{Truth}
 use Rattle.rel_formula.specs.Shape.{IsProper}
 use Rattle.rel_formula.specs.Tables.{tabled}
-use Rattle.rel_formula.proofs.Told.{arities_are, holds_is}
+use Rattle.rel_formula.proofs.ScenarioTruth.{arities_are, holds_is}
 use Rattle.rel_formula.proofs.instance.holds.Goals as goal
 
 pub truth-requires : goal.truth-requires
 truth-requires c =
     let p = c.args.problem.now in
-    let well = c.relations-relations.ensures.well in
+    let well = c.relations.ensures.well in
     let tables = c.in_ok-tables.tables in
     let ns = map (λ (r : Relation). r.lower.arity) p.relations in
     let depth : IsProper ns (length c.new-env.result.items) p.formula = subst (λ (es : List Atom). IsProper ns (length es) p.formula) (sym c.new-env.ensures.items) well.proper in
@@ -23,10 +23,10 @@ truth-requires c =
 pub returns : goal.returns
 returns c =
     let p = c.args.problem.now in
-    let well = c.relations-relations.ensures.well in
+    let well = c.relations.ensures.well in
     let tables = c.in_ok-tables.tables in
     let yes' = IsTrue c.in_ok-truth.field-0 in
     let empty = subst (λ (es : List Atom). yes' ↔ Truth (tabled tables) (reverse es) (formula_tree c.formula.result.now)) c.new-env.ensures.items c.in_ok-truth.ensures.truth in
     let told = subst (λ (f : FormulaTree). yes' ↔ Truth (tabled tables) [] f) c.formula.ensures empty in
     let same = then_same told (holds_is p c.args.scenario.now tables well c.in_ok-tables.ensures) in
-    (λ e. record { scenario = record { cells = c.requires; rising = c.numbers-numbers.ensures.rising }; holds = same.0 e }, λ h. same.1 h.holds)
+    (λ e. record { scenario = record { cells = c.requires; rising = c.numbers.ensures.rising }; holds = same.0 e }, λ h. same.1 h.holds)

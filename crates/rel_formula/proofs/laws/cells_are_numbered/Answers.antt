@@ -1,4 +1,4 @@
-use Rattle.rel_formula.proofs.Open.{open_cell, cell_open, cell_once}
+use Rattle.rel_formula.proofs.OpenCells.{open_cell, cell_open, cell_once}
 use Rattle.rel_formula.proofs.laws.cells_are_numbered.Goals as goal
 
 pub returns : goal.returns

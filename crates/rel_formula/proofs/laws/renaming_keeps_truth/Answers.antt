@@ -1,6 +1,6 @@
 use Rattle.std.proofs.Common.{Contains}
 use Rattle.rel_formula.specs.Instance.{structure_of}
-use Rattle.rel_formula.proofs.Moved.{truth_both}
+use Rattle.rel_formula.proofs.RenamedAtoms.{truth_both}
 use Rattle.rel_formula.proofs.Renamed.{scenario_moved}
 use Rattle.rel_formula.proofs.laws.renaming_keeps_truth.Goals as goal
 

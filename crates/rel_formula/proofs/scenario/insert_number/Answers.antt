@@ -1,7 +1,8 @@
 use Rattle.std.proofs.Common.{◌<◌, ◌≤◌, ◌∙◌, ℕ, List, length, get_or, Contains, refl, sym, subst, Ok, Err}
 use Rattle.std.proofs.lemmas.List.{get_or_default}
 use Rattle.std.proofs.lemmas.List.Sorted.{searched}
-use Rattle.rel_formula.proofs.Rising.{Rises, never_fall, absent, still_rises, insert_contains}
+use Rattle.rel_formula.proofs.RisingNumbers.{Rises, never_fall, absent, still_rises}
+use Rattle.tuple_core.proofs.Ascending.{insert_contains}
 use Rattle.rel_formula.proofs.WithCell.{with_cell_is, with_cell_there}
 use Rattle.rel_formula.proofs.scenario.insert_number.Goals as goal
 

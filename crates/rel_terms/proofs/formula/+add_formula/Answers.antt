@@ -7,14 +7,14 @@ use Rattle.rel_formula.specs.Bounds.{Bounded}
 use Rattle.rel_formula.specs.Kernel.{formulas_of}
 use Rattle.rel_formula.specs.View.{expression_tree, formula_tree}
 use Rattle.rel_formula.specs.Shape.{arity_of, IsProper}
-use Rattle.rel_formula.proofs.Parts.{IsProper-And, IsProper-Or}
+use Rattle.rel_formula.proofs.AndOrParts.{IsProper-And, IsProper-Or}
 use Rattle.rel_terms.specs.Numbers.{Is, ◌⊕◌}
 use Rattle.rel_terms.specs.Upper.{upper_structure}
 use Rattle.rel_terms.specs.Terms.{InUpperAt, ExpressionHas, FormulaHas, FormulasHave}
 use Rattle.rel_terms.specs.Counting.{Adds, IsCounted, RowsHave, arities_of}
 use Rattle.rel_terms.proofs.Adding.{adds_both}
 use Rattle.rel_terms.proofs.Parted.{parts_more, parts_above, adds_and, adds_or, rows_more, rows_above}
-use Rattle.rel_terms.proofs.Compared.{each_adds}
+use Rattle.rel_terms.proofs.FormulaTerms.{each_adds}
 use Rattle.rel_terms.proofs.formula.+add_formula.Goals as goal
 
 -- the terms of f were added

@@ -1,4 +1,4 @@
-use Rattle.rel_terms.proofs.Compared.{at_least_adds}
+use Rattle.rel_terms.proofs.FormulaTerms.{at_least_adds}
 use Rattle.rel_terms.proofs.formula.add_at_least.Goals as goal
 
 pub returns : goal.returns

@@ -1,5 +1,5 @@
 use Rattle.rel_terms.proofs.Adding.{adds_both}
-use Rattle.rel_terms.proofs.Compared.{operand_adds}
+use Rattle.rel_terms.proofs.FormulaTerms.{operand_adds}
 use Rattle.rel_terms.proofs.formula.add_within.Goals as goal
 
 pub returns : goal.returns

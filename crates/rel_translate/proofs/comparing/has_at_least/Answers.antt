@@ -1,7 +1,7 @@
 use Rattle.std.proofs.Common.{◌≡◌, ◌==◌, ◌↔◌, ℕ, length, reverse, sym, subst}
 use Rattle.bool_circuit.specs.Network.{size}
 use Rattle.rel_formula.specs.View.{expression_tree}
-use Rattle.rel_translate.proofs.Compared.{count_parts, count_room, count_room_none, count_told, count_none, truth_not, zero_says}
+use Rattle.rel_translate.proofs.FormulaNodes.{count_parts, count_room, count_room_none, count_told, count_none, truth_not, zero_says}
 use Rattle.rel_translate.proofs.comparing.has_at_least.Goals as goal
 
 pub matrix-requires-clause-room : goal.matrix-requires-clause-room

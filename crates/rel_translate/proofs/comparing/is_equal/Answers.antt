@@ -1,7 +1,7 @@
 use Rattle.std.proofs.Common.{◌≡◌, ◌+◌, ◌∙◌, sym, subst, length, reverse, arith}
 use Rattle.bool_circuit.specs.Network.{size}
 use Rattle.rel_formula.specs.View.{expression_tree}
-use Rattle.rel_translate.proofs.Compared.{equal_parts, equal_room, constant_room_both, equal_told, equal_none, truth_not}
+use Rattle.rel_translate.proofs.FormulaNodes.{equal_parts, equal_room, constant_room_both, equal_told, equal_none, truth_not}
 use Rattle.rel_translate.proofs.comparing.is_equal.Goals as goal
 
 pub matrices-requires-clause-room : goal.matrices-requires-clause-room

@@ -13,7 +13,7 @@ use Rattle.rel_terms.specs.Counting.{arities_of}
 use Rattle.rel_translate.specs.Tables.{IsReady}
 use Rattle.rel_translate.specs.Makes.{HasRoomFor, TermsOf, IsMade, AreMade}
 use Rattle.rel_translate.proofs.Spending.{room_left, room_right}
-use Rattle.rel_translate.proofs.Kept.{ready_kept}
+use Rattle.rel_translate.proofs.GrownCircuits.{ready_kept}
 use Rattle.rel_translate.proofs.Atoms.{few_begin}
 use Rattle.rel_translate.proofs.Operators.{union_parts, minus_parts, meet_parts, product_parts, join_parts, override_parts, dom_parts, ran_parts, transpose_parts, closure_parts}
 use Rattle.rel_translate.proofs.Operators.{union_room, minus_room, meet_room, product_room, join_room, override_room, dom_room, ran_room, closure_room}

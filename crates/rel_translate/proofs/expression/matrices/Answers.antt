@@ -3,7 +3,7 @@ use Rattle.bool_circuit.specs.Network.{size}
 use Rattle.rel_formula.specs.View.{expression_tree}
 use Rattle.rel_translate.specs.Makes.{TermsOf}
 use Rattle.rel_translate.proofs.Spending.{room_left, room_right}
-use Rattle.rel_translate.proofs.Kept.{ready_kept}
+use Rattle.rel_translate.proofs.GrownCircuits.{ready_kept}
 use Rattle.rel_translate.proofs.Plain.{both_made}
 use Rattle.rel_translate.proofs.expression.matrices.Goals as goal
 

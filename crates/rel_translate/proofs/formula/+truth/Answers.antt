@@ -6,7 +6,7 @@ use Rattle.bool_circuit.specs.Network.{Network, size}
 use Rattle.bool_circuit.specs.Value.{value_at}
 use Rattle.bool_matrix.specs.declared.entry.Entry.{Entry}
 use Rattle.bool_matrix.specs.Cells.{Cells, Says}
-use Rattle.bool_matrix.proofs.Compared.{says_same}
+use Rattle.bool_matrix.proofs.ComparedEntries.{says_same}
 use Rattle.rel_formula.specs.declared.formula.Formula.{Formula, And, Or}
 use Rattle.rel_formula.specs.declared.formula.Formula.TheViews.{the_lemmas}
 use Rattle.rel_formula.specs.declared.formula.Expression.{Expression}
@@ -15,7 +15,7 @@ use Rattle.rel_formula.specs.Kernel.{ExpressionTree, FormulaTree, equal, at_leas
 use Rattle.rel_formula.specs.View.{expression_tree, formula_tree}
 use Rattle.rel_formula.specs.Meaning.{Truth}
 use Rattle.rel_formula.specs.Shape.{arity_of, IsProper, IsWellFormed}
-use Rattle.rel_formula.proofs.Parts.{And-tree, Or-tree, Truth-And, Truth-Or, IsProper-And, IsProper-Or}
+use Rattle.rel_formula.proofs.AndOrParts.{And-tree, Or-tree, Truth-And, Truth-Or, IsProper-And, IsProper-Or}
 use Rattle.rel_terms.specs.Numbers.{Is, ◌⊕◌}
 use Rattle.rel_terms.specs.Upper.{upper_structure}
 use Rattle.rel_terms.specs.Terms.{FormulasHave}
@@ -25,10 +25,10 @@ use Rattle.rel_translate.specs.Makes.{HasRoomFor, Spends, TermsOf, FormulaTermsO
 use Rattle.rel_translate.specs.Grounding.{IsImplied, IsMet, AreNotBothMet}
 use Rattle.rel_translate.proofs.Lists.{all_start, any_start, two_start, all_more, any_more}
 use Rattle.rel_translate.proofs.Spending.{room_left}
-use Rattle.rel_translate.proofs.Kept.{ready_kept, ready_more}
+use Rattle.rel_translate.proofs.GrownCircuits.{ready_kept, ready_more}
 use Rattle.rel_translate.proofs.Gated.{says_later}
 use Rattle.bool_circuit.proofs.CallerLemmas.{Extends-trans}
-use Rattle.rel_translate.proofs.Compared.{tells_same, negation_room, negation_told}
+use Rattle.rel_translate.proofs.FormulaNodes.{tells_same, negation_room, negation_told}
 use Rattle.rel_translate.proofs.Grounded.{room_second, next_room, next_gate, next_spent, parts_start, parts_tell, rows_start, rows_tell, body_room, gates_room, turn_tells, all_turn, some_turn, lone_turn, found_turn, first_atom, domain_single, domain_atoms, domain_room, for_all_told, for_some_told, lone_told}
 use Rattle.rel_translate.proofs.formula.+truth.Goals as goal
 

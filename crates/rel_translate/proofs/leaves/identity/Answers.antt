@@ -7,7 +7,7 @@ use Rattle.bool_matrix.specs.Entries.{IsAscending}
 use Rattle.bool_matrix.specs.Cells.{ThereIn}
 use Rattle.bool_matrix.specs.Edits.{Puts}
 use Rattle.bool_matrix.proofs.Loops.{matrix_none, matrix_more, matrix_all, matrix_same, matrix_made, of_empty, entry_of, entry_fits}
-use Rattle.bool_matrix.proofs.Turns.{not_before}
+use Rattle.bool_matrix.proofs.TurnedPairs.{not_before}
 use Rattle.rel_formula.proofs.Valued.{Doubles, one_atom, double_is}
 use Rattle.rel_translate.proofs.Doubled.{DoubleAt, TrueDouble, doubled_there, doubled_true, double_once}
 use Rattle.rel_translate.proofs.leaves.identity.Goals as goal

@@ -4,7 +4,7 @@ use Rattle.bool_matrix.specs.declared.entry.Entry.{Entry}
 use Rattle.bool_matrix.specs.Cells.{AtEntry, TrueAt, ThereIn}
 use Rattle.bool_matrix.specs.Edits.{Puts}
 use Rattle.bool_matrix.proofs.Loops.{matrix_none, matrix_more, matrix_all}
-use Rattle.bool_matrix.proofs.Turns.{not_before}
+use Rattle.bool_matrix.proofs.TurnedPairs.{not_before}
 use Rattle.rel_translate.proofs.tables.put_all.Goals as goal
 
 pub loop-entry-init : goal.loop-entry-init

@@ -29,7 +29,7 @@ put_all-requires-clause-absent c =
     let i = c.loop-top.top-index in
     let x = get_or tops i 0 in
     let l = c.loop-top-test.true in
-    let well = c.relations-relations.ensures.well in
+    let well = c.relations.ensures.well in
     let there = top_below p tops i well c.tops-top-items.ensures l in
     let top = get_or c.args.relations.now x c.index-relations-top.result in
     let of : IsRelationOf c.requires.leaves.0 p x top = c.requires.each c.requires.leaves.0 c.requires.leaves.1 x c.index-relations-top.result (let n = c.requires.count in omega arith) in
@@ -44,7 +44,7 @@ loop-top-preserved c =
     let i = c.loop-top.top-index in
     let x = get_or tops i 0 in
     let l = c.loop-top-test.true in
-    let well = c.relations-relations.ensures.well in
+    let well = c.relations.ensures.well in
     let there = top_below p tops i well c.tops-top-items.ensures l in
     let top = get_or c.args.relations.now x c.index-relations-top.result in
     let inv = c.loop-top.invariant in
@@ -70,7 +70,7 @@ put_all-requires-clause-arities c =
     let i = c.loop-top.top-index in
     let x = get_or tops i 0 in
     let l = c.loop-top-test.true in
-    let well = c.relations-relations.ensures.well in
+    let well = c.relations.ensures.well in
     let there = top_below p tops i well c.tops-top-items.ensures l in
     let top = get_or c.args.relations.now x c.index-relations-top.result in
     let of : IsRelationOf c.requires.leaves.0 p x top = c.requires.each c.requires.leaves.0 c.requires.leaves.1 x c.index-relations-top.result (let n = c.requires.count in omega arith) in

@@ -8,7 +8,7 @@ use Rattle.rel_formula.specs.Shape.{IsProper}
 use Rattle.rel_terms.specs.Counting.{arities_of}
 use Rattle.rel_translate.specs.Tables.{IsReady}
 use Rattle.rel_translate.specs.Makes.{HasRoomFor, FormulaTermsOf, IsTold}
-use Rattle.rel_translate.proofs.Whole.{instance_is, whole_room, whole_ready, length_size}
+use Rattle.rel_translate.proofs.WholeProblems.{instance_is, whole_room, whole_ready, length_size}
 use Rattle.rel_translate.proofs.translate.circuit_of.Goals as goal
 
 pub truth-requires-clause-ready : goal.truth-requires-clause-ready

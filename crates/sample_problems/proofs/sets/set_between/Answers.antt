@@ -2,7 +2,7 @@ use Rattle.std.proofs.Common.{◌≡◌, ◌≤◌, ◌∷◌, [], ℕ, List, tr
 use Rattle.rel_formula.specs.declared.problem.Relation.{Relation}
 use Rattle.rel_formula.specs.View.{formula_tree}
 use Rattle.rel_formula.specs.Bounds.{IsProblem}
-use Rattle.rel_formula.proofs.Single.{single_problem}
+use Rattle.rel_formula.proofs.OneSetOfAtoms.{single_problem}
 use Rattle.sample_problems.proofs.sets.set_between.Goals as goal
 
 pub of-requires-2 : goal.of-requires-2

@@ -1,4 +1,4 @@
-use Rattle.script_format.proofs.Exact.{one_fault, no_fault_of_script}
+use Rattle.script_format.proofs.UniqueScripts.{one_fault, no_fault_of_script}
 use Rattle.script_format.proofs.laws.bytes_have_one_fault.Goals as goal
 
 pub returns : goal.returns

@@ -1,4 +1,4 @@
-use Rattle.script_format.proofs.Exact.{one_script}
+use Rattle.script_format.proofs.UniqueScripts.{one_script}
 use Rattle.script_format.proofs.laws.bytes_say_one_script.Goals as goal
 
 pub returns : goal.returns

@@ -1,5 +1,5 @@
-use Rattle.script_format.proofs.Exact.{few_models, few_sessions, few_keys, models_there, texts_small}
-use Rattle.script_format.proofs.Asked.{asked_few, all_allowed}
+use Rattle.script_format.proofs.UniqueScripts.{few_models, few_sessions, few_keys, models_there, texts_small}
+use Rattle.script_format.proofs.AskedCommands.{asked_few, all_allowed}
 use Rattle.script_format.proofs.laws.scripts_keep_to_limits.Goals as goal
 
 pub returns : goal.returns

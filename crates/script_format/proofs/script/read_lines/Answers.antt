@@ -6,8 +6,8 @@ use Rattle.script_format.specs.declared.fault.ScriptFault.TheVariants as fault
 use Rattle.script_format.specs.Reading.{Reading, Start}
 use Rattle.script_format.specs.Script.{Leads, fault_at}
 use Rattle.script_format.specs.Read.{reading_of}
-use Rattle.script_format.proofs.Exact.{texts, texts_split, texts_more}
-use Rattle.script_format.proofs.Leads.{leads_on, beyond, blame}
+use Rattle.script_format.proofs.UniqueScripts.{texts, texts_split, texts_more}
+use Rattle.script_format.proofs.LineReadings.{leads_on, beyond, blame}
 use Rattle.script_format.proofs.Soundness.{sound_after, sound_at_start}
 use Rattle.script_format.proofs.script.read_lines.Goals as goal
 

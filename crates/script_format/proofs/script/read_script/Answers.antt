@@ -5,7 +5,7 @@ use Rattle.std.proofs.lemmas.List.{length-map}
 use Rattle.script_format.specs.declared.entries.ModelEntry.{ModelEntry}
 use Rattle.script_format.specs.declared.entries.SessionEntry.{SessionEntry}
 use Rattle.script_format.specs.Read.{Reads}
-use Rattle.script_format.proofs.Exact.{texts, reads_script, reads_fault, just_script, just_fault, models_there, texts_small, if_ok}
+use Rattle.script_format.proofs.UniqueScripts.{texts, reads_script, reads_fault, just_script, just_fault, models_there, texts_small, if_ok}
 use Rattle.script_format.proofs.Sizes.{text_size, count_size}
 use Rattle.script_format.proofs.script.read_script.Goals as goal
 

@@ -5,7 +5,7 @@ use Rattle.tuple_core.specs.declared.atom.Atom.{Atom}
 use Rattle.rel_formula.specs.declared.problem.Relation.{Relation}
 use Rattle.rel_formula.specs.declared.problem.Cell.{Cell}
 use Rattle.rel_formula.specs.Bounds.{relation_at, cell_of, cells_of}
-use Rattle.rel_formula.proofs.Open.{cell_open}
+use Rattle.rel_formula.proofs.OpenCells.{cell_open}
 use Rattle.rel_formula.proofs.Tabled.{no_relation}
 use Rattle.script_text.specs.Lines.{tuple_text}
 use Rattle.script_text.proofs.Tables.{cell_tops}

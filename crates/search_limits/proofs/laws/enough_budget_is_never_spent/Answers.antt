@@ -1,6 +1,6 @@
 use Rattle.std.proofs.Common.{arith}
 use Rattle.refutation_check.specs.Chain.{members_of}
-use Rattle.search_limits.proofs.Counting.{few}
+use Rattle.search_limits.proofs.ClauseCounts.{few}
 use Rattle.search_limits.proofs.laws.enough_budget_is_never_spent.Goals as goal
 
 pub returns : goal.returns

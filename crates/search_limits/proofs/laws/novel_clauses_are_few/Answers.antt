@@ -1,4 +1,4 @@
-use Rattle.search_limits.proofs.Counting.{few}
+use Rattle.search_limits.proofs.ClauseCounts.{few}
 use Rattle.search_limits.proofs.laws.novel_clauses_are_few.Goals as goal
 
 pub returns : goal.returns

@@ -1,7 +1,7 @@
 use Rattle.std.proofs.Common.{◌≡◌, ◌≤◌, ◌<◌, min, subst, arith}
 use Rattle.std.specs.Prelude.{Option, ℕ}
 use Rattle.served_models.specs.Served.{IsNext}
-use Rattle.served_models.proofs.Asked.{next_as_before, next_first, next_lesser}
+use Rattle.served_models.proofs.CommandsWithSessions.{next_as_before, next_first, next_lesser}
 use Rattle.served_models.proofs.numbers.with_session.Goals.{then-session-place-via-then-session-place, then-session-place-via-else-session-place+then-from}
 use Rattle.served_models.proofs.numbers.with_session.Goals as goal
 

@@ -1,7 +1,7 @@
 use Rattle.std.proofs.Common.{◌≤◌, Option, List, All, IfSome, subst, arith}
 use Rattle.cnf_core.specs.declared.literal.Lit.{Lit}
 use Rattle.cnf_core.specs.Literal.{HasSameLiterals}
-use Rattle.cnf_core.proofs.Same.{All-same}
+use Rattle.cnf_core.proofs.SameLiterals.{All-same}
 use Rattle.solver_tests.proofs.of_sat_core.clause.Goals as goal
 
 pub of-requires : goal.of-requires

@@ -2,7 +2,7 @@ use Rattle.std.proofs.Common.{◌≡◌, ◌<◌, ◌∷◌, [], length, subst, 
 use Rattle.cnf_core.specs.declared.literal.Lit.{Lit}
 use Rattle.rel_formula.specs.Bounds.{cells_of}
 use Rattle.swap_clauses.specs.Comparison.{AddsClause}
-use Rattle.swap_clauses.proofs.Links.{IsChain, begun, linked, ended, vars_below}
+use Rattle.swap_clauses.proofs.CellChains.{IsChain, begun, linked, ended, vars_below}
 use Rattle.swap_clauses.proofs.cells.add_swap.Goals as goal
 
 pub loop-cell-init : goal.loop-cell-init

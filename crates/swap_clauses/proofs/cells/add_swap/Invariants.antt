@@ -1,4 +1,4 @@
-use Rattle.swap_clauses.proofs.Links.{IsChain}
+use Rattle.swap_clauses.proofs.CellChains.{IsChain}
 use Rattle.swap_clauses.proofs.cells.add_swap.Given as goal
 
 abbrev pub invariant-loop-cell : goal.invariant-loop-cell

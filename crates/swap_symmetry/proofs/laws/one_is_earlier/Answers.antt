@@ -1,5 +1,5 @@
 use Rattle.std.proofs.Common.{inl, inr}
-use Rattle.swap_symmetry.proofs.Compared.{compared, only_one}
+use Rattle.swap_symmetry.proofs.ScenarioOrders.{compared, only_one}
 use Rattle.swap_symmetry.proofs.laws.one_is_earlier.Goals as goal
 
 pub returns : goal.returns

@@ -1,7 +1,7 @@
 use Rattle.std.proofs.Common.{◌≡◌, ◌<◌, length, Contains, arith, true, false}
 use Rattle.std.proofs.lemmas.List.Elements.{All-contains}
 use Rattle.rel_formula.specs.Bounds.{cells_of}
-use Rattle.swap_symmetry.proofs.First.{here_or_not, one_more, nowhere}
+use Rattle.swap_symmetry.proofs.FirstDifferences.{here_or_not, one_more, nowhere}
 use Rattle.swap_symmetry.proofs.order.earlier.Goals as goal
 
 pub returns-then-here-has : goal.returns-then-here-has

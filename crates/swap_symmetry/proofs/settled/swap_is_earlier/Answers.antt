@@ -2,7 +2,7 @@ use Rattle.std.proofs.Common.{◌≡◌, Contains, arith, true, false}
 use Rattle.rel_formula.specs.Bounds.{cells_of, cell_of}
 use Rattle.rel_formula.proofs.Lists.{some_below}
 use Rattle.swap_symmetry.specs.Swaps.{IsTakenInto}
-use Rattle.swap_symmetry.proofs.First.{here_or_not, one_more, nowhere}
+use Rattle.swap_symmetry.proofs.FirstDifferences.{here_or_not, one_more, nowhere}
 use Rattle.swap_symmetry.proofs.settled.swap_is_earlier.Goals as goal
 
 pub returns-then-here-has : goal.returns-then-here-has

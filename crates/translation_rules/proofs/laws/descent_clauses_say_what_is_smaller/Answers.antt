@@ -1,4 +1,4 @@
-use Rattle.translation_rules.proofs.Said.{smaller_said}
+use Rattle.translation_rules.proofs.LocalClauseLemmas.{smaller_said}
 use Rattle.translation_rules.proofs.laws.descent_clauses_say_what_is_smaller.Goals as goal
 
 pub returns : goal.returns

@@ -1,4 +1,4 @@
-use Rattle.translation_rules.proofs.Said.{left_said}
+use Rattle.translation_rules.proofs.LocalClauseLemmas.{left_said}
 use Rattle.translation_rules.proofs.laws.local_clauses_say_what_is_left.Goals as goal
 
 pub returns : goal.returns

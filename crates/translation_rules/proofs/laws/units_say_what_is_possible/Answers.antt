@@ -1,4 +1,4 @@
-use Rattle.translation_rules.proofs.Said.{possible_said}
+use Rattle.translation_rules.proofs.LocalClauseLemmas.{possible_said}
 use Rattle.translation_rules.proofs.laws.units_say_what_is_possible.Goals as goal
 
 pub returns : goal.returns

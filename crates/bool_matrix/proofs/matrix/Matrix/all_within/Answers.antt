@@ -6,7 +6,7 @@ use Rattle.bool_circuit.proofs.Values.{Extends-refl}
 use Rattle.bool_matrix.specs.declared.entry.Entry.{Entry}
 use Rattle.bool_matrix.specs.Cells.{TrueIn}
 use Rattle.bool_matrix.proofs.Loops.{entry_of, of_kept}
-use Rattle.bool_matrix.proofs.Compared.{Each, says_same, says_itself, says_both, each_none, each_more, test_kept, each_within}
+use Rattle.bool_matrix.proofs.ComparedEntries.{Each, says_same, says_itself, says_both, each_none, each_more, test_kept, each_within}
 use Rattle.bool_matrix.proofs.matrix.Matrix.all_within.Goals as goal
 
 pub loop-entry-init : goal.loop-entry-init

@@ -2,7 +2,7 @@ use Rattle.std.proofs.Common.{take, ◌≤◌, ◌+◌, ◌*◌, IsTrue}
 use Rattle.bool_circuit.specs.Network.{size}
 use Rattle.bool_circuit.specs.Value.{value_at, Extends}
 use Rattle.bool_matrix.specs.Cells.{TrueIn, Says}
-use Rattle.bool_matrix.proofs.Compared.{Each}
+use Rattle.bool_matrix.proofs.ComparedEntries.{Each}
 use Rattle.bool_matrix.proofs.matrix.Matrix.all_within.Given as goal
 
 abbrev pub invariant-loop-entry : goal.invariant-loop-entry

@@ -1,5 +1,5 @@
 use Rattle.bool_circuit.proofs.CallerLemmas.{Extends-trans}
-use Rattle.bool_matrix.proofs.Compared.{says_same, within_kept}
+use Rattle.bool_matrix.proofs.ComparedEntries.{says_same, within_kept}
 use Rattle.bool_matrix.proofs.matrix.Matrix.equal_to.Goals as goal
 
 pub returns-clause-says : goal.returns-clause-says

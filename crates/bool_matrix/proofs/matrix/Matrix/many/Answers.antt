@@ -9,7 +9,7 @@ use Rattle.bool_matrix.specs.Counter.{Counts, HasAtLeast}
 use Rattle.bool_matrix.proofs.Loops.{entry_of}
 use Rattle.bool_matrix.proofs.Nodes.{from_stands}
 use Rattle.bool_matrix.proofs.Terms.{sum_step}
-use Rattle.bool_matrix.proofs.Counting.{at_least_count, counts_same}
+use Rattle.bool_matrix.proofs.TrueEntries.{at_least_count, counts_same}
 use Rattle.bool_matrix.proofs.matrix.Matrix.many.Goals as goal
 
 pub returns-then-n-entries-clause-says : goal.returns-then-n-entries-clause-says

@@ -1,4 +1,4 @@
-use Rattle.bool_matrix.proofs.Compared.{says_same, within_kept}
+use Rattle.bool_matrix.proofs.ComparedEntries.{says_same, within_kept}
 use Rattle.bool_matrix.proofs.matrix.Matrix.within.Goals as goal
 
 pub returns-clause-says : goal.returns-clause-says

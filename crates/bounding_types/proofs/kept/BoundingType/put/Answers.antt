@@ -1,6 +1,6 @@
 use Rattle.std.proofs.Common.{ap, ◌∙◌, ◌++◌, ◌∷◌, []}
 use Rattle.std.specs.List.{list_any}
-use Rattle.bounding_types.proofs.Turns.{one_more}
+use Rattle.bounding_types.proofs.SetsSoFar.{one_more}
 use Rattle.bounding_types.proofs.kept.BoundingType.put.Goals as goal
 
 pub returns-clause-ok : goal.returns-clause-ok

@@ -1,7 +1,7 @@
 use Rattle.std.proofs.Common.{◌∙◌, ◌++◌, ◌∷◌, [], List, ap, sym, subst}
 use Rattle.cnf_core.specs.declared.literal.Lit.{Lit}
 use Rattle.circuit_cnf.specs.Encoding.{IsEncoding}
-use Rattle.circuit_cnf.proofs.Growing.{operands_among, add_marked}
+use Rattle.circuit_cnf.proofs.GrowingEncodings.{operands_among, add_marked}
 use Rattle.circuit_cnf.proofs.encoding.Encoding.add.Goals as goal
 
 pub literal_of-requires-clause-operands : goal.literal_of-requires-clause-operands

@@ -1,5 +1,5 @@
 use Rattle.std.proofs.Common.{◌≡◌, ◌+◌, ◌≤◌, ◌∷◌, [], sym, ◌∙◌, ap, length, arith, length-append}
-use Rattle.clause_pool.proofs.Counting.{table_kept, long_all, last_few}
+use Rattle.clause_pool.proofs.NewNumbers.{table_kept, long_all, last_few}
 use Rattle.clause_pool.proofs.renumbering.Renumbering.keep.Goals as goal
 
 pub overflow_add-number : goal.overflow_add-number

@@ -1,5 +1,5 @@
 use Rattle.std.proofs.Common.{◌≡◌, ◌+◌, ◌∷◌, [], sym, ◌∙◌, ap, length, arith, length-append}
-use Rattle.clause_pool.proofs.Counting.{table_left_out, long_all}
+use Rattle.clause_pool.proofs.NewNumbers.{table_left_out, long_all}
 use Rattle.clause_pool.proofs.renumbering.Renumbering.leave_out.Goals as goal
 
 pub invariant_of-self-2 : goal.invariant_of-self-2

@@ -8,7 +8,7 @@ use Rattle.cnf_core.specs.Literal.{negation_of}
 use Rattle.cnf_core.proofs.clause.Clause.of.Goals as goal
 use Rattle.cnf_core.proofs.clause.Clause.of.Goals.{in-Some+else-last-lit-2, in_default+in_ok-push-in_default, in_default-via-in-Some+else-last-lit, in_default-via-in_default}
 use Rattle.cnf_core.proofs.Literals.{lit_equal, signs_differ, signs_agree}
-use Rattle.cnf_core.proofs.Kept.{keeps_again, keeps_push, keeps_same, keeps_no_tautology, last_kept, last_below, moved, moved_back, keeps_variables}
+use Rattle.cnf_core.proofs.KeptLiterals.{keeps_again, keeps_push, keeps_same, keeps_no_tautology, last_kept, last_below, moved, moved_back, keeps_variables}
 
 pub returns-then-last-lit-2-clause-none : goal.returns-then-last-lit-2-clause-none
 returns-then-last-lit-2-clause-none c =

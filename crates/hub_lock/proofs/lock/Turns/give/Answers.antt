@@ -1,6 +1,6 @@
 use Rattle.std.proofs.Common.{rules, Some, None, ap, refl, sym, ◌∙◌, subst}
 use Rattle.hub_lock.specs.Passes.{Adds}
-use Rattle.hub_lock.proofs.Taking.{counts, hands_on, with_slot, with_count}
+use Rattle.hub_lock.proofs.TurnTaking.{counts, hands_on, with_slot, with_count}
 use Rattle.hub_lock.proofs.Passing.{its_view, its_slot}
 use Rattle.hub_lock.proofs.lock.Turns.give.Goals as goal
 

@@ -1,6 +1,6 @@
 use Rattle.std.proofs.Common.{sym, ap, subst, ◌∙◌}
 use Rattle.name_tables.specs.InForce.{in_force, AreTables, with_assertion}
-use Rattle.name_tables.proofs.Meetings.{in_error, same_tables, same_names, assertion_tables, assertion_more}
+use Rattle.name_tables.proofs.WordsMet.{in_error, same_tables, same_names, assertion_tables, assertion_more}
 use Rattle.name_tables.proofs.names.Names.declare_assertion.Goals as goal
 
 pub invariant_of-self-in_err-push : goal.invariant_of-self-in_err-push

@@ -1,6 +1,6 @@
 use Rattle.std.proofs.Common.{sym, ap, subst, ◌∙◌, ◌++◌, ◌∷◌, [], refl, arith, if◌then◌else◌}
 use Rattle.name_tables.specs.InForce.{in_force, AreTables, with_callee}
-use Rattle.name_tables.proofs.Meetings.{in_error, same_tables, same_names, callee_tables, callee_more}
+use Rattle.name_tables.proofs.WordsMet.{in_error, same_tables, same_names, callee_tables, callee_more}
 use Rattle.name_tables.proofs.names.Names.declare_callee.Goals as goal
 
 pub invariant_of-self-in_err-reserve : goal.invariant_of-self-in_err-reserve

@@ -1,6 +1,6 @@
 use Rattle.std.proofs.Common.{sym, ap, subst, ◌∙◌}
 use Rattle.name_tables.specs.InForce.{in_force, AreTables, with_field}
-use Rattle.name_tables.proofs.Meetings.{in_error, same_tables, same_names, field_tables, field_more}
+use Rattle.name_tables.proofs.WordsMet.{in_error, same_tables, same_names, field_tables, field_more}
 use Rattle.name_tables.proofs.names.Names.declare_field.Goals as goal
 
 pub invariant_of-self-in_err-push : goal.invariant_of-self-in_err-push

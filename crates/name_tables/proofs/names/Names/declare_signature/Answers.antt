@@ -1,6 +1,6 @@
 use Rattle.std.proofs.Common.{sym, ap, subst, ◌∙◌}
 use Rattle.name_tables.specs.InForce.{in_force, AreTables, with_signature}
-use Rattle.name_tables.proofs.Meetings.{in_error, same_tables, same_names, signature_tables, signature_more}
+use Rattle.name_tables.proofs.WordsMet.{in_error, same_tables, same_names, signature_tables, signature_more}
 use Rattle.name_tables.proofs.names.Names.declare_signature.Goals as goal
 
 pub invariant_of-self-in_err-push : goal.invariant_of-self-in_err-push

@@ -1,6 +1,6 @@
 use Rattle.std.proofs.Common.{sym, ap, subst, ◌∙◌, ◌∷◌}
 use Rattle.name_tables.specs.InForce.{InForce, in_force, AreTables, with_locals}
-use Rattle.name_tables.proofs.Meetings.{in_error, same_tables, same_names, local_tables, local_more}
+use Rattle.name_tables.proofs.WordsMet.{in_error, same_tables, same_names, local_tables, local_more}
 use Rattle.name_tables.proofs.names.Names.enter.Goals as goal
 
 pub invariant_of-self-in_err-enter : goal.invariant_of-self-in_err-enter

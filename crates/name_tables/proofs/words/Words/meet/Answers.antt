@@ -5,7 +5,7 @@ use Rattle.std.proofs.lemmas.Option.{slice_get-get_or, slice_get-map}
 use Rattle.name_tables.specs.InForce.{with_word}
 use Rattle.name_tables.proofs.Standings.{found}
 use Rattle.name_tables.proofs.Texts.{equal_texts}
-use Rattle.name_tables.proofs.Meetings.{inserted, met_before}
+use Rattle.name_tables.proofs.WordsMet.{inserted, met_before}
 use Rattle.name_tables.proofs.words.Words.meet.Goals as goal
 
 pub returns-in-Some-clause-words : goal.returns-in-Some-clause-words

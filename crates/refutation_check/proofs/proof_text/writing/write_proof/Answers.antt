@@ -18,6 +18,6 @@ returns-clause-proof c =
     ∙ ap (λ (ss : List Step). flat_map clause_text clauses ++ flat_map step_text ss) c.steps-steps.ensures.steps in
     λ short. record {
       short = short;
-      says = subst (λ (text : List ℕ). Says (lines text) clauses log) (sym whole) (written_says clauses log c.vars-vars.ensures.formula.clauses c.steps-steps.ensures.log.clauses c.requires);
+      says = subst (λ (text : List ℕ). Says (lines text) clauses log) (sym whole) (written_says clauses log c.vars.ensures.formula.clauses c.steps-steps.ensures.log.clauses c.requires);
       vars = refl;
     }

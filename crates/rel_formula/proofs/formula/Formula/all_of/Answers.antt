@@ -1,4 +1,4 @@
-use Rattle.rel_formula.proofs.Parts.{And-tree}
+use Rattle.rel_formula.proofs.AndOrParts.{And-tree}
 use Rattle.rel_formula.proofs.formula.Formula.all_of.Goals as goal
 
 pub returns : goal.returns

@@ -1,4 +1,4 @@
-use Rattle.rel_formula.proofs.Parts.{Or-tree}
+use Rattle.rel_formula.proofs.AndOrParts.{Or-tree}
 use Rattle.rel_formula.proofs.formula.Formula.any_of.Goals as goal
 
 pub returns : goal.returns

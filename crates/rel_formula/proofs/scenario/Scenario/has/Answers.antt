@@ -4,7 +4,7 @@ use Rattle.std.specs.List.Sorted.{IsBinarySearchResult}
 use Rattle.std.specs.Ordering.{nat_cmp}
 use Rattle.std.proofs.lemmas.List.{get_or_default}
 use Rattle.std.proofs.lemmas.List.Sorted.{searched}
-use Rattle.rel_formula.proofs.Rising.{Rises, never_fall, absent}
+use Rattle.rel_formula.proofs.RisingNumbers.{Rises, never_fall, absent}
 use Rattle.rel_formula.proofs.scenario.Scenario.has.Goals as goal
 
 told : (xs : List ℕ) (x : ℕ) (r : Result ℕ ℕ) → Rises xs → IsBinarySearchResult (λ y. nat_cmp y x) xs r → IsTrue (is_ok r) ↔ Contains xs x

@@ -3,7 +3,7 @@ use Rattle.tuple_core.specs.Rows.{Rows, IsSetOf}
 use Rattle.tuple_core.proofs.Congruence.{set_of_same}
 use Rattle.rel_formula.specs.Instance.{InSome}
 use Rattle.rel_formula.specs.Tables.{values_of}
-use Rattle.rel_formula.proofs.Told.{tops_there, tops_unary, some_same}
+use Rattle.rel_formula.proofs.ScenarioTruth.{tops_there, tops_unary, some_same}
 use Rattle.rel_formula.proofs.tables.Tables.of.Goals as goal
 
 pub universe-requires-clause-there : goal.universe-requires-clause-there

@@ -17,7 +17,7 @@ use Rattle.alloy_lex.specs.Fronts.{is_space, is_letter, is_digit, is_name_byte, 
 use Rattle.alloy_lex.specs.Tokens.{Step, passed, token_at, step_at, step_of, tokens_from, origin, tokens_of}
 use Rattle.alloy_lex.specs.Reading.{IsRun, IsClosed, Separates, nothing, space, slashes, dashes, block, IsName, NoSecond, IsPath, IsToken, IsSymbol, IsLongest, Reads}
 use Rattle.alloy_lex.proofs.Fronts.{one_passes, longest_found}
-use Rattle.alloy_lex.proofs.Found.{is_longest, pair_is, no_and, turned}
+use Rattle.alloy_lex.proofs.FrontTexts.{is_longest, pair_is, no_and, turned}
 use Rattle.alloy_lex.proofs.Readings.{passed_append, passed_none}
 use Rattle.alloy_lex.proofs.Paths.{take_front, drop_front, run_len, second_back, no_length}
 use Rattle.alloy_lex.proofs.Slices.{has_byte}

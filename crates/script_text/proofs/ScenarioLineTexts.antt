@@ -10,14 +10,14 @@ use Rattle.rel_formula.specs.declared.problem.Cell.{Cell}
 use Rattle.rel_formula.specs.Bounds.{Bounded, IsRelation, IsAtomOf, relation_at, cell_of, cells_of}
 use Rattle.rel_formula.specs.Instance.{IsScenario, InRelation}
 use Rattle.rel_formula.specs.Tables.{AreTables}
-use Rattle.rel_formula.proofs.Open.{cell_open, cell_once}
-use Rattle.rel_formula.proofs.Same.{same_rising}
+use Rattle.rel_formula.proofs.OpenCells.{cell_open, cell_once}
+use Rattle.rel_formula.proofs.SameNumbers.{same_rising}
 use Rattle.rel_formula.proofs.Tabled.{no_relation}
 use Rattle.std.proofs.lemmas.Option.{slice_get-get_or}
 use Rattle.script_text.specs.Lines.{relation_lines}
 use Rattle.script_text.specs.Printable.{IsWritable}
 use Rattle.script_text.specs.Replies.{IsScenarioText}
-use Rattle.script_text.proofs.Told.{IsAtom, IsTuple, Fits, tuples_of, same_lines}
+use Rattle.script_text.proofs.RelationLineTexts.{IsAtom, IsTuple, Fits, tuples_of, same_lines}
 
 zip_from : {X Y : Type 0} (R : X → Y → Type 0) (xs : List X) (ys : List Y) (d : X) (e : Y) → length ys ≡ length xs → ((k : ℕ) → k < length ys → R (get_or xs k d) (get_or ys k e)) → AllZip R xs ys
 zip_from R [] [] d e l h = tt

@@ -15,7 +15,7 @@ use Rattle.circuit_cnf.specs.Resting.{Reads, RestsOn}
 use Rattle.circuit_cnf.specs.ClauseForm.{inputs_of, HasInputs, AreGates}
 use Rattle.circuit_cnf.specs.Encoding.{AreMarks, IsAmong, literal_at, encoded_value, DefinesNext, IsLiteral, IsEncoding}
 use Rattle.circuit_cnf.proofs.Agreeing.{satisfies_agrees, shape_agrees, encoded_agrees}
-use Rattle.circuit_cnf.proofs.Marking.{rests_further, reads_before}
+use Rattle.circuit_cnf.proofs.OutputMarks.{rests_further, reads_before}
 use Rattle.circuit_cnf.proofs.Pushed.{negation_value}
 
 -- before the first node

@@ -11,7 +11,7 @@ use Rattle.bool_circuit.specs.Folding.{IsConstant}
 use Rattle.bool_circuit.proofs.CallerLemmas.{Extends-trans}
 use Rattle.bool_matrix.specs.Cells.{Cells, TrueIn, ThereIn, IsWithin, Says}
 use Rattle.bool_matrix.specs.Counter.{HasAtLeast}
-use Rattle.bool_matrix.proofs.Compared.{says_same}
+use Rattle.bool_matrix.proofs.ComparedEntries.{says_same}
 use Rattle.rel_formula.specs.Bounds.{Bounded}
 use Rattle.rel_formula.specs.Kernel.{ExpressionTree, FormulaTree, within, equal, at_least, negation}
 use Rattle.rel_formula.specs.Meaning.{InValue}

@@ -11,12 +11,12 @@ use Rattle.bool_matrix.specs.declared.entry.Entry.{Entry}
 use Rattle.bool_matrix.specs.Cells.{Cells, IsCells, ThereIn}
 use Rattle.bool_matrix.specs.Terms.{tuples, joins}
 use Rattle.bool_matrix.proofs.Distinct.{In, tuples_distinct, tuple_there, there_tuple}
-use Rattle.bool_matrix.proofs.Meetings.{joins_bounded}
+use Rattle.bool_matrix.proofs.JoiningPairs.{joins_bounded}
 use Rattle.rel_formula.specs.Sizes.{IsListOf, HasSize}
 use Rattle.rel_formula.proofs.Lists.{pairs_map}
-use Rattle.rel_formula.proofs.Open.{map_has}
+use Rattle.rel_formula.proofs.OpenCells.{map_has}
 use Rattle.rel_terms.specs.Terms.{Meeting}
-use Rattle.rel_terms.proofs.Sized.{list_once}
+use Rattle.rel_terms.proofs.TupleSizes.{list_once}
 
 pub contains_there : (m : Cells) (t : List Atom) → Contains (tuples m) t → ThereIn m t
 contains_there m t c = let h = map_has (λ (e : Entry). e.tuple) m.entries t c in (h.0, h.1, h.2)

@@ -19,7 +19,7 @@ use Rattle.script_format.specs.Lines.{step_line, directive_of_three, directive_o
 use Rattle.script_format.specs.Reading.{Reading, Start, asks, new_session, after, changed, with_command}
 use Rattle.script_format.specs.Script.{Leads, IsScript}
 use Rattle.script_format.specs.Limits.{IsAllowed, asked_by, asked_in}
-use Rattle.script_format.proofs.Leads.{beyond}
+use Rattle.script_format.proofs.LineReadings.{beyond}
 use Rattle.script_format.proofs.Soundness.{sound_after, sound_at_start}
 
 -- ---- how many scenarios

@@ -10,7 +10,7 @@ use Rattle.bool_circuit.specs.Network.{Network}
 use Rattle.circuit_cnf.specs.ClauseForm.{IsClauseForm, IsSmall as IsSmallForm}
 use Rattle.rel_formula.specs.Bounds.{Bounded, cells_of}
 use Rattle.rel_formula.specs.Renaming.{IsSymmetric}
-use Rattle.rel_formula.proofs.Open.{map_has, has_map}
+use Rattle.rel_formula.proofs.OpenCells.{map_has, has_map}
 use Rattle.rel_terms.specs.Terms.{HasTerms, IsTranslatable}
 use Rattle.swap_symmetry.specs.Swaps.{AreNeighbours}
 use Rattle.translation_rules.specs.Translation.{SwapClauses, Translated, StandsFor}

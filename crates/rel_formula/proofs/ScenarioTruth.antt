@@ -11,7 +11,7 @@ use Rattle.rel_formula.specs.Bounds.{Bounded, IsProblem, relation_at}
 use Rattle.rel_formula.specs.Instance.{InRelation, InSome, HoldsWhere, structure_of}
 use Rattle.rel_formula.specs.Meaning.{Truth}
 use Rattle.rel_formula.specs.Tables.{AreTables, AreTablesOf, Tabled, values_of, tabled}
-use Rattle.rel_formula.proofs.Open.{cell_open}
+use Rattle.rel_formula.proofs.OpenCells.{cell_open}
 use Rattle.rel_formula.proofs.Tabled.{no_rows, no_relation}
 use Rattle.rel_formula.proofs.Congruence.{truth_same}
 

@@ -10,7 +10,7 @@ use Rattle.rel_terms.specs.Numbers.{Number, Is, ◌⊕◌, ◌⊗◌}
 use Rattle.rel_terms.specs.Terms.{SumsOver}
 use Rattle.rel_terms.specs.Counting.{Adds, IsCounted, RowsHave}
 use Rattle.rel_terms.proofs.Numbers.{only_is, only_product}
-use Rattle.rel_terms.proofs.Sized.{rows_size, rows_list}
+use Rattle.rel_terms.proofs.TupleSizes.{rows_size, rows_list}
 use Rattle.rel_terms.proofs.Adding.{adds_then, adds_both, adds_only, adds_left}
 use Rattle.rel_terms.proofs.Counted.{adds_alike, alike_size, counted_same}
 use Rattle.rel_terms.proofs.Parted.{AtomHas, rows_sums}

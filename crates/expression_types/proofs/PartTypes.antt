@@ -11,7 +11,7 @@ use Rattle.model_types.specs.Bounding.{Lists, Types, type_of, types_of, links_ty
 use Rattle.bounding_types.specs.Same.{AreSame}
 use Rattle.expression_types.specs.declared.known.Known.{Known}
 use Rattle.expression_types.specs.Types.{AreEachSame, StandFor}
-use Rattle.expression_types.proofs.Seen.{refers_seen, called_seen, chain_seen, path_seen}
+use Rattle.expression_types.proofs.SeenPhrases.{refers_seen, called_seen, chain_seen, path_seen}
 
 -- what is found is the type of a part, whatever types the tables stand for
 abbrev pub IsType : Known → ℕ → List Lists → Phrase → Lists → Type 0

@@ -6,7 +6,7 @@ use Rattle.cnf_core.specs.declared.literal.Lit.{Lit}
 use Rattle.cnf_core.specs.Valuation.{Satisfies}
 use Rattle.refutation_check.specs.SearchLog.{IsVarOf}
 use Rattle.rel_formula.specs.Bounds.{Bounded, cells_of}
-use Rattle.rel_formula.proofs.Open.{cons_cases}
+use Rattle.rel_formula.proofs.OpenCells.{cons_cases}
 use Rattle.swap_symmetry.specs.Swaps.{IsTakenInto}
 use Rattle.translation_rules.specs.Translation.{var_of}
 use Rattle.translation_rules.proofs.Joining.{carried}

@@ -17,7 +17,7 @@ use Rattle.bool_matrix.specs.declared.entry.Entry.{Entry}
 use Rattle.bool_matrix.specs.Entries.{IsAscending}
 use Rattle.bool_matrix.specs.Cells.{Cells, ThereIn, TrueIn}
 use Rattle.bool_matrix.specs.Closure.{HasFewAtoms}
-use Rattle.bool_matrix.proofs.Compared.{Each, each_more}
+use Rattle.bool_matrix.proofs.ComparedEntries.{Each, each_more}
 
 -- no earlier entry has the tuple of a later one
 pub not_before : (xs : List Entry) (i : ℕ) (x : Entry) → IsAscending xs → i < length xs → x ≡ get_or xs i x → (e : Entry) → Contains (take i xs) e → e.tuple ≡ x.tuple → ⊥

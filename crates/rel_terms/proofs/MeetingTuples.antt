@@ -21,7 +21,7 @@ use Rattle.rel_formula.proofs.Lists.{pairs_map}
 use Rattle.rel_terms.specs.Numbers.{Is, ◌⊕◌}
 use Rattle.rel_terms.specs.Counting.{Adds, AddsForEach}
 use Rattle.rel_terms.specs.Terms.{Meeting}
-use Rattle.rel_terms.proofs.Sized.{list_append, list_same}
+use Rattle.rel_terms.proofs.TupleSizes.{list_append, list_same}
 use Rattle.rel_terms.proofs.Adding.{adds_both, adds_same}
 
 -- tuples of one length go before each other whatever follows them

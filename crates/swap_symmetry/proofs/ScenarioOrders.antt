@@ -3,9 +3,9 @@ use Rattle.std.proofs.Common.{◌≡◌, ℕ, ◌<◌, ◌≤◌, ◌⊎◌, inl
 use Rattle.std.proofs.lemmas.Bool.{cases_lt}
 use Rattle.std.proofs.lemmas.List.Elements.{All-contains}
 use Rattle.swap_symmetry.specs.Order.{IsEarlier}
-use Rattle.rel_formula.proofs.Rising.{Rises}
+use Rattle.rel_formula.proofs.RisingNumbers.{Rises}
 use Rattle.rel_formula.proofs.Lists.{pairs_head, pairs_tail}
-use Rattle.rel_formula.proofs.Open.{cons_cases, cons_first, cons_later}
+use Rattle.rel_formula.proofs.OpenCells.{cons_cases, cons_first, cons_later}
 
 none_in : (n : ℕ) → Contains [] n → ⊥
 none_in n c = let l = c.1 in omega arith

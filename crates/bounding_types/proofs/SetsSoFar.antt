@@ -12,7 +12,7 @@ use Rattle.indexmap.specs.IndexSet.{insert_key}
 use Rattle.model_types.specs.Bounding.{Lists, joins, through, ending_in, starting_in}
 use Rattle.bounding_types.specs.Same.{lists_of, AreSame}
 use Rattle.bounding_types.proofs.Sets.{filter_pieces}
-use Rattle.bounding_types.proofs.Alike.{same, same_then, same_append, same_through}
+use Rattle.bounding_types.proofs.SameListsMade.{same, same_then, same_append, same_through}
 
 -- ---- one list more
 

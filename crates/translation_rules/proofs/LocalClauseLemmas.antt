@@ -10,7 +10,7 @@ use Rattle.cnf_core.specs.Literal.{negation_of}
 use Rattle.cnf_core.specs.Valuation.{literal_value, clause_value, Satisfies}
 use Rattle.rel_formula.specs.Bounds.{Bounded, cells_of}
 use Rattle.rel_formula.specs.Instance.{AreCells, IsScenario, IsInstance, Includes}
-use Rattle.rel_formula.proofs.Open.{cons_first, filter_has, has_filter, map_has, has_map}
+use Rattle.rel_formula.proofs.OpenCells.{cons_first, filter_has, has_filter, map_has, has_map}
 use Rattle.swap_symmetry.specs.Swaps.{IsSettledBeside, NoSwapIsEarlier}
 use Rattle.translation_rules.specs.Free.{IsPicked, is_free_of}
 use Rattle.translation_rules.specs.Translation.{Translated, StandsFor, HasCellsOf, IsSatisfiableAt, var_of, clauses_of_swaps}

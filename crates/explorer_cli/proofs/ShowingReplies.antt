@@ -5,7 +5,7 @@ use Rattle.std.proofs.lemmas.List.{append-nil, map-append}
 use Rattle.std.proofs.lemmas.List.Elements.{filter-append, All-contains, Contains-append_left, Contains-append_right, Contains-push}
 use Rattle.std.proofs.lemmas.Slice.Eq.{bytes_eq-Decides}
 use Rattle.rel_formula.specs.Bounds.{Bounded}
-use Rattle.rel_formula.proofs.Open.{cons_cases}
+use Rattle.rel_formula.proofs.OpenCells.{cons_cases}
 use Rattle.swap_symmetry.specs.Due.{IsDue}
 use Rattle.swap_symmetry.specs.Order.{IsEarlier}
 use Rattle.session_words.specs.declared.steps.Step.{Step}

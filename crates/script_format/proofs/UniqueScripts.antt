@@ -14,7 +14,7 @@ use Rattle.script_format.specs.Reading.{Reading, Start}
 use Rattle.script_format.specs.Script.{Leads, IsFirstFault, IsText, IsScript, fault_at, HasLineFault, HasFault}
 use Rattle.script_format.specs.Read.{Reads}
 use Rattle.script_format.specs.Sound.{IsSound}
-use Rattle.script_format.proofs.Leads.{leads_one, no_fault, same_fault}
+use Rattle.script_format.proofs.LineReadings.{leads_one, no_fault, same_fault}
 use Rattle.script_format.proofs.Sizes.{sizes, each_size, text_size}
 use Rattle.script_format.proofs.Soundness.{sound_after, sound_at_start, sizes_after}
 

@@ -8,7 +8,7 @@ use Rattle.std.proofs.lemmas.Map.Steps.{length-le_from_distinct_below}
 use Rattle.indexmap.specs.IndexSet.{insert_key}
 use Rattle.number_cycles.specs.Walks.{rows_of, row_of, among, IsEdge, IsWalk, IsCyclic, IsAcyclic}
 use Rattle.number_cycles.specs.Marks.{met_with, Meets}
-use Rattle.number_cycles.proofs.Leads.{not_both, either, or_left, or_right, has_row, walk_behind, stays_in}
+use Rattle.number_cycles.proofs.WalkEdges.{not_both, either, or_left, or_right, has_row, walk_behind, stays_in}
 
 -- ---- one number among others
 

@@ -1,11 +1,9 @@
 -- Rising lists of numbers.
-use Rattle.std.proofs.Common.{◌≡◌, ℕ, zero, ◌+◌, ◌-◌, ◌<◌, ◌≤◌, ◌↔◌, ◌⊎◌, inl, inr, List, [], ◌∷◌, length, get_or, Contains, AllPairs, refl, sym, ◌∙◌, ap, subst, arith}
+use Rattle.std.proofs.Common.{◌≡◌, ℕ, ◌+◌, ◌-◌, ◌<◌, ◌≤◌, inl, inr, List, length, get_or, Contains, AllPairs, sym, ◌∙◌, ap, subst, arith}
 use Rattle.std.specs.Prelude.{insert}
 use Rattle.std.proofs.lemmas.Bool.{cases_lt}
 use Rattle.std.proofs.lemmas.List.{get_or_default}
 use Rattle.std.proofs.lemmas.List.Edits.{length-insert, get_or-insert_below, get_or-insert_at, get_or-insert_above}
-use Rattle.std.proofs.lemmas.List.Elements.{Contains-append_cases, Contains-append_right, Contains-push_cases}
-use Rattle.std.proofs.lemmas.List.Sorted.{IsPermutation-insert, IsPermutation-sym, Contains-permutation}
 
 abbrev pub Rises : List ℕ → Type 0
 Rises xs = AllPairs (λ m n. m < n) xs
@@ -59,13 +57,3 @@ module _ (xs : List ℕ) (x i : ℕ) (up : Rises xs) (l : i ≤ length xs)
               ])
         ]
       ]
-
-pub insert_contains : (xs : List ℕ) (i x t : ℕ) → Contains (insert xs i x) t ↔ (Contains xs t ⊎ (t ≡ x))
-insert_contains xs i x t =
-    let moved = IsPermutation-insert xs i x in (
-      λ c. elim (Contains-append_cases (x ∷ []) xs t (Contains-permutation (insert xs i x) (x ∷ xs) t (IsPermutation-sym (x ∷ xs) (insert xs i x) moved) c)) [
-        | inl a ↦ elim (Contains-push_cases [] x t a) [ inl none ↦ absurd (let l = none.1 in omega arith) | inr e ↦ inr (sym e) ]
-        | inr b ↦ inl b
-      ],
-      λ s. Contains-permutation (x ∷ xs) (insert xs i x) t moved (elim s [ inl c ↦ Contains-append_right (x ∷ []) xs t c | inr e ↦ subst (λ u. Contains (x ∷ xs) u) (sym e) (zero, omega arith, refl) ]),
-    )

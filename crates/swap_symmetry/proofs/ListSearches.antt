@@ -4,7 +4,7 @@ use Rattle.std.proofs.lemmas.Bool.{cases_lt}
 use Rattle.tuple_core.specs.declared.atom.Atom.{Atom}
 use Rattle.rel_formula.specs.declared.problem.Relation.{Relation}
 use Rattle.rel_formula.specs.Bounds.{Bounded, IsAtomOf}
-use Rattle.rel_formula.proofs.Open.{cons_cases, cons_first, cons_later}
+use Rattle.rel_formula.proofs.OpenCells.{cons_cases, cons_first, cons_later}
 
 -- two numbers are one or not
 pub same_or_not : (m n : ℕ) → (m ≡ n) ⊎ (m ≡ n → ⊥)
