@@ -2,7 +2,7 @@ pub mod Commands
 pub mod Fronts
 pub mod Problems
 pub mod Replied
-pub mod Served
+pub mod ServedOutputs
 pub mod ShowingReplies
 pub mod Statuses
 pub mod Usables

@@ -1,6 +1,7 @@
 // The command `run`.
 ghost use Rattle.std.specs.Prelude.{◌≡◌, ◌⊎◌, ◌≤◌, ℕ, List, drop};
 ghost use Rattle.outside_io.specs.Count.{Rose};
+ghost use Rattle.outside_io.specs.Front.{TakesFront};
 ghost use Rattle.explorer_cli.specs.Outcome.{IsRunStatus, HasFailed, IsStatusOf, Wrote, IsPartOfAnswer};
 
 use crate::answer::answer_to;
@@ -25,8 +26,10 @@ pub fn run_script<S: Source, K: Sink>(
     ensures sink_failed { result ≡ 6 → Rose (K.faults sink.old) (K.faults sink.new) }
     ensures no_memory { result ≡ 7 → sink.new ≡ sink.old }
 
-    // All that the source had is read, and of more than a script may have just one byte beyond that.
+    // All that the source had is read, and of more than a script may have just one byte beyond that; under 5 and 7 too no more is
+    // taken.
     ensures read { S.tells source.old → ((result ≡ 5) ⊎ (result ≡ 7)) ⊎ (S.left source.new ≡ drop 1048577 (S.left source.old)) }
+    ensures taken { S.tells source.old → TakesFront 1048577 (S.left source.old) (S.left source.new) }
 
     // What is written is the answer to all that the source had, and under 6 a part of it.
     ensures answer { S.tells source.old → K.tells sink.old

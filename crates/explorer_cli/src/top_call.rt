@@ -5,7 +5,7 @@ ghost use Rattle.command_words.specs.declared.reading.Command.TheVariants.{Check
 ghost use Rattle.command_words.specs.Words.{Says, SaysNone};
 ghost use Rattle.command_words.specs.Read.{texts};
 ghost use Rattle.outside_io.specs.Count.{Rose};
-ghost use Rattle.outside_io.specs.Front.{AppendsPart};
+ghost use Rattle.outside_io.specs.Front.{AppendsPart, TakesFront};
 ghost use Rattle.explorer_cli.specs.Outcome.{SaysRun, IsStatus, HasFailed, IsStatusOf, Wrote, IsPartOfAnswer, words_line};
 ghost use Rattle.proof_command.specs.Answer as check;
 
@@ -38,9 +38,10 @@ pub fn explore<S: Source, K: Sink>(
     ensures sink_failed { result ≡ 6 → Rose (K.faults sink.old) (K.faults sink.new) }
     ensures no_memory { result ≡ 7 → sink.new ≡ sink.old }
 
-    // `run` reads all that the source had, and of more than a script may have just one byte beyond that. What is written
-    // is the answer to it, where sessions begin with the budget of the words, and under 6 a part of that.
+    // `run` reads all that the source had, and of more than a script may have just one byte beyond that; under 5 and 7 too it takes
+    // no more. What is written is the answer to it, where sessions begin with the budget of the words, and under 6 a part of that.
     ensures read { S.tells source.old → (budget : ℕ) → SaysRun (texts words.now) budget → ((result ≡ 5) ⊎ (result ≡ 7)) ⊎ (S.left source.new ≡ drop 1048577 (S.left source.old)) }
+    ensures front { S.tells source.old → (budget : ℕ) → SaysRun (texts words.now) budget → TakesFront 1048577 (S.left source.old) (S.left source.new) }
     ensures answer { S.tells source.old → K.tells sink.old → (budget : ℕ) → SaysRun (texts words.now) budget
         → HasFailed result ⊎ Wrote budget (S.left source.old) result (K.written sink.old) (K.written sink.new) }
     ensures part { S.tells source.old → K.tells sink.old → (budget : ℕ) → SaysRun (texts words.now) budget → result ≡ 6 → IsPartOfAnswer budget (S.left source.old) (K.written sink.old) (K.written sink.new) }
@@ -54,6 +55,7 @@ pub fn explore<S: Source, K: Sink>(
 
     // `check` does the same with a proof text.
     ensures check_read { S.tells source.old → Says (texts words.now) Check → ((result ≡ 5) ⊎ (result ≡ 7)) ⊎ (S.left source.new ≡ drop 268435457 (S.left source.old)) }
+    ensures check_front { S.tells source.old → Says (texts words.now) Check → TakesFront 268435457 (S.left source.old) (S.left source.new) }
     ensures check_answer { S.tells source.old → K.tells sink.old → Says (texts words.now) Check
         → HasFailed result ⊎ check.Wrote (S.left source.old) result (K.written sink.old) (K.written sink.new) }
     ensures check_part { S.tells source.old → K.tells sink.old → Says (texts words.now) Check → result ≡ 6 → check.IsPartOfAnswer (S.left source.old) (K.written sink.old) (K.written sink.new) }

@@ -10,10 +10,10 @@ mod sink;
 mod source;
 mod streams;
 
-pub use memory::{MemSink, MemSource};
-pub use sink::{Sink, finish, write_all};
-pub use source::{Failed, ReadFault, Source, read_all};
-pub use streams::{StdSink, StdSource};
+pub use crate::memory::{MemSink, MemSource};
+pub use crate::sink::{Sink, finish, write_all};
+pub use crate::source::{Failed, ReadFault, Source, read_all};
+pub use crate::streams::{StdSink, StdSource};
 
 #[cfg(test)]
 mod tests;

@@ -60,6 +60,10 @@ pub fn finish<K: Sink>(sink: &mut K, status: u8, text: &[u8]) -> u8
 
     ensures all { K.tells sink.old → (result ≡ 6) ⊎ (K.written sink.new ≡ K.written sink.old ++ text.now) }
     ensures part { K.tells sink.old → result ≡ 6 → (status ≡ 6) ⊎ AppendsPart (K.written sink.old) (K.written sink.new) text.now }
+
+    // A text whose status is 6 itself is written all the same.
+    ensures six { K.tells sink.old → status ≡ 6
+        → (K.written sink.new ≡ K.written sink.old ++ text.now) ⊎ (Rose (K.faults sink.old) (K.faults sink.new) × AppendsPart (K.written sink.old) (K.written sink.new) text.now) }
 {
     match write_all(sink, text) {
         Ok(()) => status,

@@ -73,7 +73,7 @@ impl From<AllocError> for ReadFault {
 const PIECE: usize = 4096;
 
 /// Reads to the end, or to one byte beyond the limit: more bytes than the limit mean that there were too many.
-/// At an error the front of what was left is taken, and lost.
+/// A front of what was left is taken, after an error too, and then it is lost.
 pub fn read_all<S: Source>(
     alloc: Global,
     source: &mut S,
@@ -91,7 +91,7 @@ pub fn read_all<S: Source>(
         IfOk result (λ bytes. (bytes.items ≡ S.left source.old) × (S.left source.new ≡ [])) }
 
     ensures failed { IsErrOf result ReadFault.Failed → Rose (S.faults source.old) (S.faults source.new) }
-    ensures taken { S.tells source.old → OnErr result (TakesFront (limit + 1) (S.left source.old) (S.left source.new)) }
+    ensures taken { S.tells source.old → TakesFront (limit + 1) (S.left source.old) (S.left source.new) }
 {
     let mut bytes = Vec::new(alloc);
     let mut buffer = [0; PIECE];

@@ -1,5 +1,5 @@
 // A source over the library's reader, and a sink over its writer.
-ghost use Rattle.std.specs.Prelude.{◌≡◌, ℕ, ◌<◌, ◌≤◌, ◌↔◌, List, [], ◌++◌, length, take, Ok, IfSome, IfOk, OnOk, OnErr};
+ghost use Rattle.std.specs.Prelude.{◌≡◌, ℕ, ◌<◌, ◌≤◌, ◌↔◌, List, [], ◌++◌, length, take, Ok, IfSome, IfNone, IfOk, OnOk, OnErr};
 ghost use Rattle.outside_io.specs.Count.{Rose, raised};
 ghost use Rattle.std.specs.Io.KnownBytes.{Appends, ReadConsumes};
 ghost use Rattle.outside_io.specs.Streams.{untold};
@@ -128,6 +128,9 @@ impl<W: Write + Drop> Sink for StdSink<W> {
 
         // Where the writer's bytes are known, they grow by those.
         ensures passed { IfOk result (λ n. Appends (W.contents self.old.stream) (W.contents self.new.stream) (take n piece.now)) }
+
+        // After an error they may have grown by a front of the piece, and by nothing else.
+        ensures lost { OnErr result ((n : ℕ) × Appends (W.contents self.old.stream) (W.contents self.new.stream) (take n piece.now)) }
     {
         if piece.is_empty() {
             return Ok(0);
@@ -147,6 +150,7 @@ fn write_through<W: Write>(writer: &mut W, piece: &[u8]) -> Option<usize>
     ensures most { IfSome result (λ n. n ≤ length piece.now) }
     ensures least { IfSome result (λ n. 0 < n) }
     ensures passed { IfSome result (λ n. Appends (W.contents writer.old) (W.contents writer.new) (take n piece.now)) }
+    ensures lost { IfNone result ((n : ℕ) × Appends (W.contents writer.old) (W.contents writer.new) (take n piece.now)) }
 {
     let count = writer.write(piece).ok()?;
     writer.flush().ok()?;

@@ -1,6 +1,7 @@
 // The command.
 ghost use Rattle.std.specs.Prelude.{◌≡◌, ◌⊎◌, ℕ, List, drop};
 ghost use Rattle.outside_io.specs.Count.{Rose};
+ghost use Rattle.outside_io.specs.Front.{TakesFront};
 ghost use Rattle.proof_command.specs.Answer.{IsCheckStatus, HasFailed, Wrote, IsStatusOf, IsPartOfAnswer};
 
 use crate::answer::answer_to;
@@ -19,8 +20,10 @@ pub fn check_proof<S: Source, K: Sink>(alloc: Global, source: &mut S, sink: &mut
     ensures sink_failed { result ≡ 6 → Rose (K.faults sink.old) (K.faults sink.new) }
     ensures no_memory { result ≡ 7 → sink.new ≡ sink.old }
 
-    // All that the source had is read, and of more than a proof text may have just one byte beyond that.
+    // All that the source had is read, and of more than a proof text may have just one byte beyond that; under 5 and 7 too no more
+    // is taken.
     ensures read { S.tells source.old → ((result ≡ 5) ⊎ (result ≡ 7)) ⊎ (S.left source.new ≡ drop 268435457 (S.left source.old)) }
+    ensures taken { S.tells source.old → TakesFront 268435457 (S.left source.old) (S.left source.new) }
 
     // What is written is the answer to all that the source had, and under 6 a part of it.
     ensures answer { S.tells source.old → K.tells sink.old

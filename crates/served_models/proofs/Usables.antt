@@ -1,10 +1,11 @@
 -- Models that sessions can run on: one model more, and what holds of all of them.
-use Rattle.std.proofs.Common.{◌≡◌, inl, inr, ℕ, ◌+◌, ◌<◌, List, [], ◌∷◌, ◌++◌, length, take, drop, get_or, refl, sym, ap, subst, ◌∙◌, arith}
+use Rattle.std.proofs.Common.{◌≡◌, inl, inr, ℕ, ◌+◌, ◌<◌, List, [], ◌∷◌, ◌++◌, length, take, drop, get_or, All, AllPairs, refl, sym, ap, subst, ◌∙◌, arith}
 use Rattle.std.specs.Prelude.{Vec}
 use Rattle.std.specs.declared.alloc.Global.{Global}
 use Rattle.std.proofs.lemmas.Bool.{cases_lt}
 use Rattle.std.proofs.lemmas.List.{length-take-le, take_more, take-append-drop, drop_more}
-use Rattle.std.proofs.lemmas.List.Elements.{All-nil, All-cons, All-append, All-contains, Contains-append_left, Contains-append_right}
+use Rattle.std.proofs.lemmas.List.Elements.{All-nil, All-cons, All-push, All-append, All-weaker, All-contains, Contains-append_left, Contains-append_right}
+use Rattle.std.proofs.lemmas.List.Quantifiers.{all_pairs_push}
 use Rattle.named_model.specs.Model.{NamedTree}
 use Rattle.typed_texts.specs.ModelText.{SaysModel}
 use Rattle.script_format.specs.declared.entries.ModelEntry.{ModelEntry}
@@ -20,10 +21,19 @@ module _ (sessions : List SessionEntry) (place : ℕ) (m : NamedTree) where
   -- what is made for all numbers below one
   pub record IsMadeBelow (from : ℕ) (made : List ServedCommand) : Type 0 where
     pub each : AreOf m made
+    pub asked : All (λ (x : ServedCommand). IsAsked sessions place x.number) made
+    pub below : All (λ (x : ServedCommand). x.number < from) made
     pub all : (number : ℕ) → IsAsked sessions place number → number < from → HasMade made number
+    pub rising : AllPairs (λ (x y : ServedCommand). x.number < y.number) made
 
   pub none_made : IsMadeBelow 0 []
-  none_made = record { each = All-nil (λ (x : ServedCommand). IsProblemOf m x.number x.translation.problem); all = λ number asked l. absurd (omega arith) }
+  none_made = record {
+    each = All-nil (λ (x : ServedCommand). IsProblemOf m x.number x.translation.problem);
+    asked = All-nil (λ (x : ServedCommand). IsAsked sessions place x.number);
+    below = All-nil (λ (x : ServedCommand). x.number < 0);
+    all = λ number asked l. absurd (omega arith);
+    rising = λ i j d less l. absurd (omega arith);
+  }
 
   made_on : (made : List ServedCommand) (x : ServedCommand) (number : ℕ) → HasMade made number → HasMade (made ++ x ∷ []) number
   made_on made x number h = (h.0, Contains-append_left made (x ∷ []) h.0 h.1, h.2)
@@ -36,15 +46,20 @@ module _ (sessions : List SessionEntry) (place : ℕ) (m : NamedTree) where
       let this : IsOf x = subst (λ (n : ℕ). IsProblemOf m n x.translation.problem) (sym served.0) served.1 in
       subst (IsMadeBelow (number + 1)) (sym pushed) (record {
         each = All-append IsOf made (x ∷ []) below.each (All-cons IsOf x [] this (All-nil IsOf));
+        asked = All-push (λ (y : ServedCommand). IsAsked sessions place y.number) made x below.asked (subst (IsAsked sessions place) (sym served.0) least.asked);
+        below = All-push (λ (y : ServedCommand). y.number < number + 1) made x
+            (All-weaker (λ (y : ServedCommand). y.number < from) (λ (y : ServedCommand). y.number < number + 1) (λ y l. let behind = least.behind in omega arith) made below.below)
+            (let same = served.0 in omega arith);
         all = λ n asked l. elim (cases_lt n from) [
           | inl less ↦ made_on made x n (below.all n asked less)
           | inr more ↦ let under = least.least n asked (omega arith) in let same = served.0 in (x, Contains-append_right made (x ∷ []) x (0, omega arith, refl), omega arith)
         ];
+        rising = all_pairs_push (λ (y z : ServedCommand). y.number < z.number) made x below.rising (λ k d l. let here = below.below k d l in let behind = least.behind in let same = served.0 in omega arith);
       })
 
   -- nothing is asked for from that number on
   pub all_made : (from : ℕ) (made : List ServedCommand) → ((n : ℕ) → IsAsked sessions place n → n < from) → IsMadeBelow from made → AreMade sessions place m made
-  all_made from made none below = record { each = below.each; all = λ number asked. below.all number asked (none number asked) }
+  all_made from made none below = record { each = below.each; asked = below.asked; all = λ number asked. below.all number asked (none number asked); rising = below.rising }
 
   -- each command for which one is made has a problem
   pub problem_of : (from : ℕ) (made : List ServedCommand) (number : ℕ) → IsMadeBelow from made → IsAsked sessions place number → number < from → HasProblem m number

@@ -1,5 +1,5 @@
 -- Which models and commands sessions can run on, and how the others are refused.
-use Rattle.std.specs.Prelude.{◌≡◌, ◌≢◌, ◌⊎◌, ◌+◌, ◌<◌, ◌≤◌, ℕ, List, [], ◌∷◌, ◌++◌, length, codes, Contains, All, Option, MatchOption, Vec}
+use Rattle.std.specs.Prelude.{◌≡◌, ◌≢◌, ◌⊎◌, ◌+◌, ◌<◌, ◌≤◌, ℕ, List, [], ◌∷◌, ◌++◌, length, codes, Contains, All, AllPairs, Option, MatchOption, Vec}
 use Rattle.std.specs.declared.alloc.Global.{Global}
 use Rattle.rel_formula.specs.Bounds.{Bounded, IsProblem}
 use Rattle.named_model.specs.declared.fault.NameFault.TheVariants as name
@@ -107,10 +107,12 @@ AreOf m made = All (λ (x : ServedCommand). IsProblemOf m x.number x.translation
 abbrev pub HasMade : List ServedCommand → ℕ → Type 0
 HasMade made number = (x : ServedCommand) × Contains made x × (x.number ≡ number)
 
--- these are translations of the problems of a model's commands, for all those on which sessions are
+-- these are translations of the problems of a model's commands, of just those on which sessions are, in rising order
 pub record AreMade (sessions : List SessionEntry) (place : ℕ) (m : NamedTree) (made : List ServedCommand) : Type 0 where
   pub each : AreOf m made
+  pub asked : All (λ (x : ServedCommand). IsAsked sessions place x.number) made
   pub all : (number : ℕ) → IsAsked sessions place number → HasMade made number
+  pub rising : AllPairs (λ (x y : ServedCommand). x.number < y.number) made
 
 -- what was found of the commands of a model
 abbrev pub AreServed : List SessionEntry → ℕ → NamedTree → Commands → Type 0

@@ -29,7 +29,7 @@ pub enum Commands {
     Refused(Vec<u8>),
 }
 
-/// Translates the problems of the commands of the model at this place on which sessions are, in rising order of their numbers.
+/// Translates the problems of just the commands of the model at this place on which sessions are, in rising order of their numbers.
 pub fn served(
     alloc: Global,
     model: &Named,

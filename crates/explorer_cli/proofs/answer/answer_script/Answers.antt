@@ -7,7 +7,7 @@ use Rattle.served_models.specs.declared.commands.ServedCommand.{ServedCommand}
 use Rattle.served_models.specs.declared.models.Models.{Models}
 use Rattle.served_models.specs.Served.{AreUsed, AreFound}
 use Rattle.explorer_cli.specs.Runs.{IsServed}
-use Rattle.explorer_cli.proofs.Served.{run_answer_of}
+use Rattle.explorer_cli.proofs.ServedOutputs.{run_answer_of}
 use Rattle.explorer_cli.proofs.Usables.{all_served, asked_each}
 use Rattle.explorer_cli.proofs.answer.answer_script.Goals as goal
 

@@ -2,7 +2,7 @@ use Rattle.std.proofs.Common.{List, subst}
 use Rattle.refutation_check.specs.declared.log.Step.{Step as LogStep}
 use Rattle.session_rules.specs.States.{Start}
 use Rattle.explorer_run.specs.Serving.{AreBacked}
-use Rattle.explorer_cli.proofs.Served.{is_served, name_cells, right_proofs}
+use Rattle.explorer_cli.proofs.ServedOutputs.{is_served, name_cells, right_proofs}
 use Rattle.explorer_cli.proofs.sessions.run.Goals as goal
 
 pub session_text-requires-clause-cells : goal.session_text-requires-clause-cells

@@ -3,7 +3,7 @@ use Rattle.tuple_core.proofs.Steps.{all_at}
 use Rattle.script_format.specs.declared.entries.SessionEntry.{SessionEntry}
 use Rattle.script_format.specs.Limits.{IsAllowed, asked_by}
 use Rattle.explorer_cli.specs.Runs.{IsServed}
-use Rattle.explorer_cli.proofs.Served.{runs_more}
+use Rattle.explorer_cli.proofs.ServedOutputs.{runs_more}
 use Rattle.explorer_cli.proofs.sessions.text_of_sessions.Goals as goal
 
 pub translation_of-translation-requires : goal.translation_of-translation-requires

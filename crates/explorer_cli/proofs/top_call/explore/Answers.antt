@@ -1,4 +1,4 @@
-use Rattle.std.proofs.Common.{◌⊎◌, inl, inr, ℕ, List, subst, arith}
+use Rattle.std.proofs.Common.{◌⊎◌, inl, inr, ℕ, List, [], refl, subst, arith}
 use Rattle.command_words.specs.Read.{texts}
 use Rattle.command_words.specs.declared.reading.Command.TheVariants.{Run, Check}
 use Rattle.explorer_cli.specs.Outcome.{HasFailed, IsStatusOf, Wrote, IsPartOfAnswer}
@@ -153,3 +153,27 @@ returns-in-Ok-None-clause-words_line g c = λ tells two. elim (c.finish.ensures.
   | inl six ↦ absurd (omega (arith, six, two))
   | inr all ↦ all
 ]
+
+pub returns-in-Ok-None-clause-front : goal.returns-in-Ok-None-clause-front
+returns-in-Ok-None-clause-front g c = λ tells budget run. absurd (none_run (texts c.args.words.now) budget (none_said (texts c.args.words.now) c.in-Ok-None.field-0 c.in-Ok-None.field-0-is c.in-Ok-None.ensures.none) run)
+
+pub returns-in-Ok-None-clause-check_front : goal.returns-in-Ok-None-clause-check_front
+returns-in-Ok-None-clause-check_front g c = λ tells check. absurd (none_check (texts c.args.words.now) (none_said (texts c.args.words.now) c.in-Ok-None.field-0 c.in-Ok-None.field-0-is c.in-Ok-None.ensures.none) check)
+
+pub returns-in-Ok-Some-Run-clause-front : goal.returns-in-Ok-Some-Run-clause-front
+returns-in-Ok-Some-Run-clause-front g c = λ tells budget run. c.run_script.ensures.taken tells
+
+pub returns-in-Ok-Some-Run-clause-check_front : goal.returns-in-Ok-Some-Run-clause-check_front
+returns-in-Ok-Some-Run-clause-check_front g c = λ tells check. absurd (run_check (texts c.args.words.now) c.in-Ok-Some-Run.field-0-0-0 c.in-Ok-Some-Run.budget (says_this (texts c.args.words.now) c.in-Ok-Some-Run.field-0-0 (Run c.in-Ok-Some-Run.field-0-0-0 c.in-Ok-Some-Run.budget) c.in-Ok-Some-Run.field-0-0-is (some_said (texts c.args.words.now) c.in-Ok-Some-Run.field-0 c.in-Ok-Some-Run.field-0-0 c.in-Ok-Some-Run.field-0-is c.in-Ok-Some-Run.ensures.some)) check)
+
+pub returns-in-Ok-Some-Check-clause-front : goal.returns-in-Ok-Some-Check-clause-front
+returns-in-Ok-Some-Check-clause-front g c = λ tells budget run. absurd (check_run (texts c.args.words.now) budget (says_this (texts c.args.words.now) c.in-Ok-Some-Check.field-0-0 Check c.in-Ok-Some-Check.field-0-0-is (some_said (texts c.args.words.now) c.in-Ok-Some-Check.field-0 c.in-Ok-Some-Check.field-0-0 c.in-Ok-Some-Check.field-0-is c.in-Ok-Some-Check.ensures.some)) run)
+
+pub returns-in-Ok-Some-Check-clause-check_front : goal.returns-in-Ok-Some-Check-clause-check_front
+returns-in-Ok-Some-Check-clause-check_front g c = λ tells check. c.check_proof.ensures.taken tells
+
+pub returns-in-Err-clause-front : goal.returns-in-Err-clause-front
+returns-in-Err-clause-front g c = λ tells budget run. ([], refl, omega arith)
+
+pub returns-in-Err-clause-check_front : goal.returns-in-Err-clause-check_front
+returns-in-Err-clause-check_front g c = λ tells check. ([], refl, omega arith)
