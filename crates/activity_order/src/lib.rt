@@ -4,4 +4,4 @@
 mod heap;
 mod order;
 
-pub use order::ActivityOrder;
+pub use crate::order::ActivityOrder;

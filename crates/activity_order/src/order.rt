@@ -6,7 +6,7 @@ use crate::heap::VarHeap;
 use std::alloc::{AllocError, Global};
 use std::marker::Model;
 
-/// No activity and no increment is above this.
+// No activity and no increment is above this.
 const MOST: u64 = 1 << 62;
 
 /// The variables below a number, the activity of each, and which of them wait to be decided. Contracts see the

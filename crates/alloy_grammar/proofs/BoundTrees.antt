@@ -15,7 +15,7 @@ use Rattle.alloy_grammar.specs.Bounds.{level_of_bound, spells_bound, spells_unio
 use Rattle.alloy_grammar.proofs.Results.{either, true_not_false}
 use Rattle.alloy_grammar.proofs.Tokens.{marks, and_left, and_right}
 use Rattle.alloy_grammar.proofs.TextEnds.{is_next, after_is, differs}
-use Rattle.alloy_grammar.proofs.Full.{mark_full, expect_full, spelled_full, place_is, Goes, many_full}
+use Rattle.alloy_grammar.proofs.NodesReadBack.{mark_full, expect_full, spelled_full, place_is, Goes, many_full}
 use Rattle.alloy_grammar.proofs.Spelled.{both_false}
 use Rattle.alloy_grammar.proofs.Nodes.{word_full, multiplicity_full, or_true}
 use Rattle.alloy_grammar.proofs.Bounds.{bounds_read, arrow_read, operand_read}
@@ -383,11 +383,6 @@ arrow_begins : (l : Option Mark) (p : Place) (ts us vs : List Seen) → mark l t
 unfolding begins_bound_arrow
 arrow_begins None p ts us vs f s = rw (ap (next_is class.Arrow) f, is_next class.Arrow us vs (marks class.Arrow p us vs s)) refl
 arrow_begins (Some w) p ts us vs f s = rw (multiplicity_full w.multiplicity ts us (f.0, f.1, f.2)).0 (or_true (next_is class.Arrow ts))
-
-arrows_start : (rs : BoundArrows) (ts rest : List Seen) → IsTrue (has_arrows rs) → spells_arrows rs ts rest → begins_bound_arrow ts ≡ true
-unfolding spells_arrows
-arrows_start no_arrows ts rest is s = true_not_false (sym is)
-arrows_start (more_arrows l p r c rs) ts rest is s = arrow_begins l p ts s.0 s.2.0 s.1 s.2.1
 
 -- ---- the whole bound
 

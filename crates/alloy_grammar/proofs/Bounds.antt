@@ -98,10 +98,6 @@ refused_word strict None u e is = refl
 refused_word true (Some word) u e is = no_success _ _ e
 refused_word false (Some word) u e is = true_not_false (sym is)
 
-some_or_none : (w : Option (List Seen)) → (w ≡ no_word) ⊎ ((word : List Seen) × (w ≡ Some word))
-some_or_none None = inl refl
-some_or_none (Some word) = inr (word, refl)
-
 some_not_none : {P : Type 0} (word : List Seen) → Some word ≡ no_word → P
 some_not_none word e = absurd cc
 

@@ -25,7 +25,7 @@ use Rattle.alloy_grammar.proofs.Results.{true_not_false}
 use Rattle.alloy_grammar.proofs.Tokens.{marks}
 use Rattle.alloy_grammar.proofs.FirstTokens.{rank, First, looser, never_first, too_loose}
 use Rattle.alloy_grammar.proofs.TextEnds.{same_class, is_next, after_is, differs}
-use Rattle.alloy_grammar.proofs.Full.{mark_full, expect_full, spelled_full, place_is, Goes, many_full, reader, brace_is_block, part_of}
+use Rattle.alloy_grammar.proofs.NodesReadBack.{mark_full, expect_full, spelled_full, place_is, Goes, many_full, reader, brace_is_block, part_of}
 use Rattle.alloy_grammar.proofs.Spelled.{list_of, trees_of_list, list_of_steps, steps_of_list, and_false, block_has_no_names}
 
 -- ---- blocks

@@ -24,7 +24,7 @@ use Rattle.alloy_grammar.proofs.Results.{success, stop, known, either, no_succes
 use Rattle.alloy_grammar.proofs.Tokens.{token, marks, mark_is_one, expect_read, spelled_read, spelled_is_one, after_is_short, after_mark_is_short, mark_read, flag_read, multiplicity_sign}
 use Rattle.alloy_grammar.proofs.Lists.{Taken, each_of, others_read}
 use Rattle.alloy_grammar.proofs.ReadTrees.{Found}
-use Rattle.alloy_grammar.proofs.Sound.{block_read, sum_reads}
+use Rattle.alloy_grammar.proofs.NodesSpelled.{block_read, sum_reads}
 use Rattle.alloy_grammar.proofs.Quantified.{names_read, within_reads, declarations_read}
 use Rattle.alloy_grammar.proofs.Bounds.{whole_read}
 

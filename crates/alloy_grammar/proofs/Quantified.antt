@@ -20,7 +20,7 @@ use Rattle.alloy_grammar.proofs.Results.{success, stop, known, either, no_succes
 use Rattle.alloy_grammar.proofs.Tokens.{token, token_is_one, marks, mark_is_one, expect_read, spelled_read, spelled_is_one, and_right, after_is_short, after_mark_is_short, mark_read, flag_read}
 use Rattle.alloy_grammar.proofs.Lists.{Taken, many_read, each_of, others_read}
 use Rattle.alloy_grammar.proofs.ReadTrees.{Found, land, FoundDeclaration, FoundDeclarations, declarations_found, FoundBinding, FoundBindings, bindings_found, FoundBody, barred, braced, quantified_found, let_found}
-use Rattle.alloy_grammar.proofs.Sound.{Below, block_tree_read, sum_reads, node_reads, negation_reads, implication_reads, size_reads, tight_reads}
+use Rattle.alloy_grammar.proofs.NodesSpelled.{Below, block_tree_read, sum_reads, node_reads, negation_reads, implication_reads, size_reads, tight_reads}
 
 -- ---- names
 

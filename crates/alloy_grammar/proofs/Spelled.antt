@@ -20,11 +20,11 @@ use Rattle.alloy_grammar.specs.Levels.{level_of_operator, level_of}
 use Rattle.alloy_grammar.specs.Nodes.{class_of_operator, class_of_comparison, comparing_over, spells, spells_trees, spells_links, begins_operator, comma}
 use Rattle.alloy_grammar.proofs.Results.{either, true_not_false}
 use Rattle.alloy_grammar.proofs.Tokens.{marks}
-use Rattle.alloy_grammar.proofs.Sound.{node_reads, iff_reads, implication_reads, and_reads, negation_reads, comparison_reads, counted_reads, sum_reads, size_reads, override_reads, meet_reads, arrows_reads, restrict_reads, path_reads, tight_reads, primary_reads}
+use Rattle.alloy_grammar.proofs.NodesSpelled.{node_reads, iff_reads, implication_reads, and_reads, negation_reads, comparison_reads, counted_reads, sum_reads, size_reads, override_reads, meet_reads, arrows_reads, restrict_reads, path_reads, tight_reads, primary_reads}
 use Rattle.alloy_grammar.proofs.Quantified.{within_reads}
 use Rattle.alloy_grammar.proofs.FirstTokens.{rank, First, looser, first, never_first}
 use Rattle.alloy_grammar.proofs.TextEnds.{after_is, differs, Ends, NoNames, tighter, continues, ends_at, names_end, parts_names, operator_parts, comparing_begins, then_name, goes_on_with_names, unfolds_names, names_go_on, formula_ends}
-use Rattle.alloy_grammar.proofs.Full.{reader, not_counting, climb, kind_of, kind_test}
+use Rattle.alloy_grammar.proofs.NodesReadBack.{reader, not_counting, climb, kind_of, kind_test}
 
 -- ---- lists
 

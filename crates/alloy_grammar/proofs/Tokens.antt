@@ -80,10 +80,6 @@ pub and_left : (a b : Bool) → (a && b) ≡ true → a ≡ true
 and_left true b e = refl
 and_left false b e = e
 
-pub or_false_left : (a b : Bool) → (a || b) ≡ false → a ≡ false
-or_false_left true b e = e
-or_false_left false b e = refl
-
 pub counting_sign : (ts : List Seen) → is_counting ts ≡ true → sign (class_of_prefix (counting_of ts)) (place_at ts) ts (after ts)
 unfolding is_counting counting_of
 counting_sign ts e =

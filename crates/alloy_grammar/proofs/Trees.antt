@@ -20,11 +20,11 @@ use Rattle.alloy_grammar.specs.Forms.{IsPlain, ArePlain, ArePlainLinks, ArePlain
 use Rattle.alloy_grammar.proofs.Results.{true_not_false}
 use Rattle.alloy_grammar.proofs.Tokens.{marks}
 use Rattle.alloy_grammar.proofs.ReadTrees.{step_is_one}
-use Rattle.alloy_grammar.proofs.Sound.{step_read}
+use Rattle.alloy_grammar.proofs.NodesSpelled.{step_read}
 use Rattle.alloy_grammar.proofs.Quantified.{within_reads, another_read}
 use Rattle.alloy_grammar.proofs.FirstTokens.{rank, looser, first}
 use Rattle.alloy_grammar.proofs.TextEnds.{is_next, after_is, differs, Ends, tighter, continues, ends_at}
-use Rattle.alloy_grammar.proofs.Full.{Goes, many_full, reader, named_full, path_named_full, numbered_full, constant_full, paren_full, brace_is_block, prefixed_full, kind_of, same_kind, kind_test, kind_link, operator_full, chain_full, compared_full}
+use Rattle.alloy_grammar.proofs.NodesReadBack.{Goes, many_full, reader, named_full, path_named_full, numbered_full, constant_full, paren_full, brace_is_block, prefixed_full, kind_of, same_kind, kind_test, kind_link, operator_full, chain_full, compared_full}
 use Rattle.alloy_grammar.proofs.Spelled.{list_of, list_of_links, links_of_list, list_of_steps, list_of_declarations, declarations_of_list, list_of_bindings, bindings_of_list, both_false, raise, reader_short, closed, operator_ends, implies_ends, comparing_ends, tight_ends, body_ends, kind_ends, links_end, block_ends, arguments_end}
 use Rattle.alloy_grammar.proofs.Nodes.{inner_first, block_full, block_tree_full, prefix_tighter, part_is, implies_full, implies_else_full, path_full, join_full, brackets_full, no_arguments, some_arguments, quantifier_full, let_word_full, declarations_begin, declaration_full, another_full, declarations_full, body_bar_full, body_block_full, block_begins, block_level, quantified_full, binding_full, let_full}
 

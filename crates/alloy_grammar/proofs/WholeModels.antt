@@ -23,9 +23,9 @@ use Rattle.alloy_grammar.specs.Models.{optional, qualifier, qualifiers, class_of
 use Rattle.alloy_grammar.proofs.Results.{true_not_false, done_is}
 use Rattle.alloy_grammar.proofs.Tokens.{marks}
 use Rattle.alloy_grammar.proofs.TextEnds.{is_next, after_is, differs}
-use Rattle.alloy_grammar.proofs.Full.{mark_full, spelled_full, number_full, place_is, Goes, many_full}
+use Rattle.alloy_grammar.proofs.NodesReadBack.{mark_full, spelled_full, number_full, place_is, Goes, many_full}
 use Rattle.alloy_grammar.proofs.Models.{Short, entry_read, paragraph_read}
-use Rattle.alloy_grammar.proofs.Back.{listed_full, commas_full, own_block_full, block_starts, signatures_full, label_full, fact_full, assertion_full, predicate_full, function_full}
+use Rattle.alloy_grammar.proofs.ModelsReadBack.{listed_full, commas_full, own_block_full, block_starts, signatures_full, label_full, fact_full, assertion_full, predicate_full, function_full}
 
 -- ---- what stands behind a command's parts
 

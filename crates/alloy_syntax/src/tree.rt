@@ -31,6 +31,7 @@ pub struct Mark {
     pub place: Place,
 }
 
+/// The word of a quantifier.
 #[derive(Clone, Copy)]
 pub enum Quantifier {
     All,
@@ -241,6 +242,7 @@ pub struct Scope {
     pub entries: Vec<Entry>,
 }
 
+/// Whether a command asks for scenarios, or for counterexamples.
 #[derive(Clone, Copy)]
 pub enum CommandKind {
     Run,
@@ -268,6 +270,7 @@ pub struct Function {
     pub body: Node,
 }
 
+/// A paragraph of a model.
 #[derive(Drop)]
 pub enum Paragraph {
     Signatures(Signatures),

@@ -1,7 +1,7 @@
 pub mod WithOutcomes
-pub mod Found
+pub mod ListedOutcomes
 pub mod SameDeclarations
 pub mod Order
-pub mod Meant
+pub mod NamedRelations
 pub mod Targets
 pub mod SettledModels

@@ -1,5 +1,5 @@
 -- What is settled is the model in which no name is shared.
-use Rattle.std.proofs.Common.{◌≡◌, ◌≤◌, List, map, length, Result, Ok, Err, sym, ap, ◌∙◌, arith}
+use Rattle.std.proofs.Common.{◌≡◌, ◌≤◌, List, map, length, Result, Ok, sym, ap, ◌∙◌, arith}
 use Rattle.std.proofs.lemmas.List.{length-map}
 use Rattle.named_model.specs.Model.{CommandTree, NamedTree}
 use Rattle.named_model.specs.View.{target_view}
@@ -25,9 +25,6 @@ things_settled view f old new rs is are = ap (map view) is ∙ with_outcomes_see
 module _ (m : NamedTree) (o : Outcomes) (are : AreOutcomes m (declared_in m) o) where
   pub targets_settled : (new : List CommandTree) → new ≡ with_outcomes with_target m.commands (map (outcome_view target_view) o.targets.items) → new ≡ map (or_same (command_settled m (declared_in m))) m.commands
   targets_settled new is = is ∙ ap (with_outcomes with_target m.commands) are.targets ∙ with_own with_target (λ (c : CommandTree). target_settled m (declared_in m) c.target) m.commands
-
-pub typed_fault : (m : NamedTree) (e : TypeFault) → types_checked m ≡ Err e → typed m ≡ Err e
-typed_fault m e told = ap (λ r. r >>= λ done. Ok (settled_in m)) told
 
 pub typed_is : (m : NamedTree) → types_checked m ≡ Ok tt → typed m ≡ Ok (settled_in m)
 typed_is m fine = ap (λ r. r >>= λ done. Ok (settled_in m)) fine

@@ -1,5 +1,5 @@
 // Parts that have to be relations.
-ghost use Rattle.std.specs.Prelude.{◌≡◌, OnOk};
+ghost use Rattle.std.specs.Prelude.{◌≡◌};
 ghost use Rattle.named_model.specs.View.{phrase_view};
 ghost use Rattle.settling_rules.specs.Single.{relation_settled};
 ghost use Rattle.settling_rules.specs.Told.{Gives};
@@ -24,7 +24,7 @@ pub fn relation(
 ) -> Result<(Phrase, usize), TypeFault>
     requires { AreTables setting.now }
     ensures value { Gives relation_view result (relation_settled (declared_by setting.now) scope.old.locals (phrase_view phrase.now)) }
-    ensures locals { OnOk result (scope.new.locals ≡ scope.old.locals) }
+    ensures locals { scope.new.locals ≡ scope.old.locals }
 {
     let none = Tops::new(alloc);
     let (relation, kind) = part(alloc, setting, scope, &none, phrase)?;

@@ -4,5 +4,5 @@
 mod assigned;
 mod assignment;
 
-pub use assigned::Assigned;
-pub use assignment::Assignment;
+pub use crate::assigned::Assigned;
+pub use crate::assignment::Assignment;

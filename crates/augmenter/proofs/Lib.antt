@@ -1,6 +1,6 @@
 pub mod AllNovel
-pub mod Freed
-pub mod Picked
-pub mod Trying
+pub mod FreedLogs
+pub mod PickedInstances
+pub mod OfferSearches
 pub mod Seeking
 pub mod MarkedCells

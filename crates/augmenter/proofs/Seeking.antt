@@ -18,8 +18,8 @@ use Rattle.translation_rules.specs.Locals.{literal_of, units_of}
 use Rattle.translation_rules.specs.Offers.{IsPossible}
 use Rattle.augmenter.specs.Search.{IsSearchFor, GivesInstance}
 use Rattle.augmenter.proofs.AllNovel.{all_novel, none_empty}
-use Rattle.augmenter.proofs.Freed.{HintsNameMembers, all_are_free, ended_is_free}
-use Rattle.augmenter.proofs.Picked.{SaysWhatIsPossible, gives, impossible}
+use Rattle.augmenter.proofs.FreedLogs.{HintsNameMembers, all_are_free, ended_is_free}
+use Rattle.augmenter.proofs.PickedInstances.{SaysWhatIsPossible, gives, impossible}
 
 -- the answer is that of a search over the translation and the units of these cells
 pub record Told (t : Translated) (pool : List LogStep) (cells : List ℕ) (budget : ℕ) (a : Answer) : Type 0 where

@@ -6,9 +6,10 @@ ghost use Rattle.augmenter.specs.Offering.{parts_of, AreTrials, IsRight};
 
 use crate::answer::Offers;
 use crate::cells::{mark_true, marked_outside};
-use crate::search::{Sought, seek};
+use crate::search::{Sought, seek_from};
 use refutation_check::Log;
 use rel_formula::Scenario;
+use sat_core::Trail;
 use std::alloc::{AllocError, Global};
 use translation::Translation;
 
@@ -35,6 +36,8 @@ pub fn offers(
     let problem = translation.problem();
     let _ = problem.relations(); // for the proof
     let cells = problem.cells();
+    let cnf = translation.cnf();
+    let base = Trail::over(alloc, cnf, cnf.vars())?;
     let mut possible = vec![in alloc; false; cells as usize]?;
     let mut parts = Vec::new(alloc);
     let mut left = budget;
@@ -43,7 +46,7 @@ pub fn offers(
             continue;
         }
         let wanted = with(alloc, scenario, cell)?;
-        match seek(alloc, translation, pool, &wanted, left)? {
+        match seek_from(alloc, translation, &base, pool, &wanted, left)? {
             Sought::Possible { valuation, part } => {
                 left -= part.log().steps().len() as u64;
                 parts.push(part)?;

@@ -2,6 +2,7 @@
 ghost use Rattle.std.specs.Prelude.{◌≤◌, length, IfOk};
 ghost use Rattle.refutation_check.specs.Chain.{IsAccepted};
 ghost use Rattle.rel_formula.specs.Instance.{AreCells};
+ghost use Rattle.sat_trail.specs.Trailed.{IsBase};
 ghost use Rattle.augmenter.specs.Search.{part_in, IsSearchFor, IsRightFor};
 
 use clause_pool::accepted_hints_name_members;
@@ -9,7 +10,7 @@ use cnf_core::Valuation;
 use local_clauses::units_of;
 use refutation_check::{Log, Part, accepted_is_entailed};
 use rel_formula::Scenario;
-use sat_core::{Answer, solve_towards};
+use sat_core::{Answer, Leaning, Trail, solve_from};
 use std::alloc::{AllocError, Global};
 use translation::Translation;
 use translation_rules::laws::units_say_what_is_possible;
@@ -44,18 +45,42 @@ pub fn seek(
     ensures part { IfOk result (λ sought. IsSearchFor translation.now pool.now cells.now budget (part_in sought)) }
     ensures answer { IfOk result (IsRightFor translation.now pool.now cells.now budget) }
 {
+    let cnf = translation.cnf();
+    let base = Trail::over(alloc, cnf, cnf.vars())?;
+    seek_from(alloc, translation, &base, pool, cells, budget)
+}
+
+/// Searches as `seek` does, from a trail of the translation's formula, which serves any number of searches.
+pub(crate) fn seek_from(
+    alloc: Global,
+    translation: &Translation,
+    base: &Trail,
+    pool: &Log,
+    cells: &Scenario,
+    budget: u64,
+) -> Result<Sought, AllocError>
+    requires base { IsBase translation.now.cnf base.now }
+    requires pool { IsAccepted translation.now.cnf.clauses pool.now }
+    requires few { length pool.now ≤ 20000 }
+    requires cells { AreCells translation.now.problem cells.now }
+    requires budget { budget ≤ 100000000 }
+    ensures part { IfOk result (λ sought. IsSearchFor translation.now pool.now cells.now budget (part_in sought)) }
+    ensures answer { IfOk result (IsRightFor translation.now pool.now cells.now budget) }
+{
     accepted_hints_name_members();
     accepted_is_entailed();
     units_say_what_is_possible();
     let _ = translation.problem().relations(); // for the proof
     let local = units_of(alloc, cells.numbers())?;
-    match solve_towards(
+    let mut leaning = Leaning::towards(alloc, true);
+    match solve_from(
         alloc,
         translation.cnf(),
+        base,
         pool,
         local.as_slice(),
         budget,
-        true,
+        &mut leaning,
     )? {
         Answer::Found { valuation, log } => {
             let part = Part::of(local, log);

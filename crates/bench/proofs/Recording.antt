@@ -14,7 +14,7 @@ use Rattle.session_rules.specs.declared.answers.Reply.TheVariants.{Shown}
 use Rattle.journal_rules.specs.Noted.{Note, Noted, Opened, Recorded}
 use Rattle.journal_rules.specs.Journal.{Opens, Records, exchanges_of, recorded_in}
 use Rattle.hub_state.specs.HubView.{HubView}
-use Rattle.translation_cache.proofs.Bare.{bare, no_atoms}
+use Rattle.translation_cache.proofs.BareProblems.{bare, no_atoms}
 use Rattle.bench.specs.Journals.{with_session}
 
 abbrev pub always : Bounded

@@ -1,1 +1,1 @@
-mod Brought
+mod BroughtModels

@@ -78,6 +78,3 @@ pub entered_more : (k end : ℕ) (old new whole : List binders.Local) → k < en
 entered_more k end old new whole l more before =
     let e : end - k ≡ suc (end - (k + 1)) = omega arith in
     ap (behind_variables (k + 1) (end - (k + 1))) more ∙ sym (ap (λ n. behind_variables k n old) e) ∙ before
-
-pub entered_all : (k end : ℕ) (now whole : List binders.Local) → end ≤ k → behind_variables k (end - k) now ≡ whole → now ≡ whole
-entered_all k end now whole l before = let e : end - k ≡ 0 = omega arith in sym (ap (λ n. behind_variables k n now) e) ∙ before

@@ -1,5 +1,5 @@
 pub mod Loops
 pub mod Entered
 pub mod Domains
-pub mod Called
+pub mod LoweredCalls
 pub mod Chains

@@ -589,7 +589,7 @@ fn quantify(
 
 /// Enters the variables of these domains, each of which sees the variables before.
 #[cycle(parts)]
-pub fn variables_of(
+pub(crate) fn variables_of(
     alloc: Global,
     model: &Named,
     at: Depth,

@@ -1,5 +1,5 @@
 // Local names that are entered and left.
-ghost use Rattle.std.specs.Prelude.{◌≡◌, ◌++◌, ℕ, List, length, OnOk};
+ghost use Rattle.std.specs.Prelude.{◌≡◌, ◌≤◌, ◌++◌, ℕ, List, length, OnOk};
 ghost use Rattle.named_model.specs.Names.{onto};
 ghost use Rattle.name_tables.specs.InForce.{with_locals};
 
@@ -19,7 +19,8 @@ pub fn enter_all(alloc: Global, names: &mut Names, new: &[Name]) -> Result<(), A
 
 /// Leaves the innermost local names, until so many are left. With no more than that nothing happens.
 pub fn leave_until(names: &mut Names, depth: usize)
-    ensures { (inner outer : List (List ℕ)) → names.old.locals ≡ inner ++ outer → length outer ≡ depth → names.new ≡ with_locals names.old outer }
+    ensures left { (inner outer : List (List ℕ)) → names.old.locals ≡ inner ++ outer → length outer ≡ depth → names.new ≡ with_locals names.old outer }
+    ensures short { length names.old.locals ≤ depth → names.new ≡ names.old }
 {
     'each: while names.depth() > depth {
         names.leave();

@@ -1,4 +1,4 @@
 pub mod Values
-pub mod Made
+pub mod MadeNodes
 pub mod Sizes
 pub mod CallerLemmas

@@ -6,5 +6,5 @@ mod eval;
 mod fold;
 mod shape;
 
-pub use circuit::{Circuit, MOST_NODES};
-pub use shape::{Node, Shape};
+pub use crate::circuit::{Circuit, MOST_NODES};
+pub use crate::shape::{Node, Shape};

@@ -7,7 +7,7 @@ use Rattle.tuple_core.specs.Swap.{atom_eq}
 use Rattle.tuple_core.specs.Operators.{Pred}
 use Rattle.tuple_core.proofs.Atoms.{atom_eq-decides}
 use Rattle.bool_matrix.specs.Terms.{Meeting, joining, joins_of, joins}
-use Rattle.bool_matrix.proofs.Distinct.{In, Distinct, length_within}
+use Rattle.bool_matrix.proofs.DistinctLists.{In, Distinct, length_within}
 
 -- whether the last atom of the first tuple is the first of the second
 abbrev joins_to : List Atom → List Atom → Bool

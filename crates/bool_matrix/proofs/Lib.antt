@@ -3,7 +3,7 @@ pub mod Edits
 pub mod Loops
 pub mod Nodes
 pub mod Terms
-pub mod Distinct
+pub mod DistinctLists
 pub mod Closure
 pub mod Squares
 pub mod Keys
@@ -12,5 +12,5 @@ pub mod TurnedPairs
 pub mod Rows
 pub mod TrueEntries
 pub mod Merges
-pub mod Small
+pub mod SmallMatrices
 pub mod JoiningPairs

@@ -10,7 +10,7 @@ use Rattle.bool_matrix.specs.Cells.{Cells, IsCells, IsOf, ThereIn, TrueIn, IsMat
 use Rattle.bool_matrix.specs.Closure.{HasFewAtoms, Short, reach}
 use Rattle.bool_matrix.specs.Terms.{Meeting, joins, tuples}
 use Rattle.bool_matrix.proofs.Closure.{short_one, short_twice, short_closed}
-use Rattle.bool_matrix.proofs.Distinct.{In, tuples_distinct, tuple_there}
+use Rattle.bool_matrix.proofs.DistinctLists.{In, tuples_distinct, tuple_there}
 use Rattle.bool_matrix.proofs.JoiningPairs.{joins_bounded}
 use Rattle.bool_matrix.proofs.Loops.{true_long, there_long, true_there}
 

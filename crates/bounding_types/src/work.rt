@@ -23,7 +23,7 @@ impl Work {
     /// Notes that one more list is looked at. Where none may be, it answers want of memory.
     pub fn look(&mut self) -> Result<(), AllocError>
         ensures ok { OnOk result (self.new.left + 1 ≡ self.old.left) }
-        ensures err { OnErr result (self.old.left ≡ 0) }
+        ensures err { OnErr result ((self.old.left ≡ 0) × (self.new.left ≡ 0)) }
     {
         if self.left == 0 {
             return Err(AllocError);

@@ -1,5 +1,5 @@
 -- New numbers of members, where some are kept.
-use Rattle.std.proofs.Common.{◌≡◌, ◌≢◌, ◌==◌, ◌<◌, ◌≤◌, ◌+◌, ◌-◌, ◌++◌, [], ◌∷◌, ℕ, zero, suc, Bool, true, false, not, List, length, map, get_or, take, drop, replicate, arith, sym, ◌∙◌, ap, inl, inr, refl, subst, zero-add, length-append, append_assoc, append-nil}
+use Rattle.std.proofs.Common.{◌≡◌, ◌≢◌, ◌==◌, ◌<◌, ◌≤◌, ◌+◌, ◌-◌, ◌++◌, [], ◌∷◌, ℕ, zero, suc, Bool, true, false, not, List, length, map, get_or, take, drop, replicate, arith, sym, ◌∙◌, ap, inl, inr, refl, subst, zero-add, length-append, append-nil}
 use Rattle.std.proofs.lemmas.Bool.{cases_Bool, cases_lt, eqb-true, eqb-false}
 use Rattle.std.proofs.lemmas.List.{map-append, length-map, length-replicate, get_or-append-add, get_or_append_left, get_or-replicate, get_or_past, get_or-map}
 use Rattle.std.specs.Prelude.{if◌then◌else◌}
@@ -227,12 +227,6 @@ table_kept own before last was = table_more own (last + 1) before last true (not
 
 pub table_left_out : (own : List ℕ) (before last : ℕ) → IsTable before last own → IsTable before last (own ++ 0 ∷ [])
 table_left_out own before last was = table_more own 0 before last false refl last was (omega arith) (λ some. absurd (some refl))
-
-pub marks_kept : (given : List Bool) (own : List ℕ) (last : ℕ) → given ++ marks_of (own ++ (last + 1) ∷ []) ≡ (given ++ marks_of own) ++ true ∷ []
-marks_kept given own last = ap (λ (ms : List Bool). given ++ ms) (marks_more own (last + 1) ∙ ap (λ (b : Bool). marks_of own ++ b ∷ []) (not_zero last)) ∙ sym (append_assoc given (marks_of own) (true ∷ []))
-
-pub marks_left_out : (given : List Bool) (own : List ℕ) → given ++ marks_of (own ++ 0 ∷ []) ≡ (given ++ marks_of own) ++ false ∷ []
-marks_left_out given own = ap (λ (ms : List Bool). given ++ ms) (marks_more own 0) ∙ sym (append_assoc given (marks_of own) (false ∷ []))
 
 -- ---- room for one more
 

@@ -4,5 +4,5 @@
 mod code;
 mod store;
 
-pub use code::{code_of, literal_of};
-pub use store::Store;
+pub use crate::code::{code_of, literal_of};
+pub use crate::store::Store;

@@ -8,7 +8,7 @@ mod literal;
 mod tests;
 mod valuation;
 
-pub use clause::Clause;
-pub use cnf::Cnf;
-pub use literal::Lit;
-pub use valuation::Valuation;
+pub use crate::clause::Clause;
+pub use crate::cnf::Cnf;
+pub use crate::literal::Lit;
+pub use crate::valuation::Valuation;

@@ -26,7 +26,7 @@ const NOT_C: Lit = Lit {
     positive: false,
 };
 
-/// The clause of these literals over two variables.
+// The clause of these literals over two variables.
 fn clause_of(alloc: Global, lits: &[Lit]) -> Result<Clause, Fail>
     requires { All (λ l. (1 ≤ l.var) × (l.var ≤ 2)) lits.now }
     ensures { IfOk result (HasVarsUpTo 2) }

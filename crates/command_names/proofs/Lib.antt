@@ -1,3 +1,3 @@
-pub mod Anywhere
+pub mod TestsOfParts
 pub mod Runs
 pub mod Commands

@@ -16,7 +16,8 @@ pub struct Depth {
 impl Depth {
     // Before the first part.
     pub fn of_calls(calls: usize) -> Depth
-        ensures { result.calls ≡ calls }
+        ensures calls { result.calls ≡ calls }
+        ensures parts { result.parts ≡ 512 }
     {
         Depth {
             calls,

@@ -3,6 +3,6 @@ pub mod Nodes
 pub mod Rooms
 pub mod Bounds
 pub mod Models
-pub mod Among
+pub mod LastTokens
 pub mod NodesAmong
 pub mod ModelsAmong

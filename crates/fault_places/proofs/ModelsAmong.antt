@@ -15,7 +15,7 @@ use Rattle.alloy_syntax.specs.Nodes.{within}
 use Rattle.alloy_syntax.specs.Paragraphs.{own_block, field_at, fields_at, parent_at, after_qualifier, after_abstract, is_qualifier, qualified, signatures_at, label_at, fact_at, parameters_to, parameter_list, predicate_at, function_at, assertion_at, entry_at, entries_at, exceptions_at, has_default, scope_at, expected_at, target_at, command_at, paragraph_at, is_left, heading_at, ordering_at, open_at, model_at}
 use Rattle.alloy_grammar.proofs.Results.{either, no_success}
 use Rattle.fault_places.specs.Stops.{unread, AreLast}
-use Rattle.fault_places.proofs.Among.{Among, LeavesLast, Keeps, read, stops, all_last, after_last, choice_last, after_mark_last, among_then, among_choice, expect_lands, spelled_lands, number_lands, many_lands, listed_lands, names_land}
+use Rattle.fault_places.proofs.LastTokens.{Among, LeavesLast, Keeps, read, stops, all_last, after_last, choice_last, after_mark_last, among_then, among_choice, expect_lands, spelled_lands, number_lands, many_lands, listed_lands, names_land}
 use Rattle.fault_places.proofs.NodesAmong.{block_lands, sum_lands, braced_lands, declarations_land, within_lands}
 
 -- ---- bounds, and the words that may not stand in them
@@ -38,9 +38,6 @@ BoundLands base r = Among base (BoundLeaves base) r
 
 abbrev pub BoundKeeps : List Seen → BoundReader → Type 0
 BoundKeeps base j = (s : Standing) → StandsAmong base s → (ts : List Seen) → AreLast base ts → BoundLands base (j s ts)
-
-abbrev OperandLeaves : List Seen → (Place × Bounded) × List Seen → Type 0
-OperandLeaves base x = AreLast base x.1
 
 abbrev Passed : Unit {0} → Type 0
 Passed u = Unit {0}

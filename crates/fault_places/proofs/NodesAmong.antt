@@ -18,7 +18,7 @@ use Rattle.alloy_syntax.specs.Tree.{Tree}
 use Rattle.alloy_syntax.specs.Readers.{refused, too_deep, unsupported, Parser, next_is, after, place_at, is_mark, after_mark}
 use Rattle.alloy_syntax.specs.Nodes.{Reader, begins, may_be_block, stop_at, is_comprehension, block_over, block_tree, is_inner, paren_over, is_constant, primary_over, behind_prefix, is_tightening, tightening_of, tight_over, arguments_over, brackets_over, begins_step, step_over, path_over, begins_link, link_over, chained, restrict_over, begins_arrow, arrow_over, arrows_over, meet_over, override_over, size_over, sum_over, braced_over, counting_of, is_counting, counted_over, begins_comparison, negated_comparing, comparing_at, comparison_over, begins_declaration, quantifier_of, negation_over, and_over, implied_over, implication_over, iff_over, node_over, is_single, after_disj, second_is_refused, one_name, are_several, variable_names, variables_over, declaration_over, another_declaration, more_declarations, declarations_over, body_over, quantified_over, binding_over, bindings_over, let_over, inside_over, within}
 use Rattle.fault_places.specs.Stops.{AreLast}
-use Rattle.fault_places.proofs.Among.{Keeps, read, stops, after_last, choice_last, after_mark_last, among_then, among_choice, expect_lands, spelled_lands, number_lands, many_lands, listed_lands, names_land}
+use Rattle.fault_places.proofs.LastTokens.{Keeps, read, stops, after_last, choice_last, after_mark_last, among_then, among_choice, expect_lands, spelled_lands, number_lands, many_lands, listed_lands, names_land}
 
 abbrev pub Below : List Seen → Reader → Type 0
 Below base i = (a : Around) (part : Inside) → Keeps base (i a part)

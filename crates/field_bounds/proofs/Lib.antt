@@ -1,5 +1,5 @@
 pub mod Cells
 pub mod Lists
 pub mod Outlines
-pub mod Placed
+pub mod PlacedProducts
 pub mod Sizes

@@ -20,23 +20,11 @@ names_twice n s t f g h k a b =
     ∙ ap (λ (xs : List Header). record { globals = record { signatures = n.globals.signatures ++ (s ++ t); fields = n.globals.fields ++ (f ++ g); callees = xs; assertions = (n.globals.assertions ++ a) ++ b }; locals = n.locals }) (append_assoc n.globals.callees h k)
     ∙ ap (λ (xs : List (List ℕ)). record { globals = record { signatures = n.globals.signatures ++ (s ++ t); fields = n.globals.fields ++ (f ++ g); callees = n.globals.callees ++ (h ++ k); assertions = xs }; locals = n.locals }) (append_assoc n.globals.assertions a b)
 
--- names of one kind or two
-pub only_signatures_and_fields : (n : InForce) (s f : List (List ℕ)) → with_fields (with_signatures n s) f ≡ with_names n s f [] []
-only_signatures_and_fields n s f =
-    ap (λ (xs : List Header). record { globals = record { signatures = n.globals.signatures ++ s; fields = n.globals.fields ++ f; callees = xs; assertions = n.globals.assertions }; locals = n.locals }) (sym (append-nil n.globals.callees))
-    ∙ ap (λ (xs : List (List ℕ)). record { globals = record { signatures = n.globals.signatures ++ s; fields = n.globals.fields ++ f; callees = n.globals.callees ++ []; assertions = xs }; locals = n.locals }) (sym (append-nil n.globals.assertions))
-
 pub only_callees_and_assertions : (n : InForce) (h : List Header) (a : List (List ℕ))
     → record { globals = record { signatures = n.globals.signatures; fields = n.globals.fields; callees = n.globals.callees ++ h; assertions = n.globals.assertions ++ a }; locals = n.locals } ≡ with_names n [] [] h a
 only_callees_and_assertions n h a =
     ap (λ (xs : List (List ℕ)). record { globals = record { signatures = xs; fields = n.globals.fields; callees = n.globals.callees ++ h; assertions = n.globals.assertions ++ a }; locals = n.locals }) (sym (append-nil n.globals.signatures))
     ∙ ap (λ (xs : List (List ℕ)). record { globals = record { signatures = n.globals.signatures ++ []; fields = xs; callees = n.globals.callees ++ h; assertions = n.globals.assertions ++ a }; locals = n.locals }) (sym (append-nil n.globals.fields))
-
-pub only_callees : (n : InForce) (h : List Header)
-    → record { globals = record { signatures = n.globals.signatures; fields = n.globals.fields; callees = n.globals.callees ++ h; assertions = n.globals.assertions }; locals = n.locals } ≡ with_names n [] [] h []
-only_callees n h =
-    ap (λ (xs : List (List ℕ)). record { globals = record { signatures = n.globals.signatures; fields = n.globals.fields; callees = n.globals.callees ++ h; assertions = xs }; locals = n.locals }) (sym (append-nil n.globals.assertions))
-    ∙ only_callees_and_assertions n h []
 
 pub only_assertions : (n : InForce) (a : List (List ℕ))
     → record { globals = record { signatures = n.globals.signatures; fields = n.globals.fields; callees = n.globals.callees; assertions = n.globals.assertions ++ a }; locals = n.locals } ≡ with_names n [] [] [] a

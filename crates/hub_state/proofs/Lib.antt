@@ -1,4 +1,4 @@
-pub mod Crosses
+pub mod ThreadCrossing
 mod Journals
 pub mod GrowingJournals
 mod Sharing

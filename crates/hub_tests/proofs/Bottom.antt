@@ -13,7 +13,7 @@ use Rattle.translation_rules.specs.Free.{is_free_of}
 use Rattle.translation_rules.specs.Locals.{locals_of}
 use Rattle.translation.specs.Numbered.{pair_of}
 use Rattle.translation.specs.Kept.{IsTranslation}
-use Rattle.translation_cache.proofs.Bare.{bare, no_atoms}
+use Rattle.translation_cache.proofs.BareProblems.{bare, no_atoms}
 
 abbrev pub always : Bounded
 always = bare (conjunction no_formulas)

@@ -10,7 +10,7 @@ use refutation_check::{Hints, Log, Scratch, Step, Verdict, check};
 use std::alloc::{AllocError, Global};
 use std::test::Fail;
 
-/// The clause of the positive literals of these variables.
+// The clause of the positive literals of these variables.
 fn clause(alloc: Global, vars: &[u8]) -> Result<Clause, Fail> {
     let mut lits = Vec::new(alloc);
     for var in vars {
@@ -25,7 +25,7 @@ fn clause(alloc: Global, vars: &[u8]) -> Result<Clause, Fail> {
     }
 }
 
-/// A step of this clause for each list of hints, which are from 1 on.
+// A step of this clause for each list of hints, which are from 1 on.
 fn log(alloc: Global, clause: &Clause, hints: &[&[u32]]) -> Result<Log, Fail>
     requires { length hints.now < 100 }
     ensures hints { IfOk result (λ log. All (λ s. All (λ hint. 1 ≤ hint) s.hints) log) }
@@ -54,7 +54,7 @@ fn is_from_one(hints: &[u32]) -> bool
     true
 }
 
-/// So many steps of this clause, with the hint 1.
+// So many steps of this clause, with the hint 1.
 fn copies(alloc: Global, clause: &Clause, n: u32) -> Result<Log, AllocError>
     requires { n < 100000 }
 {
@@ -68,7 +68,7 @@ fn copies(alloc: Global, clause: &Clause, n: u32) -> Result<Log, AllocError>
     Ok(log)
 }
 
-/// Whether each variable is at most this one.
+// Whether each variable is at most this one.
 fn is_within(clause: &Clause, vars: u32) -> bool
     ensures { OnTrue result (HasVarsUpTo vars clause.now) }
 {
@@ -93,7 +93,7 @@ fn is_log_within(log: &Log, vars: u32) -> bool
     true
 }
 
-/// The formula of this clause and of the steps' clauses.
+// The formula of this clause and of the steps' clauses.
 fn formula(alloc: Global, clause: &Clause, steps: &Log) -> Result<Cnf, Fail>
     ensures vars { IfOk result (λ f. f.vars ≡ 1000) }
     ensures clauses { IfOk result (λ f. f.clauses ≡ clause.now ∷ map (λ s. s.clause) steps.now) }
@@ -116,7 +116,7 @@ fn formula(alloc: Global, clause: &Clause, steps: &Log) -> Result<Cnf, Fail>
     Ok(formula)
 }
 
-/// Whether the checker takes the log over the formula, without an empty clause at its end.
+// Whether the checker takes the log over the formula, without an empty clause at its end.
 fn is_accepted(alloc: Global, f: &Cnf, log: &Log) -> Result<bool, Fail>
     requires { f.now.vars ≡ 1000 }
     ensures { IfOk result (λ b. OnTrue b (IsAccepted f.now.clauses log.now)) }
@@ -128,7 +128,7 @@ fn is_accepted(alloc: Global, f: &Cnf, log: &Log) -> Result<bool, Fail>
     Ok(check(f, log, &mut scratch) == Verdict::NoEmptyClause)
 }
 
-/// Shares the steps, which the checker takes over the clause and the pool's first ones.
+// Shares the steps, which the checker takes over the clause and the pool's first ones.
 fn share(
     alloc: Global,
     pool: &mut Pool,
@@ -153,7 +153,7 @@ fn share(
     Ok(count)
 }
 
-/// Whether these are the hints of the steps.
+// Whether these are the hints of the steps.
 fn has_hints(log: &Log, hints: &[&[u32]]) -> bool {
     let steps = log.steps();
     steps.len() == hints.len()

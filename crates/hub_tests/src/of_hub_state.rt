@@ -15,7 +15,7 @@ use std::sync::{Arc, Wait};
 use std::test::Fail;
 use translation::Translation;
 
-/// The problem without relations whose formula is always true.
+// The problem without relations whose formula is always true.
 fn always(alloc: Global) -> Result<Problem, AllocError>
     ensures { IfOk result (λ p. p ≡ record { relations = []; tops = []; formula = conjunction no_formulas }) }
 {
@@ -23,7 +23,7 @@ fn always(alloc: Global) -> Result<Problem, AllocError>
     Ok(Problem::of(alloc, Vec::new(alloc), Vec::new(alloc), formula)?)
 }
 
-/// Its translation.
+// Its translation.
 fn translated(alloc: Global) -> Result<Arc<Translation>, Fail>
     ensures { IfOk result (λ t. t.value.problem ≡ record { relations = []; tops = []; formula = conjunction no_formulas }) }
 {
@@ -31,7 +31,7 @@ fn translated(alloc: Global) -> Result<Arc<Translation>, Fail>
     Ok(Arc::new(alloc, made)?)
 }
 
-/// A hub of this problem.
+// A hub of this problem.
 fn hub_of_one(alloc: Global) -> Result<Hub, Fail>
     ensures { IfOk result (λ h. h ≡ record { problems = record { relations = []; tops = []; formula = conjunction no_formulas } ∷ []; journal = [] }) }
 {
@@ -40,7 +40,7 @@ fn hub_of_one(alloc: Global) -> Result<Hub, Fail>
     Ok(Hub::new(alloc, problems)?)
 }
 
-/// The clause without literals.
+// The clause without literals.
 fn empty_clause(alloc: Global) -> Result<Clause, Fail>
     ensures { IfOk result (λ clause. clause ≡ []) }
 {
@@ -50,7 +50,7 @@ fn empty_clause(alloc: Global) -> Result<Clause, Fail>
     }
 }
 
-/// The log of one step, with one hint.
+// The log of one step, with one hint.
 fn one_step(alloc: Global, clause: Clause, hint: u32) -> Result<Log, AllocError>
     ensures { IfOk result (λ log. log ≡ record { clause = clause; hints = hint ∷ [] } ∷ []) }
 {
@@ -62,7 +62,7 @@ fn one_step(alloc: Global, clause: Clause, hint: u32) -> Result<Log, AllocError>
     Ok(log)
 }
 
-/// The proof that the empty scenario is all: blocked, it leaves an empty clause behind those of the translation.
+// The proof that the empty scenario is all: blocked, it leaves an empty clause behind those of the translation.
 fn end_proof(alloc: Global, cnf: &Cnf) -> Result<EndProof, Fail>
     ensures { IfOk result (λ p. p ≡ record { imported = 0; blocked = [] ∷ []; pool = []; log = record { clause = []; hints = (length cnf.now.clauses + 1) ∷ [] } ∷ [] }) }
 {
@@ -72,7 +72,7 @@ fn end_proof(alloc: Global, cnf: &Cnf) -> Result<EndProof, Fail>
     Ok(EndProof::of(0, Scenarios::of(scenarios), Log::new(alloc), log))
 }
 
-/// So many steps that say the first clause again.
+// So many steps that say the first clause again.
 fn restated(alloc: Global, cnf: &Cnf, n: u32) -> Result<Log, Fail>
     requires { n < 100000 }
     ensures { IfOk result (λ log. IsAccepted cnf.now.clauses log) }
@@ -91,7 +91,7 @@ fn restated(alloc: Global, cnf: &Cnf, n: u32) -> Result<Log, Fail>
     Ok(log)
 }
 
-/// Publishes the translation, and shares so many steps that say its first clause again.
+// Publishes the translation, and shares so many steps that say its first clause again.
 fn publish_and_share(alloc: Global, hub: &mut Hub, t: Arc<Translation>, n: u32) -> Result<u32, Fail>
     requires problem { slice_get hub.old.problems 0 ≡ Some t.value.problem }
     requires few { n < 100000 }
@@ -102,7 +102,7 @@ fn publish_and_share(alloc: Global, hub: &mut Hub, t: Arc<Translation>, n: u32) 
     Ok(hub.share(alloc, 1, 0, 0, &free)?)
 }
 
-/// The first session: opened, published, imported, a scenario shown, an end with its proof, a step shared.
+// The first session: opened, published, imported, a scenario shown, an end with its proof, a step shared.
 fn first_session(alloc: Global, hub: &mut Hub, t: &Arc<Translation>) -> Result<(), Fail>
     requires hub { hub.old ≡ record { problems = record { relations = []; tops = []; formula = conjunction no_formulas } ∷ []; journal = [] } }
     requires translation { t.now.value.problem ≡ record { relations = []; tops = []; formula = conjunction no_formulas } }
@@ -141,7 +141,7 @@ fn first_session(alloc: Global, hub: &mut Hub, t: &Arc<Translation>) -> Result<(
     Ok(())
 }
 
-/// The second session: opened, and what was shared is imported.
+// The second session: opened, and what was shared is imported.
 fn second_session(alloc: Global, hub: &mut Hub) -> Result<Log, Fail>
     requires problems { hub.old.problems ≡ record { relations = []; tops = []; formula = conjunction no_formulas } ∷ [] }
     requires others { All (λ x. x.by ≡ 1) hub.old.journal }
@@ -151,7 +151,7 @@ fn second_session(alloc: Global, hub: &mut Hub) -> Result<Log, Fail>
     Ok(hub.import(alloc, 2, 0)?)
 }
 
-/// Opens a session in a turn of the first pass.
+// Opens a session in a turn of the first pass.
 fn open_in_turn<R: Wait>(rt: &R, lock: &Turns<Hub>, pass: &mut Pass<Hub>)
     requires own { pass.old.lock ≡ lock.now }
     requires idle { pass.old.view.turn ≡ None }
@@ -169,7 +169,7 @@ fn open_in_turn<R: Wait>(rt: &R, lock: &Turns<Hub>, pass: &mut Pass<Hub>)
     lock.give(pass, held);
 }
 
-/// The session's number, the place of the event in its list, and a number that it holds.
+// The session's number, the place of the event in its list, and a number that it holds.
 fn numbers_of(entry: &Entry) -> (u32, u32, u32) {
     match &entry.event {
         Event::Published { key } => (entry.by, 1, *key),
@@ -187,7 +187,7 @@ fn numbers_of(entry: &Entry) -> (u32, u32, u32) {
     }
 }
 
-/// Whether the journal's entries read as these numbers.
+// Whether the journal's entries read as these numbers.
 fn reads(hub: &Hub, want: &[(u32, u32, u32)]) -> bool {
     let entries = hub.journal();
     entries.len() == want.len()
@@ -250,7 +250,7 @@ fn a_pool_takes_20_000_steps(rt: HostRuntime) -> Result<(), Fail> {
     Ok(())
 }
 
-/// Takes what may go to another thread.
+// Takes what may go to another thread.
 fn crossing<T: Send>(value: T) -> T {
     value
 }

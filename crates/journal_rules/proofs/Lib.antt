@@ -1,5 +1,5 @@
 mod Prefixes
 mod Pools
 mod Imports
-mod Firsts
+mod FirstEntries
 mod Replays

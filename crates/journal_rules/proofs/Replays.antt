@@ -7,7 +7,7 @@ use Rattle.session_rules.specs.States.{State, Start}
 use Rattle.session_rules.specs.Steps.{state_after}
 use Rattle.journal_rules.specs.Noted.{Noted}
 use Rattle.journal_rules.specs.Journal.{IsReplay, IsLegal, exchanges_of}
-use Rattle.journal_rules.proofs.Firsts.{opened_once}
+use Rattle.journal_rules.proofs.FirstEntries.{opened_once}
 
 -- what is true of each problem is true of a key's
 pub of_key : (P : Bounded → Type 0) (problems : List Bounded) → All P problems → (key : ℕ) (p : Bounded) → slice_get problems key ≡ Some p → P p

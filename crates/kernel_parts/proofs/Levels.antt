@@ -3,7 +3,7 @@ use Rattle.std.proofs.Common.{◌≡◌, ℕ, suc, ◌+◌, ◌-◌, ◌<◌, Li
 use Rattle.std.proofs.lemmas.List.{map-append}
 use Rattle.rel_formula.specs.declared.formula.Expression.{Expression}
 use Rattle.rel_formula.specs.declared.formula.Formula.{Formula}
-use Rattle.rel_formula.specs.Kernel.{ExpressionTree, var, FormulaTree, equal, negation}
+use Rattle.rel_formula.specs.Kernel.{ExpressionTree, FormulaTree, equal, negation}
 use Rattle.rel_formula.specs.View.{expression_tree, formula_tree}
 use Rattle.lowering_rules.specs.Shifted.{shifted}
 use Rattle.lowering_rules.specs.Binders.{Local, under, variable, variables, differences, domain_of_each, bound_by}
@@ -11,13 +11,6 @@ use Rattle.kernel_parts.specs.Binding.{unequal_to}
 
 variables_next : (k end : ℕ) → k < end → variables k (end - k) ≡ variable k ∷ variables (k + 1) (end - (k + 1))
 variables_next k end l = let e : end - k ≡ suc (end - (k + 1)) = omega arith in ap (variables k) e
-
--- a variable under d binders
-pub variable_under : (d k : ℕ) → k < d → var (d - 1 - k) ≡ under d (variable k)
-variable_under d k l = let e : d - 1 - k ≡ 0 + (d - (k + 1)) = omega arith in ap var e
-
-pub unequal_at : (d k j : ℕ) → k < d → j < d → negation (equal (var (d - 1 - k)) (var (d - 1 - j))) ≡ unequal_to d k (variable j)
-unequal_at d k j l m = ap (λ a. negation (equal a (var (d - 1 - j)))) (variable_under d k l) ∙ ap (λ b. negation (equal (under d (variable k)) b)) (variable_under d j m)
 
 -- one variable beside all that stand behind it
 pub unequal_next : (d k j end : ℕ) (old new to : List FormulaTree) (f : FormulaTree) → j < end → new ≡ old ++ f ∷ [] → f ≡ unequal_to d k (variable j)

@@ -14,7 +14,7 @@ use std::alloc::{AllocError, Global};
 
 /// What a binder says of the atoms of its set.
 #[derive(Clone, Copy)]
-pub enum Binder {
+pub(crate) enum Binder {
     /// The body is true for each of them.
     All,
     /// It is true for some.
@@ -85,7 +85,7 @@ fn copies(alloc: Global, expressions: &[Expression]) -> Result<Vec<Expression>, 
 }
 
 /// The formula behind a binder for each of these domains, the outermost first.
-pub fn bound_by(
+pub(crate) fn bound_by(
     alloc: Global,
     binder: Binder,
     domains: Vec<Expression>,
@@ -118,7 +118,11 @@ fn with_binder(
 }
 
 /// The body of `all`, where these are true of the variables.
-pub fn where_all(alloc: Global, apart: Vec<Formula>, body: Formula) -> Result<Formula, AllocError>
+pub(crate) fn where_all(
+    alloc: Global,
+    apart: Vec<Formula>,
+    body: Formula,
+) -> Result<Formula, AllocError>
     ensures { IfOk result (λ f. formula_tree f ≡ binders.where_all (map formula_tree apart.items) (formula_tree body)) }
 {
     if apart.is_empty() {
@@ -128,7 +132,11 @@ pub fn where_all(alloc: Global, apart: Vec<Formula>, body: Formula) -> Result<Fo
 }
 
 /// The body of the other quantifiers, where these are true of the variables.
-pub fn where_some(alloc: Global, apart: Vec<Formula>, body: Formula) -> Result<Formula, AllocError>
+pub(crate) fn where_some(
+    alloc: Global,
+    apart: Vec<Formula>,
+    body: Formula,
+) -> Result<Formula, AllocError>
     ensures { IfOk result (λ f. formula_tree f ≡ binders.where_some (map formula_tree apart.items) (formula_tree body)) }
 {
     if apart.is_empty() {

@@ -46,7 +46,7 @@ fn related(
 }
 
 /// What a comparison says of the number of tuples.
-pub fn size_compared(
+pub(crate) fn size_compared(
     alloc: Global,
     comparison: Comparison,
     e: Expression,
@@ -65,7 +65,7 @@ pub fn size_compared(
 }
 
 /// What a comparison says of two relations.
-pub fn relations_compared(
+pub(crate) fn relations_compared(
     alloc: Global,
     comparison: Comparison,
     a: Expression,

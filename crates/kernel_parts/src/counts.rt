@@ -17,14 +17,14 @@ pub fn at_least(number: u16, e: Expression) -> Formula
 }
 
 /// More tuples than so many.
-pub fn more_than(number: u16, e: Expression) -> Formula
+pub(crate) fn more_than(number: u16, e: Expression) -> Formula
     ensures { formula_tree result ≡ parts.more_than number (expression_tree e) }
 {
     Formula::AtLeast(u32::from(number) + 1, e)
 }
 
 /// Fewer tuples than so many.
-pub fn less_than(alloc: Global, number: u16, e: Expression) -> Result<Formula, AllocError>
+pub(crate) fn less_than(alloc: Global, number: u16, e: Expression) -> Result<Formula, AllocError>
     ensures { IfOk result (λ f. formula_tree f ≡ negation (at_least number (expression_tree e))) }
 {
     Ok(negation(alloc, at_least(number, e))?)
@@ -47,7 +47,7 @@ pub fn exactly(alloc: Global, number: u16, e: Expression) -> Result<Formula, All
 }
 
 /// A tuple or more.
-pub fn some_of(e: Expression) -> Formula
+pub(crate) fn some_of(e: Expression) -> Formula
     ensures { formula_tree result ≡ parts.some_of (expression_tree e) }
 {
     at_least(1, e)
@@ -61,7 +61,7 @@ pub fn no_of(alloc: Global, e: Expression) -> Result<Formula, AllocError>
 }
 
 /// At most one tuple.
-pub fn lone_of(alloc: Global, e: Expression) -> Result<Formula, AllocError>
+pub(crate) fn lone_of(alloc: Global, e: Expression) -> Result<Formula, AllocError>
     ensures { IfOk result (λ f. formula_tree f ≡ parts.lone_of (expression_tree e)) }
 {
     Ok(less_than(alloc, 2, e)?)

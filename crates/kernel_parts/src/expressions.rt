@@ -69,7 +69,7 @@ pub fn closure(alloc: Global, a: Expression) -> Result<Expression, AllocError>
 }
 
 /// The pairs of the closure, and each atom beside itself.
-pub fn reflexive_closure(alloc: Global, a: Expression) -> Result<Expression, AllocError>
+pub(crate) fn reflexive_closure(alloc: Global, a: Expression) -> Result<Expression, AllocError>
     ensures { IfOk result (λ e. expression_tree e ≡ kernel.union (kernel.closure (expression_tree a)) kernel.iden) }
 {
     let walks = closure(alloc, a)?;
@@ -77,7 +77,11 @@ pub fn reflexive_closure(alloc: Global, a: Expression) -> Result<Expression, All
 }
 
 /// The second, and the pairs of the first whose first atom is first in no pair of the second.
-pub fn override_by(alloc: Global, a: Expression, b: Expression) -> Result<Expression, AllocError>
+pub(crate) fn override_by(
+    alloc: Global,
+    a: Expression,
+    b: Expression,
+) -> Result<Expression, AllocError>
     ensures { IfOk result (λ e. expression_tree e ≡ kernel.override (expression_tree a) (expression_tree b)) }
 {
     Ok(Expression::Override(Box::new(alloc, a)?, Box::new(alloc, b)?))

@@ -1,5 +1,5 @@
 -- Lists of clauses about cells, made one after the other.
-use Rattle.std.proofs.Common.{◌≡◌, ◌↔◌, inl, inr, ◌<◌, ◌≤◌, ◌+◌, ◌^◌, ℕ, zero, suc, Bool, true, false, not, cond, List, [], ◌∷◌, ◌++◌, map, take, filter, length, get_or, All, AllPairs, Contains, refl, sym, ◌∙◌, ap, subst, arith}
+use Rattle.std.proofs.Common.{◌≡◌, ◌↔◌, inl, inr, ◌<◌, ◌≤◌, ◌+◌, ◌^◌, ℕ, zero, suc, Bool, true, false, not, cond, List, [], ◌∷◌, ◌++◌, map, take, filter, length, get_or, All, AllPairs, Contains, refl, sym, ◌∙◌, ap, arith}
 use Rattle.std.specs.Prelude.{nat_eq}
 use Rattle.std.specs.List.{list_any, range_with_len}
 use Rattle.std.proofs.lemmas.Bool.{cases_Bool, cases_lt}
@@ -91,13 +91,6 @@ pub absence_clause : (cells : List ℕ) → All (λ cell. IsVariable (var_of cel
 absence_clause cells variables rising = record {
   rising = pairs_map (λ (a b : Lit). a.var < b.var) (λ cell. negation_of (literal_of cell)) cells (λ j k d less l. let h = rising j k d less l in omega arith);
   variables = All-map (λ (l : Lit). IsVariable l.var) (λ cell. negation_of (literal_of cell)) cells variables;
-}
-
--- one literal is a clause
-pub one_literal : (l : Lit) → IsVariable l.var → IsClause (l ∷ [])
-one_literal l is = record {
-  rising = λ j k d less in'. absurd (omega arith);
-  variables = λ k d in'. let first : k ≡ zero = omega arith in subst (λ n. IsVariable (get_or (l ∷ []) n d).var) (sym first) is;
 }
 
 -- the cells of a problem have variables

@@ -10,7 +10,7 @@ use Rattle.lowering_rules.specs.declared.fault.LowerFault.{LowerFault}
 use Rattle.lowering_rules.specs.declared.fault.LowerFault.TheVariants as fault
 use Rattle.lowering_rules.specs.Relations.{IsOutlined, outlines}
 use Rattle.lowering_rules.specs.Problem.{command_at, ProblemOf, HasMoreCells, IsRefusal}
-use Rattle.lowering_rules.proofs.One.{same_sizes, sizes_not, few_cells}
+use Rattle.lowering_rules.proofs.OneProblem.{same_sizes, sizes_not, few_cells}
 
 some_not : (c : CommandTree) (o : Option CommandTree) → o ≡ None → o ≡ Some c → ⊥
 some_not c o e f = absurd cc

@@ -22,7 +22,7 @@ use Rattle.lowering_rules.proofs.Inversion.{bind_ok, same_ok, arity_inv, unless_
 use Rattle.lowering_rules.proofs.Outlined.{same_some}
 use Rattle.lowering_rules.proofs.Arities.{get_map, map_get}
 use Rattle.lowering_rules.proofs.SettledCalls.{kept, formulas_kept, domains_kept}
-use Rattle.lowering_rules.proofs.Stable.{declared_with, header_same, headers_agree}
+use Rattle.lowering_rules.proofs.StableParts.{declared_with, header_same, headers_agree}
 use Rattle.lowering_rules.proofs.Unfolded.{none_past}
 use Rattle.lowering_rules.proofs.ProblemFormulas.{settled_is, known}
 

@@ -4,7 +4,7 @@ use Rattle.std.proofs.lemmas.Bool.Decides.{nat_tests}
 use Rattle.alloy_lex.specs.declared.token.Place.{Place}
 use Rattle.named_model.specs.Answers.{◌>>=◌}
 use Rattle.model_types.specs.declared.fault.TypeFault.{TypeFault}
-use Rattle.model_types.specs.Sorts.{Kind, relation, formula, number, size, unless, as_relation, as_formula, as_number}
+use Rattle.model_types.specs.Sorts.{Kind, relation, formula, number, size, unless, as_relation, as_formula}
 
 pub bind_ok : {A B F : Type 0} (r : Result A F) (f : A → Result B F) (b : B) → (r >>= f) ≡ Ok b → (a : A) × (r ≡ Ok a) × (f a ≡ Ok b)
 bind_ok (Ok a) f b e = (a, refl, e)
@@ -31,12 +31,6 @@ formula_inv p (relation m) u e = absurd cc
 formula_inv p formula u e = refl
 formula_inv p number u e = absurd cc
 formula_inv p size u e = absurd cc
-
-pub number_inv : (p : Place) (k : Kind) (u : Unit {0}) → as_number p k ≡ Ok u → k ≡ number
-number_inv p (relation m) u e = absurd cc
-number_inv p formula u e = absurd cc
-number_inv p number u e = refl
-number_inv p size u e = absurd cc
 
 pub unless_inv : (b : Bool) (f : TypeFault) (u : Unit {0}) → unless b f ≡ Ok u → b ≡ true
 unless_inv true f u e = refl

@@ -2,8 +2,8 @@ pub mod Outlined
 mod Symmetric
 pub mod Tops
 pub mod Atoms
-mod Formed
-mod One
+mod FormedProblems
+mod OneProblem
 mod FirstFaults
 pub mod Unfolded
 pub mod Inversion
@@ -14,11 +14,11 @@ mod Rightness
 mod Bodies
 mod Sound
 pub mod Arities
-mod Plain
-mod Proper
+mod SettledBounds
+mod ProperDeclarations
 pub mod ProblemFormulas
 mod SettledCalls
-mod Stable
+mod StableParts
 pub mod Headers
 pub mod Paragraphs
 mod References

@@ -31,7 +31,7 @@ use Rattle.lowering_rules.proofs.Inversion.{bind_ok, same_ok, arity_inv, unless_
 use Rattle.lowering_rules.proofs.Bound.{ListProper, list_proper, list_both, disjoint_right, quantified_right}
 use Rattle.lowering_rules.proofs.Sound.{part_right, formulas_proper, domains_proper}
 use Rattle.lowering_rules.proofs.Arities.{get_map, map_get}
-use Rattle.lowering_rules.proofs.Proper.{flat_right, signature_right, fields_right}
+use Rattle.lowering_rules.proofs.ProperDeclarations.{flat_right, signature_right, fields_right}
 
 -- ---- things whose shared names are settled
 

@@ -1,3 +1,3 @@
 pub mod Cells
-pub mod Going
-pub mod Answered
+pub mod DescentStates
+pub mod SolverAnswers

@@ -1,12 +1,13 @@
 -- What a descent comes to, and what its parts are.
-use Rattle.std.specs.Prelude.{◌≡◌, ◌≤◌, ℕ, List, ◌∷◌, map, All}
+use Rattle.std.specs.Prelude.{◌≡◌, ◌≤◌, ℕ, List, [], ◌∷◌, ◌++◌, map, All}
 use Rattle.refutation_check.specs.declared.log.Step.{Step as LogStep}
+use Rattle.refutation_check.specs.Chain.{EndsEmpty}
 use Rattle.refutation_check.specs.Part.{Parted}
 use Rattle.rel_formula.specs.Bounds.{Bounded}
 use Rattle.rel_formula.specs.Instance.{IsMinimalAbove, Includes}
 use Rattle.translation_rules.specs.Translation.{Translated}
 use Rattle.translation_rules.specs.Parts.{AreSearched, novel_in}
-use Rattle.translation_rules.specs.Descents.{Lowering, GoesDown}
+use Rattle.translation_rules.specs.Descents.{Lowering, GoesDown, descent_locals}
 use Rattle.minimiser.specs.declared.descent.Down.{Down}
 use Rattle.minimiser.specs.declared.descent.Down.TheVariants.{Minimal, Spent}
 
@@ -28,7 +29,11 @@ pub record IsDescent (t : Translated) (pool : List LogStep) (floor start : List 
   pub searched : AreSearched t pool parts
   pub few : novel_in t pool parts ≤ budget
 
--- the scenario is minimal above the floor, and lies in the start; or the budget is spent, all of it
+-- the last part is the search for an instance above the floor that lies below the scenario, and its log ends with the empty clause
+abbrev pub RefutesSmaller : Translated → List ℕ → List ℕ → List Parted → Type 0
+RefutesSmaller t floor scenario parts = (before : List Parted) × (last : Parted) × (parts ≡ before ++ last ∷ []) × (last.local ≡ descent_locals t.problem floor scenario) × EndsEmpty last.log
+
+-- the scenario is minimal above the floor, as the last part shows, and lies in the start; or the budget is spent, all of it
 abbrev pub IsRight : Translated → List LogStep → List ℕ → List ℕ → ℕ → Down → Type 0
-IsRight t pool floor start budget (Minimal scenario parts) = IsMinimalAbove t.problem floor scenario × Includes start scenario
+IsRight t pool floor start budget (Minimal scenario parts) = IsMinimalAbove t.problem floor scenario × Includes start scenario × RefutesSmaller t floor scenario parts.items
 IsRight t pool floor start budget (Spent parts) = novel_in t pool parts.items ≡ budget

@@ -19,7 +19,7 @@ use translation_rules::laws::descent_clauses_say_what_is_smaller;
 /// What a descent comes to, with its searches in order.
 #[derive(Drop)]
 pub enum Down {
-    /// A minimal scenario.
+    /// A minimal scenario; the last part refutes that an instance lies below it.
     Minimal {
         scenario: Scenario,
         parts: Vec<Part>,

@@ -12,7 +12,7 @@ use named_model::named::{Listing, Scope, Signature};
 use named_model::{NameFault, Named};
 use std::alloc::Global;
 
-/// The largest number of places in all.
+// The largest number of places in all.
 const PLACES_LIMIT: u16 = 64;
 
 /// The sizes of the top-level signatures under the command of that number, which are numbered from 1; or the first fault of

@@ -80,6 +80,7 @@ pub struct Scope {
     pub listings: Vec<Listing>,
 }
 
+/// A command: what it runs or checks, and its scope, if it has one.
 #[derive(Drop)]
 pub struct Command {
     pub kind: CommandKind,

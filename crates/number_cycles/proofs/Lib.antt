@@ -1,3 +1,3 @@
 pub mod WalkEdges
-pub mod Raised
+pub mod EdgeHeights
 pub mod NumbersMet

@@ -1,2 +1,2 @@
-pub mod Saying
-pub mod Gathering
+pub mod ParagraphParts
+pub mod ParagraphLoops

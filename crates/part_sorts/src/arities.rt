@@ -7,7 +7,7 @@ use alloy_lex::Place;
 use alloy_syntax::tree::{Constant, Operator};
 use model_types::TypeFault;
 
-/// The largest arity.
+// The largest arity.
 const LARGEST: usize = 3;
 
 /// The arity of a constant.
@@ -35,7 +35,7 @@ pub fn joined_arity(place: Place, left: usize, right: usize) -> Result<usize, Ty
 }
 
 /// The one arity of two relations beside an operator at the place.
-pub fn same_arity(place: Place, left: usize, right: usize) -> Result<usize, TypeFault>
+pub(crate) fn same_arity(place: Place, left: usize, right: usize) -> Result<usize, TypeFault>
     ensures { result ≡ same_arity place left right }
 {
     if left != right {
@@ -45,7 +45,7 @@ pub fn same_arity(place: Place, left: usize, right: usize) -> Result<usize, Type
 }
 
 /// The arity of a relation that has to be binary, for an operator at the place.
-pub fn binary_arity(place: Place, arity: usize) -> Result<usize, TypeFault>
+pub(crate) fn binary_arity(place: Place, arity: usize) -> Result<usize, TypeFault>
     ensures { result ≡ binary_arity place arity }
 {
     if arity != 2 {

@@ -10,14 +10,14 @@ use alloy_syntax::tree::Comparison;
 use model_types::TypeFault;
 
 /// Whether relations can be compared so.
-pub fn compares_relations(comparison: Comparison) -> bool
+pub(crate) fn compares_relations(comparison: Comparison) -> bool
     ensures { result ≡ compares_relations comparison }
 {
     matches!(comparison, Comparison::In | Comparison::Equal)
 }
 
 /// Whether a size can be compared so.
-pub fn compares_sizes(comparison: Comparison) -> bool
+pub(crate) fn compares_sizes(comparison: Comparison) -> bool
     ensures { result ≡ compares_sizes comparison }
 {
     !matches!(comparison, Comparison::In)

@@ -38,7 +38,7 @@ pub fn as_formula(place: Place, kind: Kind) -> Result<(), TypeFault>
 }
 
 /// Whether a part that begins at the place is a number.
-pub fn as_number(place: Place, kind: Kind) -> Result<(), TypeFault>
+pub(crate) fn as_number(place: Place, kind: Kind) -> Result<(), TypeFault>
     ensures { result ≡ as_number place (kind_view kind) }
 {
     match kind {

@@ -8,8 +8,8 @@ use Rattle.alloy_syntax.specs.Readers.{Stop, refused, too_deep, Parser, â—Œ>>=â—
 use Rattle.alloy_syntax.specs.Bounds.{Standing, BoundReader, is_whole, word_round, operand_in, standing_beside, word_beside, refuse_word, side_over, begins_bound_arrow, bound_arrow_over, more_bound_arrows, bound_arrows_over, operand_over, bound_over, begins_bound, bound_within}
 use Rattle.alloy_grammar.proofs.Results.{either}
 use Rattle.alloy_grammar.proofs.Lists.{Shortens}
-use Rattle.fault_places.proofs.Among.{LeavesLast, Lands, Keeps, read, stops, all_last, after_last, after_mark_last, among_then, among_choice, expect_lands, spelled_lands, many_lands}
-use Rattle.refused_tokens.proofs.Seam.{Seam, At, near, past, out, ended, Out, Law, landed, stay, stay_all, then_out, choose, at_after, short_behind, many_free, sees_class}
+use Rattle.fault_places.proofs.LastTokens.{LeavesLast, Lands, Keeps, read, stops, all_last, after_last, after_mark_last, among_then, among_choice, expect_lands, spelled_lands, many_lands}
+use Rattle.refused_tokens.proofs.SeamedLists.{Seam, At, near, past, out, ended, Out, Law, landed, stay, stay_all, then_out, choose, at_after, short_behind, many_free, sees_class}
 use Rattle.refused_tokens.proofs.Tests.{sees_bound_arrow}
 use Rattle.refused_tokens.proofs.Nodes.{expect_law, name_law, mark_law}
 

@@ -12,11 +12,11 @@ use Rattle.alloy_syntax.specs.Readers.{Stop, refused, too_deep, unsupported, ◌
 use Rattle.alloy_syntax.specs.Bounds.{Bounded, Standing, whole, part, beside, BoundReader, is_whole, word_round, operand_in, standing_beside, word_beside, refuse_word, side_over, begins_bound_arrow, bound_arrow_over, more_bound_arrows, bound_arrows_over, operand_over, bound_over, begins_bound, bound_within}
 use Rattle.alloy_grammar.proofs.Results.{either, done_is, no_success}
 use Rattle.fault_places.specs.Stops.{AreLast}
-use Rattle.fault_places.proofs.Among.{Among, LeavesLast, Lands, Keeps, read, stops, all_last, after_last, after_mark_last, among_then, among_choice, expect_lands, spelled_lands, many_lands}
+use Rattle.fault_places.proofs.LastTokens.{Among, LeavesLast, Lands, Keeps, read, stops, all_last, after_last, after_mark_last, among_then, among_choice, expect_lands, spelled_lands, many_lands}
 use Rattle.fault_places.proofs.Bounds.{bound_refuses}
 use Rattle.refused_tokens.proofs.Bounds.{BoundsLand, side_land, plain_arrow, arrow_is, arrow_land, arrows_land, operand_land, word_passes, bound_land, bounds_land}
-use Rattle.refused_tokens.proofs.Beyond.{bound_beyond}
-use Rattle.refused_tokens.proofs.Calm.{calm, expect_calm, spelled_calm}
+use Rattle.refused_tokens.proofs.TakenTokens.{bound_beyond}
+use Rattle.refused_tokens.proofs.ShallowReadings.{calm, expect_calm, spelled_calm}
 use Rattle.refused_tokens.proofs.Lasting.{Later, Lasts, Lasting, same, later, Room, less_room, no_room, among_known, among_read, both_read, lasts_on, lasts_on_known, lasts_known, lasts_then, lasts_choice, many_last}
 
 -- ---- words that stand before tokens

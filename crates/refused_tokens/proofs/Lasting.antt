@@ -5,9 +5,9 @@ use Rattle.alloy_syntax.specs.declared.class.Class.TheVariants as class
 use Rattle.alloy_syntax.specs.declared.seen.Seen.{Seen}
 use Rattle.alloy_syntax.specs.Readers.{Stop, Parser, ◌>>=◌, next_is, after, repeated, many, behind, others, listed}
 use Rattle.alloy_grammar.proofs.Results.{done_is, no_success}
-use Rattle.refused_tokens.proofs.Calm.{Calm, calm, stop_calm}
+use Rattle.refused_tokens.proofs.ShallowReadings.{Calm, calm, stop_calm}
 use Rattle.fault_places.specs.Stops.{unread}
-use Rattle.fault_places.proofs.Among.{Among, LeavesLast, Keeps, read, stops, among_then, among_choice, many_lands, behind_lands}
+use Rattle.fault_places.proofs.LastTokens.{Among, LeavesLast, Keeps, read, stops, among_then, among_choice, many_lands, behind_lands}
 
 -- ---- what is known of a reading that succeeds
 

@@ -1,11 +1,11 @@
-pub mod Seam
+pub mod SeamedLists
 pub mod Tests
 pub mod Nodes
-pub mod Deep
+pub mod NestedNodes
 pub mod Bounds
 pub mod Models
-pub mod Beyond
-pub mod Calm
+pub mod TakenTokens
+pub mod ShallowReadings
 pub mod Lasting
 pub mod NodesLasting
 pub mod BoundsLasting

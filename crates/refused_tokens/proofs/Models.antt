@@ -20,14 +20,14 @@ use Rattle.alloy_grammar.proofs.Results.{either, no_success}
 use Rattle.alloy_grammar.proofs.Models.{paragraph_read}
 use Rattle.alloy_grammar.proofs.WholeModels.{model_full}
 use Rattle.fault_places.specs.Stops.{AreLast}
-use Rattle.fault_places.proofs.Among.{Lands, read, among_then, expect_lands, all_last, number_lands, spelled_lands}
+use Rattle.fault_places.proofs.LastTokens.{Lands, read, among_then, expect_lands, all_last, number_lands, spelled_lands}
 use Rattle.fault_places.proofs.ModelsAmong as among
 use Rattle.fault_places.proofs.Models.{stays, lenient, roomier}
 use Rattle.refused_tokens.specs.Texts.{next_terminal, GoesOn}
-use Rattle.refused_tokens.proofs.Seam.{Seam, rest_of, tail_of, At, near, past, out, of_near, of_past, IsElse, Past, went, faulty, Parted, both, kept, holds, leaves, ended, Out, Law, landed, past_then, past_choice, stay, then_out, sees_near, sees_at, same_choice, choose, guarded, at_after, stay_after, at_choice, short_behind, many_free, sees_class, listed_free, listed_past}
+use Rattle.refused_tokens.proofs.SeamedLists.{Seam, rest_of, tail_of, At, near, past, out, of_near, of_past, IsElse, Past, went, faulty, Parted, both, kept, holds, leaves, ended, Out, Law, landed, past_then, past_choice, stay, then_out, sees_near, sees_at, same_choice, choose, guarded, at_after, stay_after, at_choice, short_behind, many_free, sees_class, listed_free, listed_past}
 use Rattle.refused_tokens.proofs.Tests.{sees_qualifier, sees_left}
 use Rattle.refused_tokens.proofs.Nodes.{other_is, Steady, expect_law, name_law, number_law, names_law, mark_law, token_class, block_law, sum_law, braced_law, declarations_law}
-use Rattle.refused_tokens.proofs.Deep.{steady}
+use Rattle.refused_tokens.proofs.NestedNodes.{steady}
 use Rattle.refused_tokens.proofs.Bounds.{bounds_law}
 
 module _ (s : Seam) where

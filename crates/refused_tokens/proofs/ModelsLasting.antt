@@ -15,12 +15,12 @@ use Rattle.alloy_syntax.specs.Nodes.{within}
 use Rattle.alloy_syntax.specs.Paragraphs.{own_block, field_at, fields_at, qualified, signatures_at, fact_at, parameters_to, parameter_list, predicate_at, function_at, assertion_at, target_at, command_at, paragraph_at, is_left, open_at, model_at}
 use Rattle.alloy_grammar.proofs.Results.{no_success}
 use Rattle.fault_places.specs.Stops.{unread, AreLast}
-use Rattle.fault_places.proofs.Among.{Among, read, stops, all_last, after_mark_last, among_then, among_choice, expect_lands}
+use Rattle.fault_places.proofs.LastTokens.{Among, read, stops, all_last, after_mark_last, among_then, among_choice, expect_lands}
 use Rattle.fault_places.proofs.NodesAmong as nodes
 use Rattle.fault_places.proofs.ModelsAmong as among
 use Rattle.fault_places.proofs.Models.{stays, roomier, passing}
 use Rattle.refused_tokens.proofs.BoundsLasting.{whole_lasts}
-use Rattle.refused_tokens.proofs.Calm.{calm, never_deep, expect_calm, spelled_calm, many_calm, names_calm, parent_calm, label_calm, scope_calm, expected_calm, heading_calm, open_calm}
+use Rattle.refused_tokens.proofs.ShallowReadings.{calm, never_deep, expect_calm, spelled_calm, many_calm, names_calm, parent_calm, label_calm, scope_calm, expected_calm, heading_calm, open_calm}
 use Rattle.refused_tokens.proofs.Lasting.{Later, Outlasts, Lasting, same, later, Room, alike, both_read, lasts_on, lasts_then, lasts_choice, many_lasts, listed_lasts}
 use Rattle.refused_tokens.proofs.NodesLasting.{Below, block_lasts, sum_lasts, braced_lasts, declarations_lasts, within_lasts}
 

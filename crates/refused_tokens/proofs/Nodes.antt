@@ -23,9 +23,9 @@ use Rattle.alloy_grammar.proofs.Results.{either}
 use Rattle.alloy_grammar.proofs.Tokens.{class_is}
 use Rattle.alloy_grammar.proofs.Lists.{Shortens}
 use Rattle.fault_places.specs.Stops.{AreLast}
-use Rattle.fault_places.proofs.Among.{Lands, Keeps, read, among_then, all_last, after_last, one_lands, expect_lands, spelled_lands, many_lands}
+use Rattle.fault_places.proofs.LastTokens.{Lands, Keeps, read, among_then, all_last, after_last, one_lands, expect_lands, spelled_lands, many_lands}
 use Rattle.fault_places.proofs.NodesAmong as among
-use Rattle.refused_tokens.proofs.Seam.{Seam, rest_of, tail_of, At, near, past, out, of_near, of_past, IsElse, Past, went, faulty, Runs, comma_here, name_next, name_then, Held, Kept, holds, leaves, Parted, both, kept, ended, Out, Law, landed, past_then, past_choice, kept_then, stay, stay_all, then_held, then_out, sees_near, same_choice, choose, guarded, at_after, stay_after, at_choice, Onward, more_past, same, first, second, Tested, many_out, runs_first, quiet_held, short_behind, many_quiet, many_free, hold_quiet, class_next, sees_class, comma_short, listed_free}
+use Rattle.refused_tokens.proofs.SeamedLists.{Seam, rest_of, tail_of, At, near, past, out, of_near, of_past, IsElse, Past, went, faulty, Runs, comma_here, name_next, name_then, Held, Kept, holds, leaves, Parted, both, kept, ended, Out, Law, landed, past_then, past_choice, kept_then, stay, stay_all, then_held, then_out, sees_near, same_choice, choose, guarded, at_after, stay_after, at_choice, Onward, more_past, same, first, second, Tested, many_out, runs_first, quiet_held, short_behind, many_quiet, many_free, hold_quiet, class_next, sees_class, comma_short, listed_free}
 use Rattle.refused_tokens.proofs.Tests.{sees_mark, sees_counting, sees_tightening, sees_constant, sees_inner, sees_step, sees_link, sees_plain, quiet_class, quiet_step, quiet_link, quiet_arrow}
 
 -- ---- one token

@@ -21,11 +21,11 @@ use Rattle.alloy_syntax.specs.Readers.{Stop, refused, too_deep, unsupported, Par
 use Rattle.alloy_syntax.specs.Nodes.{Reader, may_be_block, begins_primary, begins_tight, begins_sum, begins_node, begins, stop_at, is_comprehension, block_over, block_tree, is_inner, paren_over, is_constant, primary_over, behind_prefix, is_tightening, tightening_of, tight_over, arguments_over, brackets_over, begins_step, step_over, path_over, begins_link, link_over, chained, restrict_over, begins_arrow, arrow_over, arrows_over, meet_over, override_over, size_over, sum_over, braced_over, counting_of, is_counting, counted_over, begins_comparison, comparison_over, begins_declaration, quantifier_of, negation_over, and_over, implied_over, implication_over, iff_over, node_over, is_single, after_disj, one_name, are_several, one_alone, variable_names, variables_over, declaration_over, another_declaration, more_declarations, declarations_over, body_over, quantified_over, binding_over, bindings_over, let_over, inside_over, within}
 use Rattle.alloy_grammar.proofs.Results.{success, stop, known, either, done_is, no_success}
 use Rattle.fault_places.specs.Stops.{AreLast}
-use Rattle.fault_places.proofs.Among.{LeavesLast, Lands, Keeps, read, all_last, after_last, after_mark_last, among_then, among_choice, expect_lands, spelled_lands, many_lands, behind_lands, names_land}
+use Rattle.fault_places.proofs.LastTokens.{LeavesLast, Lands, Keeps, read, all_last, after_last, after_mark_last, among_then, among_choice, expect_lands, spelled_lands, many_lands, behind_lands, names_land}
 use Rattle.fault_places.proofs.NodesAmong as among
 use Rattle.fault_places.proofs.Rooms.{comprehension_stops, part_refuses}
-use Rattle.refused_tokens.proofs.Beyond.{inside_beyond}
-use Rattle.refused_tokens.proofs.Calm.{calm, stopped_calm, expect_calm, spelled_calm, number_calm, names_calm, comparing_calm, variables_calm}
+use Rattle.refused_tokens.proofs.TakenTokens.{inside_beyond}
+use Rattle.refused_tokens.proofs.ShallowReadings.{calm, stopped_calm, expect_calm, spelled_calm, number_calm, names_calm, comparing_calm, variables_calm}
 use Rattle.refused_tokens.proofs.Lasting.{Later, Lasts, Lasting, same, later, Room, less_room, no_room, among_read, alike, both_read, lasts_on, lasts_on_known, lasts_known, lasts_then, lasts_choice, repeated_lands, many_lasts, listed_lasts}
 
 link_lasts : {strict deeper : Bool} (l : Level) (p q : Parser Tree) → Lasting strict deeper p q → Lasting strict deeper (link_over l p) (link_over l q)

@@ -9,7 +9,7 @@ use Rattle.alloy_syntax.specs.Readers.{next_is, is_mark}
 use Rattle.alloy_syntax.specs.Bounds.{begins_bound_arrow}
 use Rattle.alloy_syntax.specs.Nodes.{is_inner, is_constant, is_tightening, begins_step, begins_link, begins_arrow, is_counting, is_plain_comparison}
 use Rattle.alloy_syntax.specs.Paragraphs.{is_qualifier, is_left}
-use Rattle.refused_tokens.proofs.Seam.{Sees, Quiet}
+use Rattle.refused_tokens.proofs.SeamedLists.{Sees, Quiet}
 
 pub sees_mark : Sees is_mark
 unfolding is_mark next_is

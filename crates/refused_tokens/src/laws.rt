@@ -2,30 +2,21 @@
 ghost use Rattle.std.specs.Prelude.{◌≡◌, ◌≤◌, ◌<◌, ℕ, List, ◌∷◌, ◌++◌, Bool, true, false, Result, Err};
 ghost use Rattle.alloy_syntax.specs.declared.seen.Seen.{Seen};
 ghost use Rattle.alloy_syntax.specs.Readers.{Stop, refused, too_deep};
-ghost use Rattle.alloy_syntax.specs.Paragraphs.{model_at, model_of};
+ghost use Rattle.alloy_syntax.specs.Paragraphs.{model_at};
 ghost use Rattle.fault_places.specs.Stops.{unread, AreLast};
 ghost use Rattle.refused_tokens.specs.Texts.{GoesOn};
 
 /// Where a token is refused, no text of the grammar goes on: none begins with the tokens before it and then has a token of its
-/// terminal, whatever stands behind. Where the end is refused, the tokens themselves are no text.
+/// terminal, whatever stands behind. Where the end is refused, the tokens themselves are no text. So it is under each limit, and where
+/// forms may pass that the language refuses.
 pub fn no_text_goes_on()
-    ensures { (before rest : List Seen) → model_of (before ++ rest) ≡ Err (refused rest) → GoesOn before rest → ⊥ }
-{}
-
-/// The same under each limit, and where forms may pass that the language refuses.
-pub fn no_text_goes_on_under_any_limit()
     ensures { (strict : Bool) (limit : ℕ) (before rest : List Seen) → model_at strict limit (before ++ rest) ≡ Err (refused rest) → GoesOn before rest → ⊥ }
 {}
 
 /// The fault that a text has is the first of all: under each greater limit, and where forms may pass, reading stops there or behind
-/// it, if it stops.
+/// it, if it stops. So nothing is at fault before what lies too deep.
 pub fn no_fault_stands_before_the_first()
     ensures { (limit more : ℕ) (ts : List Seen) (stop other : Stop) → limit ≤ more → model_at true limit ts ≡ Err stop → model_at false more ts ≡ Err other → AreLast (unread stop) (unread other) }
-{}
-
-/// In particular, nothing is at fault before what lies too deep.
-pub fn no_fault_stands_before_what_lies_too_deep()
-    ensures { (limit more : ℕ) (ts rest : List Seen) (stop : Stop) → limit ≤ more → model_at true limit ts ≡ Err (too_deep rest) → model_at false more ts ≡ Err stop → AreLast rest (unread stop) }
 {}
 
 /// Depth is the one fault of its token: what lies too deep is neither refused nor a refused form, under any limit, where forms may

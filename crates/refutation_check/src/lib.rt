@@ -10,13 +10,13 @@ mod part;
 mod proof_text;
 mod refutation;
 
-pub use laws::{
+pub use crate::laws::{
     bytes_say_one_proof, chains_are_renumbered, free_steps_are_accepted,
     lifted_pool_and_log_are_accepted, novel_steps_are_counted,
 };
-pub use lifting::lift;
-pub use log::{Hints, Log, Step};
-pub use marks::{Sight, look};
-pub use part::Part;
-pub use proof_text::{MOST_BYTES, ProofFault, read_proof, write_proof};
-pub use refutation::{Scratch, Verdict, accepted_is_entailed, check};
+pub use crate::lifting::lift;
+pub use crate::log::{Hints, Log, Step};
+pub use crate::marks::{Sight, look};
+pub use crate::part::Part;
+pub use crate::proof_text::{MOST_BYTES, ProofFault, read_proof, write_proof};
+pub use crate::refutation::{Scratch, Verdict, accepted_is_entailed, check};

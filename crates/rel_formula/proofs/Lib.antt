@@ -19,4 +19,4 @@ pub mod Renamed
 pub mod OneSetOfAtoms
 pub mod Unary
 pub mod Copies
-pub mod Two
+pub mod TwoRelations

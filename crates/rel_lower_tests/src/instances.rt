@@ -4,7 +4,7 @@ use rel_formula::{Problem, holds};
 use sample_problems::scenario_of;
 use std::alloc::{AllocError, Global};
 
-/// The most cells of a problem of which all scenarios are tried.
+// The most cells of a problem of which all scenarios are tried.
 const MOST_CELLS: u32 = 12;
 
 /// How many scenarios are instances. More than 12 cells are too many.

@@ -13,7 +13,7 @@ use Rattle.rel_terms.proofs.Numbers.{only_is, only_product}
 use Rattle.rel_terms.proofs.TupleSizes.{rows_size, rows_list}
 use Rattle.rel_terms.proofs.Adding.{adds_then, adds_both, adds_only, adds_left}
 use Rattle.rel_terms.proofs.Counted.{adds_alike, alike_size, counted_same}
-use Rattle.rel_terms.proofs.Parted.{AtomHas, rows_sums}
+use Rattle.rel_terms.proofs.PartTerms.{AtomHas, rows_sums}
 
 -- the size of an operand that was counted before
 pub operand_adds : {v : Rows} {n : ℕ} {P : Pred} {C D : Number} {e b x y a : ℕ} → IsCounted v n P C e x → x ≤ y → Adds D b y → Adds (HasSize (Contains v.rows)) y a → Adds (D ⊕ HasSize P) b a

@@ -1,6 +1,6 @@
 pub mod Numbers
 pub mod TupleSizes
-pub mod Once
+pub mod OneCount
 pub mod Uppers
 pub mod Adding
 pub mod MeetingTuples
@@ -8,6 +8,6 @@ pub mod Starting
 pub mod Walked
 pub mod Counted
 pub mod Leaves
-pub mod Parted
+pub mod PartTerms
 pub mod FormulaTerms
 pub mod Translatable

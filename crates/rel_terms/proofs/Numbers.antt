@@ -32,6 +32,3 @@ only_product C D k l c d = record {
   has = (k, l, c.has, d.has, refl);
   no_other = λ n h. h.4 ∙ (λ i. c.no_other h.0 h.2 i * d.no_other h.1 h.3 i);
 }
-
-pub sum_same : (C D E F : Number) (n : ℕ) → ((k : ℕ) → C k → E k) → ((k : ℕ) → D k → F k) → (C ⊕ D) n → (E ⊕ F) n
-sum_same C D E F n f g h = (h.0, h.1, f h.0 h.2, g h.1 h.3, h.4)

@@ -1,5 +1,5 @@
 -- Sizes of sets of tuples.
-use Rattle.std.proofs.Common.{◌≡◌, ◌≢◌, ℕ, zero, suc, ◌≤◌, ◌⊎◌, inl, inr, List, [], ◌∷◌, ◌++◌, AllPairs, All, Contains, length, refl, sym, ◌∙◌, ap, arith}
+use Rattle.std.proofs.Common.{◌≡◌, ◌≢◌, ℕ, zero, suc, ◌⊎◌, inl, inr, List, [], ◌∷◌, ◌++◌, AllPairs, All, Contains, length, refl, sym, ◌∙◌, ap}
 use Rattle.std.proofs.lemmas.List.Elements.{Contains-append_cases, Contains-append_left, Contains-append_right, Contains-push_cases}
 use Rattle.std.specs.declared.cmp.Ordering.TheVariants.{Less}
 use Rattle.tuple_core.specs.declared.atom.Atom.{Atom}
@@ -10,7 +10,6 @@ use Rattle.tuple_core.specs.Rows.{Rows, IsRows, IsSetOf}
 use Rattle.tuple_core.proofs.Ascending.{same_lists}
 use Rattle.rel_formula.specs.Sizes.{IsListOf, HasSize}
 use Rattle.rel_formula.proofs.Lists.{pairs_append}
-use Rattle.rel_formula.proofs.Counts.{distinct, no_longer}
 use Rattle.rel_terms.specs.Numbers.{Only}
 use Rattle.rel_terms.proofs.Numbers.{Once, only}
 
@@ -25,12 +24,6 @@ list_same P Q ts s l = record { ascending = l.ascending; just = λ t. (λ c. s.t
 
 pub size_same : (P Q : Pred) (n : ℕ) → Same P Q → HasSize P n → HasSize Q n
 size_same P Q n s h = (h.0, list_same P Q h.0 s h.1, h.2)
-
--- a larger set has no fewer tuples
-pub size_within : (P Q : Pred) (n m : ℕ) → ((t : List Atom) → P t → Q t) → HasSize P n → HasSize Q m → n ≤ m
-size_within P Q n m to h g =
-    let l = no_longer h.0 g.0 (distinct h.0 h.1.ascending) (λ t c. (g.1.just t).1 (to t ((h.1.just t).0 c))) in
-    let e = h.2 in let f = g.2 in omega arith
 
 pub rows_list : {v : Rows} {n : ℕ} {P : Pred} → IsRows v → IsSetOf v n P → IsListOf P v.rows
 rows_list well is = record { ascending = well.ascending; just = is.just }

@@ -32,7 +32,7 @@ use Rattle.rel_terms.specs.Numbers.{Number, Is, ◌⊕◌}
 use Rattle.rel_terms.specs.Upper.{upper_structure}
 use Rattle.rel_terms.specs.Terms.{FormulaHas, FormulasHave, SumsOver}
 use Rattle.rel_terms.specs.Counting.{RowsHave, arities_of}
-use Rattle.rel_terms.proofs.Parted.{PartsHave, parts_append, AtomHas, rows_append, rows_sums}
+use Rattle.rel_terms.proofs.PartTerms.{PartsHave, parts_append, AtomHas, rows_append, rows_sums}
 use Rattle.rel_translate.specs.Tables.{structure_at, IsWell}
 use Rattle.rel_translate.specs.Makes.{HasRoomFor, Spends, TermsOf, FormulaTermsOf, IsMatrixFor, IsMade, Tells, IsTold}
 use Rattle.rel_translate.specs.Grounding.{IsImplied, IsMet, AreNotBothMet}

@@ -4,7 +4,7 @@ pub mod Spending
 pub mod GrownCircuits
 pub mod Atoms
 pub mod Operators
-pub mod Plain
+pub mod PlainMatrices
 pub mod Tabled
 pub mod Doubled
 pub mod WholeProblems

@@ -10,7 +10,7 @@ use Rattle.tuple_core.specs.Gains.{Same}
 use Rattle.bool_matrix.specs.declared.entry.Entry.{Entry}
 use Rattle.bool_matrix.specs.Cells.{Cells, IsCells, ThereIn}
 use Rattle.bool_matrix.specs.Terms.{tuples, joins}
-use Rattle.bool_matrix.proofs.Distinct.{In, tuples_distinct, tuple_there, there_tuple}
+use Rattle.bool_matrix.proofs.DistinctLists.{In, tuples_distinct, tuple_there, there_tuple}
 use Rattle.bool_matrix.proofs.JoiningPairs.{joins_bounded}
 use Rattle.rel_formula.specs.Sizes.{IsListOf, HasSize}
 use Rattle.rel_formula.proofs.Lists.{pairs_map}

@@ -87,9 +87,6 @@ is_its top size signature old new e g = record {
   };
 }
 
-pub is_others : (top : ℕ) (size : Size) (signature : ℕ) (old : Rows) → (size.signature ≡ signature → ⊥) → SetGains old old (IsPlaceIn top size signature)
-is_others top size signature old other = record { arity = refl; rows = record { tuples = λ t. (λ h. inl h, λ s. elim s [ inl h ↦ h | inr p ↦ absurd (other p.0) ]) } }
-
 -- ---- sizes
 
 -- a place of one of the first n sizes that is the signature's

@@ -31,7 +31,7 @@ pub fn signature_relations(
 }
 
 /// The relation of the signature of that number.
-pub fn signature_relation(
+pub(crate) fn signature_relation(
     alloc: Global,
     named: &Named,
     sizes: &[Size],

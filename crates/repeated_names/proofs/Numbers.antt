@@ -1,5 +1,5 @@
 -- Numbers of texts, as more texts are met.
-use Rattle.std.proofs.Common.{◌≡◌, ℕ, ◌+◌, ◌==◌, Bool, true, List, [], ◌∷◌, ◌++◌, get_or, Option, Some, None, sym, ap, ◌∙◌, subst, inl, inr, eqb, eq-eqb, append-nil, Result, Ok, Err, OnOk}
+use Rattle.std.proofs.Common.{◌≡◌, ℕ, ◌+◌, ◌==◌, Bool, true, List, [], ◌∷◌, ◌++◌, get_or, Option, Some, None, sym, ap, ◌∙◌, subst, inl, inr, eqb, eq-eqb, Result, Ok, Err, OnOk}
 use Rattle.std.specs.List.{position_from}
 use Rattle.std.specs.Str.{bytes_eq}
 use Rattle.std.proofs.lemmas.Bool.{cases_Bool, eqb-true}
@@ -50,6 +50,3 @@ grows_one ws new t e = (t ∷ [], e)
 pub where_ok : {T E P : Type 0} (r : Result T E) → P → OnOk r P
 where_ok (Ok x) p = p
 where_ok (Err e) p = tt
-
-pub grows_none : (ws new : List (List ℕ)) → new ≡ ws → Grows ws new
-grows_none ws new e = ([], e ∙ sym (append-nil ws))

@@ -13,7 +13,7 @@ use Rattle.rel_formula.specs.Shape.{IsProper}
 use Rattle.rel_formula.proofs.Images.{map_undone}
 use Rattle.rel_formula.proofs.OpenCells.{cons_cases, cons_first}
 use Rattle.rel_formula.proofs.OneSetOfAtoms.{only_one}
-use Rattle.rel_formula.proofs.Two.{two_problem}
+use Rattle.rel_formula.proofs.TwoRelations.{two_problem}
 
 single : (t : List Atom) → length t ≡ 1 → (a : Atom) × (t ≡ a ∷ [])
 single [] e = absurd (omega arith)
@@ -29,7 +29,7 @@ module _ (atoms : Rows) where
 
   -- the tuples are all those of its arity over the atoms
   pub record HasAllOver (v : Rows) : Type 0 where
-    tuples : (t : List Atom) → Contains v.rows t ↔ (All In t × (length t ≡ v.arity))
+    pub tuples : (t : List Atom) → Contains v.rows t ↔ (All In t × (length t ≡ v.arity))
 
   -- the atoms themselves
   pub atoms_over : IsRows atoms → atoms.arity ≡ 1 → HasAllOver atoms

@@ -119,18 +119,6 @@ module _ (formula local : List (List Lit)) (assumed : List Lit) (others : List (
             ]
       ]
 
--- nothing is split yet
-pub split_none : IsSplit [] [] [] []
-split_none =
-    record {
-      units = λ l h. absurd (omega (arith, h.1));
-      each = λ c h. absurd (omega (arith, h.1));
-      as_many = refl;
-      few = omega arith;
-      named = λ i d e h. absurd (omega arith);
-      longer = λ k d h. absurd (omega arith);
-    }
-
 module _ (local : List (List Lit)) (assumed : List Lit) (others : List (List Lit)) (places : List ℕ) (s : IsSplit local assumed others places) where
   -- one more local clause of one literal
   pub split_unit : (l : Lit) → IsSplit (local ++ (l ∷ []) ∷ []) (assumed ++ l ∷ []) others places

@@ -1,5 +1,5 @@
 // The search: descents and learning in turn.
-ghost use Rattle.std.specs.Prelude.{◌≡◌, ◌+◌, ◌≤◌, ◌<◌, ◌^◌, ◌++◌, [], ℕ, List, All, IfOk, OnOk, length};
+ghost use Rattle.std.specs.Prelude.{◌≡◌, ◌+◌, ◌≤◌, ◌<◌, ◌^◌, ◌++◌, [], ℕ, List, All, IfOk, OnOk, OnErr, length};
 ghost use Rattle.cnf_core.specs.Literal.{HasVarsUpTo, IsVariable};
 ghost use Rattle.refutation_check.specs.Chain.{members_of, IsAccepted, IsChain, Refutes};
 ghost use Rattle.refutation_check.specs.SearchLog.{IsSearchLog, HasVarsOf};
@@ -100,6 +100,7 @@ pub fn solve_from(
     ensures units { IfOk result (λ a. NamesNoUnits (length f.now.clauses) local.now (log_of a)) }
     ensures last { IfOk result (λ a. HasEmptyOnlyLast (log_of a)) }
     ensures leaning { IfOk result (λ a. leaning.new ≡ leaned_behind a leaning.old) }
+    ensures err { OnErr result (leaning.new ≡ leaning.old) }
 {
     let locals = split(alloc, f.len(), local)?;
     let others = locals.others.as_slice();
@@ -115,7 +116,8 @@ pub fn solve_from(
 // What was found is leant to from now on.
 fn follow(alloc: Global, leaning: &mut Leaning, answer: &Answer) -> Result<(), AllocError>
     requires { HasFewValues answer.now }
-    ensures { OnOk result (leaning.new ≡ leaned_behind answer.now leaning.old) }
+    ensures done { OnOk result (leaning.new ≡ leaned_behind answer.now leaning.old) }
+    ensures err { OnErr result (leaning.new ≡ leaning.old) }
 {
     match answer {
         Answer::Found { valuation, .. } => leaning.follow(alloc, valuation),

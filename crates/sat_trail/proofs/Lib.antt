@@ -4,7 +4,7 @@ pub mod Heights
 pub mod Learned
 pub mod Limits
 pub mod Readiness
-pub mod Settled
+pub mod SettledLiterals
 pub mod Trails
 pub mod Waiting
 pub mod Watches

@@ -1,5 +1,5 @@
 // To which values a search decides variables.
-ghost use Rattle.std.specs.Prelude.{◌≡◌, ◌<◌, ◌≤◌, ◌^◌, [], IfOk, OnOk, length};
+ghost use Rattle.std.specs.Prelude.{◌≡◌, ◌<◌, ◌≤◌, ◌^◌, [], IfOk, OnOk, OnErr, length};
 ghost use Rattle.sat_trail.specs.Leaned.{leans_to};
 
 use cnf_core::Valuation;
@@ -47,7 +47,8 @@ impl Leaning {
     /// The variables lean to the values of a valuation from now on, which has at most 4,294,967,295.
     pub fn follow(&mut self, alloc: Global, valuation: &Valuation) -> Result<(), AllocError>
         requires { length valuation.now < 2 ^ 32 }
-        ensures { OnOk result (self.new ≡ record self.old { values = valuation.now }) }
+        ensures done { OnOk result (self.new ≡ record self.old { values = valuation.now }) }
+        ensures err { OnErr result (self.new ≡ self.old) }
     {
         self.values = values_of(alloc, valuation)?;
         Ok(())

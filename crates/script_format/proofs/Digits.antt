@@ -14,15 +14,6 @@ small_more n d (suc (suc (suc (suc zero)))) l h k = omega arith
 small_more n d (suc (suc (suc (suc (suc zero))))) l h k = omega arith
 small_more n d (suc (suc (suc (suc (suc (suc i)))))) l h k = absurd (omega arith)
 
-pub small_now : (n i : ℕ) → i < 6 → n < 10 ^ i → n < 100000
-small_now n zero l h = omega arith
-small_now n (suc zero) l h = omega arith
-small_now n (suc (suc zero)) l h = omega arith
-small_now n (suc (suc (suc zero))) l h = omega arith
-small_now n (suc (suc (suc (suc zero)))) l h = omega arith
-small_now n (suc (suc (suc (suc (suc zero))))) l h = omega arith
-small_now n (suc (suc (suc (suc (suc (suc i)))))) l h = absurd (omega arith)
-
 pub digit_range : (d : ℕ) → is_digit d ≡ true → (48 ≤ d) × (d ≤ 57)
 digit_range d e = (grind (arith, nat_tests), grind (arith, nat_tests))
 

@@ -1,4 +1,4 @@
-pub mod Answered
+pub mod AnsweredTranscripts
 pub mod Cuts
 pub mod ProofLines
 pub mod ReplyLemmas

@@ -1,7 +1,7 @@
 pub mod Sizes
-pub mod Added
-pub mod Emptied
+pub mod AddedElements
+pub mod NovelSteps
 pub mod Swaps
 pub mod SolverAnswers
-pub mod Led
-pub mod Going
+pub mod SearchedRounds
+pub mod RoundStates

@@ -11,7 +11,7 @@ use Rattle.translation_rules.specs.Translation.{SwapClauses, Translated, clauses
 use Rattle.translation_rules.specs.Locals.{literal_of, units_of, absence_in, locals_of}
 use Rattle.translation.specs.Numbered.{pair_of, AreNumbered}
 use Rattle.translation.specs.Kept.{IsTranslation}
-use Rattle.translation.proofs.Few.{few_pairs}
+use Rattle.translation.proofs.NeighbourCounts.{few_pairs}
 
 -- lists of at most so many elements, put one after the other
 flat_few : {X Y : Type 0} (f : X → List Y) (xs : List X) → All (λ x. length (f x) ≤ 12289) xs → length (flat_map f xs) ≤ length xs * 12289

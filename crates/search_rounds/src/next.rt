@@ -42,10 +42,10 @@ pub enum Found {
 ///
 /// Each round searches for an instance that has the floor's cells, is settled beside the floor and has no blocked scenario in
 /// it, and goes down from what it finds. Blocked are the scenarios that were shown, the copies of them that are known, and
-/// those that this call comes upon. The call takes at most `budget` units, novel steps and new copies, and exactly so many
-/// where it answers `Spent`. The pool is an accepted log over the translation's clauses, of at most 20,000 steps; the blocked
-/// scenarios are at most 100,000,000, and so is the budget. The searches lean to the values that the last one found, which `leaning`
-/// hands on from call to call. The error comes only for want of memory.
+/// those that this call comes upon; each round but the last comes upon a new copy. The call takes at most `budget` units, novel
+/// steps and new copies, and exactly so many where it answers `Spent`. The pool is an accepted log over the translation's clauses,
+/// of at most 20,000 steps; the blocked scenarios are at most 100,000,000, and so is the budget. The searches lean to the values
+/// that the last one found, which `leaning` hands on from call to call. The error comes only for want of memory.
 pub fn next_at(
     alloc: Global,
     translation: &Translation,
@@ -64,7 +64,7 @@ pub fn next_at(
     requires few { length shown.now + length copies.now ≤ 100000000 }
     requires budget { budget ≤ 100000000 }
     ensures searched { IfOk result (λ next. AreSearched translation.now pool.now next.parts) }
-    ensures work { IfOk result (λ next. (work : IsNextWork translation.now floor.now shown.now next.parts next.copies) × (work.blocked ≡ shown.now ++ copies.now)) }
+    ensures work { IfOk result (λ next. (work : IsNextWork translation.now floor.now shown.now next.parts next.copies) × (work.blocked ≡ shown.now ++ copies.now) × (length work.rounds ≡ length next.copies + 1)) }
     ensures copies { IfOk result (λ next. All (λ copy. IsCopy translation.now.problem floor.now shown.now copy × (¬ Contains copies.now copy)) next.copies) }
     ensures units { IfOk result (λ next. units_in translation.now pool.now next.parts next.copies ≤ budget) }
     ensures answer { IfOk result (λ next. IsAnswer translation.now pool.now floor.now shown.now copies.now budget next.parts next.copies next.found) }
@@ -104,7 +104,7 @@ fn next_from(
     requires few { length shown.now + length copies.now ≤ 100000000 }
     requires budget { budget ≤ 100000000 }
     ensures searched { IfOk result (λ next. AreSearched translation.now pool.now next.parts) }
-    ensures work { IfOk result (λ next. (work : IsNextWork translation.now floor.now shown.now next.parts next.copies) × (work.blocked ≡ shown.now ++ copies.now)) }
+    ensures work { IfOk result (λ next. (work : IsNextWork translation.now floor.now shown.now next.parts next.copies) × (work.blocked ≡ shown.now ++ copies.now) × (length work.rounds ≡ length next.copies + 1)) }
     ensures copies { IfOk result (λ next. All (λ copy. IsCopy translation.now.problem floor.now shown.now copy × (¬ Contains copies.now copy)) next.copies) }
     ensures units { IfOk result (λ next. units_in translation.now pool.now next.parts next.copies ≤ budget) }
     ensures answer { IfOk result (λ next. IsAnswer translation.now pool.now floor.now shown.now copies.now budget next.parts next.copies next.found) }

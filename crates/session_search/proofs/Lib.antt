@@ -1,7 +1,7 @@
-pub mod Bare
-pub mod Here
+pub mod IdleReplies
+pub mod TopFloors
 pub mod NextScenarios
-pub mod Given
-pub mod Fixed
-pub mod Later
+pub mod OfferProposals
+pub mod FloorProposals
+pub mod LaterSessions
 pub mod Ordered

@@ -124,20 +124,6 @@ same_here xs ys i l m same =
     ∙ ap (λ b. cond b true (cond (ltb (get_or ys i 0) (get_or xs i 0)) false (comes_first (drop (i + 1) xs) (drop (i + 1) ys)))) (le-ltb (get_or xs i 0) (get_or ys i 0) (omega arith))
     ∙ ap (λ b. cond b false (comes_first (drop (i + 1) xs) (drop (i + 1) ys))) (le-ltb (get_or ys i 0) (get_or xs i 0) (omega arith))
 
-pub differ_here : (xs ys : List ℕ) (i : ℕ) → i < length xs → i < length ys → (get_or xs i 0 ≡ get_or ys i 0 → ⊥) → comes_first (drop i xs) (drop i ys) ≡ ltb (get_or xs i 0) (get_or ys i 0)
-differ_here xs ys i l m other = elim (cases_lt (get_or xs i 0) (get_or ys i 0)) [
-  | inl less ↦
-      turn xs ys i l m
-      ∙ ap (λ b. cond b true (cond (ltb (get_or ys i 0) (get_or xs i 0)) false (comes_first (drop (i + 1) xs) (drop (i + 1) ys)))) (lt-ltb (get_or xs i 0) (get_or ys i 0) less)
-      ∙ sym (lt-ltb (get_or xs i 0) (get_or ys i 0) less)
-  | inr past ↦
-      let more : get_or ys i 0 < get_or xs i 0 = omega (arith, other) in
-      turn xs ys i l m
-      ∙ ap (λ b. cond b true (cond (ltb (get_or ys i 0) (get_or xs i 0)) false (comes_first (drop (i + 1) xs) (drop (i + 1) ys)))) (le-ltb (get_or xs i 0) (get_or ys i 0) past)
-      ∙ ap (λ b. cond b false (comes_first (drop (i + 1) xs) (drop (i + 1) ys))) (lt-ltb (get_or ys i 0) (get_or xs i 0) more)
-      ∙ sym (le-ltb (get_or xs i 0) (get_or ys i 0) past)
-]
-
 -- the second list is over first
 pub beyond : (xs ys : List ℕ) (i : ℕ) → i < length xs → length ys ≤ i → comes_first (drop i xs) (drop i ys) ≡ true
 beyond xs ys i l le = at_drop_more (λ us. comes_first us (drop i ys)) xs i 0 l ∙ at_drop_all (λ vs. comes_first (get_or xs i 0 ∷ drop (i + 1) xs) vs) ys i le

@@ -1,5 +1,5 @@
 // Sessions.
-ghost use Rattle.std.specs.Prelude.{◌≡◌, ◌≤◌, ◌<◌, [], List, length, IfOk, OnOk};
+ghost use Rattle.std.specs.Prelude.{◌≡◌, ◌≤◌, ◌<◌, [], List, length, IfOk, OnOk, OnErr};
 ghost use Rattle.refutation_check.specs.Chain.{IsAccepted};
 ghost use Rattle.refutation_check.specs.declared.log.Step.{Step as LogStep};
 ghost use Rattle.rel_formula.specs.Bounds.{Bounded};
@@ -143,14 +143,15 @@ impl Session {
         }
     }
 
-    /// Makes room for what was proposed. But for this room the session stays as it is, after an error too, which comes only for
-    /// want of memory.
+    /// Makes room for what was proposed. But for this room the session stays as it is. The error comes only for want of memory, and
+    /// leaves all as it was.
     pub fn reserve(&mut self, proposal: &Proposal) -> Result<(), AllocError>
         ensures owner { self.new.owner ≡ self.old.owner }
         ensures key { self.new.key ≡ self.old.key }
         ensures state { self.new.kept.state ≡ self.old.kept.state }
         ensures copies { self.new.kept.copies ≡ self.old.kept.copies }
         ensures room { OnOk result (length proposal.now.copies < self.new.kept.room) }
+        ensures err { OnErr result (self.new ≡ self.old) }
     {
         self.kept.reserve(proposal.copies().len())
     }

@@ -13,7 +13,7 @@ use std::alloc::{AllocError, Global};
 use std::marker::Model;
 
 /// The state of a session, and the copies of shown scenarios that its searches found, each with its floor. Contracts see these,
-/// and for how many copies there is room beside a reply.
+/// and the room that was made: one for a reply, and one for each copy that comes with it.
 ///
 /// Each floor that was reached has a number; the bottom has the first.
 #[derive(Drop)]
@@ -114,6 +114,7 @@ impl SessionStore {
         ensures state { self.new.state ≡ self.old.state }
         ensures copies { self.new.copies ≡ self.old.copies }
         ensures room { OnOk result (self.new.room ≡ copies + 1) }
+        ensures err { OnErr result (self.new ≡ self.old) }
     {
         self.floors.try_reserve(1)?;
         self.above.try_reserve(1)?;

@@ -2,7 +2,6 @@
 use Rattle.std.proofs.Common.{◌≡◌, ℕ, ◌+◌, ◌<◌, ◌≤◌, Bool, true, false, ◌||◌, List, [], ◌∷◌, map, length, get_or, drop, refl, sym, ap, ◌∙◌}
 use Rattle.std.proofs.lemmas.List.{drop_more, drop_all}
 use Rattle.named_model.specs.Phrase.{PhraseTree, StepTrees, StepTree, joined, in_brackets, step_first}
-use Rattle.shared_names.specs.Shared.{shared_in_steps, shared_in_step}
 use Rattle.shared_names.specs.Asking.{asks_in_steps, step_asks}
 
 -- a test of a list that is one of its first or of its rest
@@ -22,10 +21,6 @@ module _ {X : Type 0} (one : X → Bool) (all : List X → Bool) (are : Tests on
 
   pub none : length xs ≤ i → all (drop i xs) ≡ all xs → false ≡ all xs
   none l before = sym (ap all (drop_all i xs l) ∙ are.ends) ∙ before
-
-pub step_shared : (s : StepTree) (rest : StepTrees) → shared_in_steps (step_first s rest) ≡ (shared_in_step s || shared_in_steps rest)
-step_shared (joined p x) rest = refl
-step_shared (in_brackets p xs) rest = refl
 
 pub step_asking : (s : StepTree) (rest : StepTrees) → asks_in_steps (step_first s rest) ≡ (step_asks s || asks_in_steps rest)
 step_asking (joined p x) rest = refl

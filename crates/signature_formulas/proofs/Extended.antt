@@ -12,7 +12,7 @@ use Rattle.named_model.specs.Signatures.{numbers_where, extends_to, extensions}
 use Rattle.lowering_rules.specs.Formula.{union_from, extensions_say}
 use Rattle.signature_formulas.specs.Said.{Says}
 use Rattle.signature_formulas.specs.Extending.{apart, united, union_of}
-use Rattle.signature_formulas.proofs.Saying.{says_nothing, says_one, says_both}
+use Rattle.signature_formulas.proofs.FormulaLists.{says_nothing, says_one, says_both}
 
 -- ---- extensions
 

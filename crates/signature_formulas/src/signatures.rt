@@ -68,7 +68,7 @@ fn add_parent(
     }
 }
 
-#[tactic(auto, using(crate::proofs::Saying::says_then))]
+#[tactic(auto, using(crate::proofs::FormulaLists::says_then))]
 fn add_within(
     alloc: Global,
     formulas: &mut Vec<Formula>,

@@ -9,7 +9,7 @@ pub const ROOM: usize = 1_048_576;
 
 /// Takes so much of what is left; more than that is want of memory.
 pub fn spend(room: &mut usize, amount: usize) -> Result<(), AllocError>
-    ensures { MatchResult result (λ _. room.new + amount ≡ room.old) (λ _. room.old < amount) }
+    ensures { MatchResult result (λ _. room.new + amount ≡ room.old) (λ _. (room.old < amount) × (room.new ≡ room.old)) }
 {
     match room.checked_sub(amount) {
         Some(rest) => {

@@ -7,7 +7,7 @@ use refutation_check::{Hints, Log, Part, Scratch, Step, Verdict, check, lift};
 use std::alloc::Global;
 use std::test::Fail;
 
-/// The literals of two variables by their numbers in the DIMACS format.
+// The literals of two variables by their numbers in the DIMACS format.
 fn literal(number: i8) -> Lit
     ensures from_one { 1 ≤ result.var }
     ensures in_range { result.var ≤ 2 }
@@ -57,7 +57,7 @@ fn log(alloc: Global, steps: &[(&[i8], &[u8])]) -> Result<Log, Fail>
     Ok(log)
 }
 
-/// All four clauses of two variables, which no valuation satisfies.
+// All four clauses of two variables, which no valuation satisfies.
 fn square(alloc: Global) -> Result<Cnf, Fail>
     ensures { IfOk result (λ f. f.vars ≡ 2) }
 {
@@ -69,7 +69,7 @@ fn square(alloc: Global) -> Result<Cnf, Fail>
     Ok(formula)
 }
 
-/// What the check says of these steps over the four clauses.
+// What the check says of these steps over the four clauses.
 fn verdict(alloc: Global, steps: &[(&[i8], &[u8])], scratch: &mut Scratch) -> Result<Verdict, Fail>
     requires steps { length steps.now < 100 }
     requires scratch { scratch.old ≡ 2 }

@@ -9,7 +9,7 @@ use sat_core::{Answer, solve};
 use std::alloc::Global;
 use std::test::Fail;
 
-/// The variant of an answer that was checked.
+// The variant of an answer that was checked.
 #[derive(Clone, Copy, Debug, PartialEq, Eq)]
 enum Kind {
     Found,
@@ -17,7 +17,7 @@ enum Kind {
     Spent,
 }
 
-/// The clause of these literals by their numbers in the DIMACS format.
+// The clause of these literals by their numbers in the DIMACS format.
 fn clause(alloc: Global, vars: u32, numbers: &[i8]) -> Result<Clause, Fail>
     requires { vars < 128 }
     ensures { IfOk result (HasVarsUpTo vars) }
@@ -52,7 +52,7 @@ fn formula(alloc: Global, vars: u32, clauses: &[&[i8]]) -> Result<Cnf, Fail>
     Ok(formula)
 }
 
-/// Whether the valuation makes a literal of the clause true.
+// Whether the valuation makes a literal of the clause true.
 fn is_true(lits: &[Lit], valuation: &Valuation) -> bool
     requires clause { IsClause lits.now }
     requires in_range { HasVarsUpTo (length valuation.now) lits.now }
@@ -83,7 +83,7 @@ fn is_refuted(alloc: Global, f: &Cnf, log: &Log) -> Result<bool, Fail>
     Ok(check(f, log, &mut scratch) == Verdict::Accepted)
 }
 
-/// The answer with no pool and no local clauses, checked, and its number of steps.
+// The answer with no pool and no local clauses, checked, and its number of steps.
 fn answer(alloc: Global, f: &Cnf, budget: u64) -> Result<(Kind, usize), Fail>
     requires few { length f.now.clauses < 1000 }
     requires budget { budget < 100000 }
@@ -128,7 +128,7 @@ fn a_found_valuation_satisfies(rt: HostRuntime) -> Result<(), Fail> {
     Ok(())
 }
 
-/// The clauses of these literals by their numbers.
+// The clauses of these literals by their numbers.
 fn clauses_of(alloc: Global, clauses: &[&[i8]]) -> Result<Vec<Clause>, Fail>
     ensures { IfOk result (λ made. length made.items ≡ length clauses.now) }
 {
@@ -139,7 +139,7 @@ fn clauses_of(alloc: Global, clauses: &[&[i8]]) -> Result<Vec<Clause>, Fail>
     Ok(made)
 }
 
-/// What a search with a pool and local clauses comes to, and its log.
+// What a search with a pool and local clauses comes to, and its log.
 fn searched(
     alloc: Global,
     f: &Cnf,
@@ -161,7 +161,7 @@ fn searched(
     }
 }
 
-/// The hints of the only step of a refutation with this pool and these local clauses, the lowest first.
+// The hints of the only step of a refutation with this pool and these local clauses, the lowest first.
 fn only_hints(alloc: Global, f: &Cnf, pool: &Log, local: &[&[i8]]) -> Result<Vec<u32>, Fail>
     requires pool { IsAccepted f.now.clauses pool.now }
     requires clauses { length f.now.clauses < 1000 }
@@ -221,7 +221,7 @@ fn units_of_further_variables_hold(rt: HostRuntime) -> Result<(), Fail> {
     Ok(())
 }
 
-/// Where the first is true, so are the second, and so the third and the fourth, of which not both are.
+// Where the first is true, so are the second, and so the third and the fourth, of which not both are.
 const FORK: [&[i8]; 4] = [&[-1, 2], &[-2, 3], &[-2, 4], &[-3, -4]];
 
 #[test]
@@ -236,7 +236,7 @@ fn a_conflict_with_nothing_else_decided_takes_one_step(rt: HostRuntime) -> Resul
     Ok(())
 }
 
-/// Where the first pigeon has the first hole.
+// Where the first pigeon has the first hole.
 #[test]
 fn steps_are_learnt_under_a_unit(rt: HostRuntime) -> Result<(), Fail> {
     let alloc = rt.alloc();
@@ -249,7 +249,7 @@ fn steps_are_learnt_under_a_unit(rt: HostRuntime) -> Result<(), Fail> {
     Ok(())
 }
 
-/// A pool of the step with this clause and these hints.
+// A pool of the step with this clause and these hints.
 fn pool_of(alloc: Global, f: &Cnf, numbers: &[i8], hints: &[u32]) -> Result<Log, Fail>
     requires { f.now.vars ≤ 13 }
     ensures accepted { IfOk result (IsAccepted f.now.clauses) }
@@ -316,7 +316,7 @@ fn four_pigeons_have_no_three_holes(rt: HostRuntime) -> Result<(), Fail> {
     Ok(())
 }
 
-/// Each of four pigeons has one of three holes, and no two have one hole.
+// Each of four pigeons has one of three holes, and no two have one hole.
 const PIGEONS: [&[i8]; 22] = [
     &[1, 2, 3],
     &[4, 5, 6],
@@ -342,20 +342,20 @@ const PIGEONS: [&[i8]; 22] = [
     &[-9, -12],
 ];
 
-/// The next number of a linear congruential generator.
+// The next number of a linear congruential generator.
 fn next(state: u64) -> u64 {
     state
         .wrapping_mul(6_364_136_223_846_793_005)
         .wrapping_add(1_442_695_040_888_963_407)
 }
 
-/// The number of a literal of one of 40 variables, from a random number.
+// The number of a literal of one of 40 variables, from a random number.
 fn random_literal(place: u64, sign: u64) -> i8 {
     let var = (place % 40) as i8 + 1;
     if sign % 2 == 0 { var } else { -var }
 }
 
-/// 172 clauses of three literals over 40 variables.
+// 172 clauses of three literals over 40 variables.
 fn random_formula(alloc: Global, seed: u64) -> Result<Cnf, Fail>
     ensures vars { IfOk result (λ f. f.vars ≡ 40) }
     ensures few { IfOk result (λ f. length f.clauses < 1000) }

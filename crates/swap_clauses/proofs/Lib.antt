@@ -1,4 +1,4 @@
-pub mod Added
+pub mod AddedClauses
 pub mod Cases
 pub mod SameCells
 pub mod OneCell

@@ -14,8 +14,8 @@ use Rattle.swap_symmetry.specs.Swaps.{SwapIsEarlier, IsFreeOf, IsSettledBeside}
 use Rattle.swap_symmetry.specs.Due.{IsDue, HasDueRenaming, HasDueRenamingBeside}
 use Rattle.swap_symmetry.proofs.ScenarioOrders.{compared, only_one}
 use Rattle.swap_symmetry.proofs.SwapLemmas.{earlier_from}
-use Rattle.swap_symmetry.proofs.Beside.{beside_itself, beside_then, beside_swap, minimal_beside}
-use Rattle.swap_symmetry.proofs.Stands.{free_or_not}
+use Rattle.swap_symmetry.proofs.FloorRenamings.{beside_itself, beside_then, beside_swap, minimal_beside}
+use Rattle.swap_symmetry.proofs.FloorAtoms.{free_or_not}
 use Rattle.swap_symmetry.proofs.ListSearches.{same_or_not, tried_atoms}
 use Rattle.swap_symmetry.proofs.Weights.{descend}
 

@@ -5,7 +5,7 @@ pub mod Listed
 pub mod SwapLemmas
 pub mod Weights
 pub mod ListSearches
-pub mod Stands
-pub mod Beside
+pub mod FloorAtoms
+pub mod FloorRenamings
 pub mod Descent
-pub mod SoFar
+pub mod PartlySettled

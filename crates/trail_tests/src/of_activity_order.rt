@@ -23,7 +23,7 @@ fn activities_of(alloc: Global, order: &ActivityOrder) -> Result<Vec<u64>, Fail>
     Ok(activities)
 }
 
-/// The waiting variable that a look at each of them finds.
+// The waiting variable that a look at each of them finds.
 fn first_by_scan(order: &ActivityOrder) -> Option<u32> {
     let mut first = None;
     let mut greatest = 0;
@@ -37,7 +37,7 @@ fn first_by_scan(order: &ActivityOrder) -> Option<u32> {
     first
 }
 
-/// The next variable, which is the one that a look at each finds.
+// The next variable, which is the one that a look at each finds.
 fn take(order: &mut ActivityOrder) -> Result<Option<u32>, Fail> {
     let expected = first_by_scan(order);
     let found = order.take_first();
@@ -47,7 +47,7 @@ fn take(order: &mut ActivityOrder) -> Result<Option<u32>, Fail> {
     Ok(found)
 }
 
-/// All variables, in the order in which they are taken.
+// All variables, in the order in which they are taken.
 fn take_all(alloc: Global, order: &mut ActivityOrder) -> Result<Vec<u32>, Fail> {
     let mut taken = Vec::new(alloc);
     for _ in 0..order.vars() {

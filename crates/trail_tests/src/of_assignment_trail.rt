@@ -16,7 +16,7 @@ const NOT_B: Lit = Lit {
     positive: false,
 };
 
-/// Makes the literal true, which is open.
+// Makes the literal true, which is open.
 fn assign(now: &mut Assignment, lit: Lit, level: u32) -> Result<(), Fail>
     requires from_one { 1 ≤ lit.var }
     requires in_range { lit.var ≤ now.old.vars }

@@ -22,7 +22,7 @@ const C: Lit = Lit {
     positive: true,
 };
 
-/// Puts the clause of these literals at the end.
+// Puts the clause of these literals at the end.
 fn push(alloc: Global, store: &mut Store, lits: &[Lit]) -> Result<(), Fail>
     requires variables { All (λ l. IsVariable l.var) lits.now }
     requires room { length store.old + 1 < 2 ^ 30 }

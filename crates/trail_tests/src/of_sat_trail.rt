@@ -10,13 +10,13 @@ use sat_trail::{Leaning, Propagated, Trail, learn};
 use std::alloc::Global;
 use std::process::Abort;
 
-/// All four clauses of two variables, which no valuation satisfies.
+// All four clauses of two variables, which no valuation satisfies.
 const SQUARE: [[i8; 2]; 4] = [[1, 2], [1, -2], [-1, 2], [-1, -2]];
 
-/// Clauses by which a variable forces a second one, and that forces two others that cannot both be true.
+// Clauses by which a variable forces a second one, and that forces two others that cannot both be true.
 const IMPLICATIONS: [[i8; 2]; 4] = [[-1, 2], [-2, 3], [-2, 4], [-3, -4]];
 
-/// The literal of one of four variables by its number in the DIMACS format.
+// The literal of one of four variables by its number in the DIMACS format.
 fn literal(number: i8) -> Lit
     ensures from_one { 1 ≤ result.var }
     ensures in_range { result.var ≤ 4 }
@@ -45,7 +45,7 @@ fn add(rt: &impl Abort, alloc: Global, formula: &mut Cnf, numbers: [i8; 2])
     formula.push(clause).expect(rt, "memory");
 }
 
-/// A formula of these clauses of four variables.
+// A formula of these clauses of four variables.
 fn formula_of(rt: &impl Abort, alloc: Global, clauses: [[i8; 2]; 4]) -> Cnf
     ensures vars { result.vars ≡ 4 }
     ensures few { length result.clauses ≡ 4 }
@@ -58,7 +58,7 @@ fn formula_of(rt: &impl Abort, alloc: Global, clauses: [[i8; 2]; 4]) -> Cnf
     formula
 }
 
-/// A trail over these clauses of four variables.
+// A trail over these clauses of four variables.
 fn trail_of(rt: &impl Abort, alloc: Global, clauses: [[i8; 2]; 4]) -> Trail
     ensures vars { 4 ≤ result.vars }
     ensures few { length result.clauses ≡ 4 }
@@ -68,7 +68,7 @@ fn trail_of(rt: &impl Abort, alloc: Global, clauses: [[i8; 2]; 4]) -> Trail
     Trail::of(alloc, &formula, &none, &[]).expect(rt, "memory")
 }
 
-/// Makes the literal of this number true, which is open.
+// Makes the literal of this number true, which is open.
 fn decide(rt: &impl Abort, trail: &mut Trail, number: i8)
     requires { 4 ≤ trail.old.vars }
     ensures vars { trail.new.vars ≡ trail.old.vars }
@@ -81,7 +81,7 @@ fn decide(rt: &impl Abort, trail: &mut Trail, number: i8)
     }
 }
 
-/// The clause that propagation finds falsified.
+// The clause that propagation finds falsified.
 fn conflict(rt: &impl Abort, trail: &mut Trail) -> u32
     ensures vars { trail.new.vars ≡ trail.old.vars }
     ensures clauses { trail.new.clauses ≡ trail.old.clauses }
@@ -93,7 +93,7 @@ fn conflict(rt: &impl Abort, trail: &mut Trail) -> u32
     }
 }
 
-/// What is learnt from that clause.
+// What is learnt from that clause.
 fn learnt(rt: &impl Abort, alloc: Global, trail: &mut Trail) -> Step
     ensures vars { trail.new.vars ≡ trail.old.vars }
     ensures clauses { trail.new.clauses ≡ trail.old.clauses }
@@ -104,7 +104,7 @@ fn learnt(rt: &impl Abort, alloc: Global, trail: &mut Trail) -> Step
     learn(alloc, trail, number).expect(rt, "memory")
 }
 
-/// Goes back to level 0 and adds the step there, which is the fifth clause.
+// Goes back to level 0 and adds the step there, which is the fifth clause.
 fn add_fifth(rt: &impl Abort, trail: &mut Trail, step: Step)
     requires few { length trail.old.clauses ≡ 4 }
     requires chain { IsChain trail.old.clauses step.clause step.hints }
@@ -115,7 +115,7 @@ fn add_fifth(rt: &impl Abort, trail: &mut Trail, step: Step)
     assert_eq!(rt; number, 5);
 }
 
-/// Whether the step has the literals of these numbers, and these hints.
+// Whether the step has the literals of these numbers, and these hints.
 fn is_step(step: &Step, numbers: &[i8], hints: &[u32]) -> bool {
     let lits = step.clause.lits();
     lits.len() == numbers.len()
@@ -126,7 +126,7 @@ fn is_step(step: &Step, numbers: &[i8], hints: &[u32]) -> bool {
         && step.hints.numbers() == hints
 }
 
-/// The level, and the values of the first two variables.
+// The level, and the values of the first two variables.
 fn state_of(trail: &Trail) -> (u32, Option<bool>, Option<bool>)
     requires { 4 ≤ trail.now.vars }
 {
@@ -171,7 +171,7 @@ fn the_first_variable_is_decided_where_nothing_was_met(rt: HostRuntime) {
     assert_eq!(rt; trail.value(1), Some(false));
 }
 
-/// What is decided in five turns.
+// What is decided in five turns.
 fn decided(trail: &mut Trail, leaning: &Leaning) -> [Option<Lit>; 5] {
     [
         trail.decide_next(leaning),
@@ -182,7 +182,7 @@ fn decided(trail: &mut Trail, leaning: &Leaning) -> [Option<Lit>; 5] {
     ]
 }
 
-/// A trail over these clauses of four variables and one local clause, from a trail over them and five variables.
+// A trail over these clauses of four variables and one local clause, from a trail over them and five variables.
 fn grown_trail(rt: &impl Abort, alloc: Global, local: &[Clause]) -> Trail
     requires few { length local.now ≤ 4 }
     ensures vars { 5 ≤ result.vars }
@@ -211,7 +211,7 @@ fn what_leans_to_true_is_decided_true(rt: HostRuntime) {
     assert!(rt; leaning.value(5));
 }
 
-/// What leans to a valuation in which the one variable is true, and else to false.
+// What leans to a valuation in which the one variable is true, and else to false.
 fn followed(rt: &impl Abort, alloc: Global) -> Leaning {
     let mut leaning = Leaning::towards(alloc, false);
     let values = vec![in alloc; true; 1].expect(rt, "memory");

@@ -5,7 +5,7 @@ use std::alloc::Global;
 use std::test::Fail;
 use watch_lists::WatchLists;
 
-/// Slots 0, 2 and 3 watch the number 2, and slot 1 the number 3.
+// Slots 0, 2 and 3 watch the number 2, and slot 1 the number 3.
 fn four_slots(alloc: Global) -> Result<WatchLists, Fail>
     ensures { IfOk result (λ w. w ≡ record { codes = 2 ∷ 3 ∷ 2 ∷ 2 ∷ []; lists = [] ∷ [] ∷ (3 ∷ 2 ∷ 0 ∷ []) ∷ (1 ∷ []) ∷ [] }) }
 {
@@ -15,7 +15,7 @@ fn four_slots(alloc: Global) -> Result<WatchLists, Fail>
     Ok(watches)
 }
 
-/// The slots that watch this number, in order.
+// The slots that watch this number, in order.
 fn slots_of(alloc: Global, watches: &WatchLists, code: u32) -> Result<Vec<u32>, Fail>
     requires { code < length watches.now.lists }
 {
@@ -31,7 +31,7 @@ fn slots_of(alloc: Global, watches: &WatchLists, code: u32) -> Result<Vec<u32>, 
     Ok(slots)
 }
 
-/// The lists of 2 and 3, where the slot at this place of the former comes to the latter.
+// The lists of 2 and 3, where the slot at this place of the former comes to the latter.
 fn lists_after(alloc: Global, at: u32, before: u32, slot: u32) -> Result<(Vec<u32>, Vec<u32>), Fail>
     requires in_range { at < 3 }
     requires slot { slice_index_or (3 ∷ 2 ∷ 0 ∷ []) at 0 ≡ slot }

@@ -1,5 +1,5 @@
 pub mod Chains
-pub mod Together
+pub mod SwapsTogether
 pub mod Instances
-pub mod Few
+pub mod NeighbourCounts
 pub mod ProblemClauses

@@ -18,7 +18,7 @@ use Rattle.translation_rules.proofs.Tests.{from_each}
 use Rattle.translation.specs.Numbered.{swaps_of, pair_of, AreNumbered}
 use Rattle.translation.specs.Kept.{AreAllSwaps, IsSmall, IsTranslation}
 use Rattle.translation.proofs.Chains.{pairs_back}
-use Rattle.translation.proofs.Together.{settled, apart, swaps_apart}
+use Rattle.translation.proofs.SwapsTogether.{settled, apart, swaps_apart}
 use Rattle.translation.proofs.Instances.{TellsInstances, instances}
 
 -- the circuit has few nodes

@@ -10,7 +10,7 @@ use std::test::Fail;
 use translation::Translation;
 use translation_cache::Cache;
 
-/// A formula that is always true, or one that never is.
+// A formula that is always true, or one that never is.
 fn constant(alloc: Global, holds: bool) -> Formula
     ensures { (formula_tree result ≡ conjunction no_formulas) ⊎ (formula_tree result ≡ disjunction no_formulas) }
 {
@@ -21,7 +21,7 @@ fn constant(alloc: Global, holds: bool) -> Formula
     }
 }
 
-/// The translation of this formula, in a problem without relations.
+// The translation of this formula, in a problem without relations.
 fn translated(alloc: Global, holds: bool) -> Result<Arc<Translation>, Fail> {
     let formula = constant(alloc, holds);
     let problem = Problem::of(alloc, Vec::new(alloc), Vec::new(alloc), formula)?;
@@ -29,17 +29,17 @@ fn translated(alloc: Global, holds: bool) -> Result<Arc<Translation>, Fail> {
     Ok(Arc::new(alloc, made)?)
 }
 
-/// A value that threads may share.
+// A value that threads may share.
 fn shared<T: Send + Sync>(value: T) -> T {
     value
 }
 
-/// Whether the translation is that of the formula that is always true.
+// Whether the translation is that of the formula that is always true.
 fn is_of_true(t: &Translation) -> bool {
     matches!(t.problem().formula(), Formula::And(_))
 }
 
-/// What is found for the key: none, or whether it is of the formula that is always true.
+// What is found for the key: none, or whether it is of the formula that is always true.
 fn found(cache: &Cache, key: u32) -> Result<Option<bool>, Fail>
     requires { key < length cache.now }
 {

@@ -2,7 +2,6 @@
 use Rattle.std.proofs.Common.{◌≡◌, ℕ, ◌+◌, ◌<◌, ◌≤◌, Bool, List, [], ◌∷◌, ◌++◌, length, drop, refl, sym, ap, subst, ◌∙◌, arith, add-one, length-append}
 use Rattle.model_types.specs.Typing.{Local, onto}
 use Rattle.settling_rules.specs.Inside.{AreSameWhere, AreAlikeWhere}
-use Rattle.settling_rules.proofs.SharedDeclarations.{alike_refl}
 use Rattle.typed_scopes.specs.Zipped.{IsInside}
 
 -- the innermost one is left
@@ -21,15 +20,8 @@ left_inside now outer i l = subst (λ ls. IsInside (drop 1 ls) outer) (sym i.1) 
 pub all_left : (now outer : List Local) → IsInside now outer → length now ≤ length outer → now ≡ outer
 all_left now outer i l = i.1 ∙ none_left i.0 outer (subst (λ ls. length ls ≤ length outer) i.1 l)
 
-pub inside_start : (ls : List Local) → IsInside ls ls
-inside_start ls = ([], refl)
-
 pub inside_more : (l : Local) (ls ms : List Local) → IsInside ls ms → IsInside (l ∷ ls) ms
 inside_more l ls ms i = (l ∷ i.0, ap (λ ks. l ∷ ks) i.1)
-
--- as many as were entered
-pub alike_start : (asked : Bool) (m : Local) (ls : List Local) → AreAlikeWhere asked ls (onto 0 m ls)
-alike_start asked m ls = alike_refl asked ls
 
 pub alike_more : (asked : Bool) (n : ℕ) (l m : Local) (ls ms : List Local) → l.arity ≡ m.arity → AreSameWhere asked l.type m.type → AreAlikeWhere asked ls (onto n m ms) → AreAlikeWhere asked (l ∷ ls) (onto (n + 1) m ms)
 alike_more asked n l m ls ms e s h = subst (λ k. AreAlikeWhere asked (l ∷ ls) (onto k m ms)) (sym (add-one n)) (e, s, h)

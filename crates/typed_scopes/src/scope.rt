@@ -1,5 +1,5 @@
 // Local names.
-ghost use Rattle.std.specs.Prelude.{◌≡◌, ◌-◌, ℕ, [], ◌∷◌, drop, length, reverse, slice_get, option_map, OnOk, OnErr};
+ghost use Rattle.std.specs.Prelude.{◌≡◌, ◌-◌, ◌^◌, ℕ, [], ◌∷◌, drop, length, reverse, slice_get, option_map, OnOk, OnErr};
 ghost use Rattle.model_types.specs.Typing as typing;
 ghost use Rattle.model_types.specs.Typing.{local_types};
 
@@ -94,7 +94,8 @@ pub struct Scope {
 impl Scope {
     /// Without local names.
     pub fn new(alloc: Global) -> Scope
-        ensures { result.locals ≡ [] }
+        ensures locals { result.locals ≡ [] }
+        ensures work { result.work.left ≡ 2 ^ 28 }
     {
         Scope {
             locals: Locals::new(alloc),

@@ -1,5 +1,5 @@
 // Types, where they are asked for.
-ghost use Rattle.std.specs.Prelude.{◌≡◌, ◌++◌, List, length, IfOk, OnOk};
+ghost use Rattle.std.specs.Prelude.{◌≡◌, ◌≤◌, ◌++◌, List, length, IfOk, OnOk};
 ghost use Rattle.named_model.specs.Phrase.{no_steps, step_first};
 ghost use Rattle.named_model.specs.View.{phrase_view, phrases_view, step_view};
 ghost use Rattle.model_types.specs.Bounding as bounding;
@@ -167,9 +167,10 @@ fn copied(alloc: Global, scope: &mut Scope, a: &BoundingType) -> Result<Bounding
     )
 }
 
-/// Leaves the innermost local names, until so many are left.
+/// Leaves the innermost local names, until so many are left. With no more than that nothing happens.
 pub fn leave_until(scope: &mut Scope, depth: usize)
-    ensures { (inner outer : List typing.Local) → scope.old.locals ≡ inner ++ outer → length outer ≡ depth → scope.new.locals ≡ outer }
+    ensures left { (inner outer : List typing.Local) → scope.old.locals ≡ inner ++ outer → length outer ≡ depth → scope.new.locals ≡ outer }
+    ensures short { length scope.old.locals ≤ depth → scope.new.locals ≡ scope.old.locals }
 {
     'each: while scope.locals.depth() > depth {
         scope.locals.leave();

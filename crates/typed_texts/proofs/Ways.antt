@@ -4,15 +4,14 @@ use Rattle.std.proofs.lemmas.Bool.{eqb-true}
 use Rattle.alloy_lex.specs.declared.token.Token.{Token}
 use Rattle.alloy_lex.specs.declared.token.LexFault.{LexFault}
 use Rattle.alloy_lex.specs.declared.token.LexFault.TheVariants as lex
-use Rattle.alloy_lex.specs.Tokens.{tokens_of, IsFaultOf}
+use Rattle.alloy_lex.specs.Tokens.{tokens_of}
 use Rattle.alloy_syntax.specs.Tree.{ModelTree}
 use Rattle.alloy_syntax.specs.declared.tree.Open.{Open}
 use Rattle.alloy_syntax.specs.Seen.{seen_all}
 use Rattle.alloy_syntax.specs.Readers.{Stop}
 use Rattle.alloy_syntax.specs.Paragraphs.{model_of}
-use Rattle.alloy_parse.specs.declared.fault.ParseFault.{ParseFault}
 use Rattle.alloy_parse.specs.declared.fault.ParseFault.TheVariants as parse
-use Rattle.alloy_parse.specs.Faults.{fault_of, Refuses, IsFaultOf as IsStop}
+use Rattle.alloy_parse.specs.Faults.{fault_of}
 use Rattle.named_model.specs.declared.fault.NameFault.{NameFault}
 use Rattle.named_model.specs.declared.fault.NameFault.TheVariants as name
 use Rattle.named_model.specs.Answers.{first_in, ◌>>=◌}
@@ -159,23 +158,6 @@ each_something text = text_something text (tokens_of text) refl
 
 pub tree_read : (text : List ℕ) (ts us : List Token) (tree : ModelTree) → tokens_of text ≡ Ok ts → us ≡ ts → model_of (seen_all us) ≡ Ok tree → IsTreeOf text tree
 tree_read text ts us tree e same d = (us, e ∙ ap Ok (sym same), d)
-
-pub no_tokens : (text words : List ℕ) (e : LexFault) → IsFaultOf e (tokens_of text) → (e ≡ lex.Memory → ⊥) → words ≡ lex_words e → IsFaulty text words
-no_tokens text words (lex.BadCharacter p) is other told = inl (lex.BadCharacter p, is, told)
-no_tokens text words (lex.OpenComment p) is other told = inl (lex.OpenComment p, is, told)
-no_tokens text words (lex.NumberTooLarge p) is other told = inl (lex.NumberTooLarge p, is, told)
-no_tokens text words lex.Memory is other told = absurd (other refl)
-
-tree_refused : (text words : List ℕ) (ts us : List Token) (f : ParseFault) → tokens_of text ≡ Ok ts → us ≡ ts → IsStop us f (model_of (seen_all us)) → words ≡ parse_words f → IsFaulty text words
-tree_refused text words ts us f e same is told =
-    inr (inl (us, is.stop, e ∙ ap Ok (sym same), is.stops, told ∙ ap parse_words is.shown))
-
-pub no_tree : (text words : List ℕ) (ts us : List Token) (f : ParseFault) → tokens_of text ≡ Ok ts → us ≡ ts → Refuses us f (model_of (seen_all us)) → (f ≡ parse.Memory → ⊥) → words ≡ parse_words f → IsFaulty text words
-no_tree text words ts us (parse.Unexpected p) e same is other told = tree_refused text words ts us (parse.Unexpected p) e same is told
-no_tree text words ts us (parse.EndOfText p) e same is other told = tree_refused text words ts us (parse.EndOfText p) e same is told
-no_tree text words ts us (parse.Unsupported p w) e same is other told = tree_refused text words ts us (parse.Unsupported p w) e same is told
-no_tree text words ts us (parse.TooDeep p) e same is other told = tree_refused text words ts us (parse.TooDeep p) e same is told
-no_tree text words ts us parse.Memory e same is other told = absurd (other refl)
 
 no_elements : {X : Type 0} (xs : List X) → length xs ≡ 0 → xs ≡ []
 no_elements [] e = refl

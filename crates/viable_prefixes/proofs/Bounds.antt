@@ -12,8 +12,8 @@ use Rattle.alloy_grammar.specs.Bounds.{level_of_bound, has_arrows, spells_bound,
 use Rattle.alloy_grammar.proofs.Results.{either}
 use Rattle.alloy_grammar.proofs.Tokens.{expect_read}
 use Rattle.alloy_syntax.specs.Class.{is_class}
-use Rattle.fault_places.proofs.Among.{all_last}
-use Rattle.viable_prefixes.proofs.Gives.{Then, Token, Maybe, Many, no_more, one_more, Moved, Closing, Stopped, Gives, gone, ended, either_of, close_none, close_maybe, close_token, close_then, close_map, close_name, moved_here, moved_then, moved_map, moved_sign, moved_token, moved_maybe, stopped_map, stopped_close, stopped_then, stopped_here, stopped_after, not_there, expect_gives, spelled_gives}
+use Rattle.fault_places.proofs.LastTokens.{all_last}
+use Rattle.viable_prefixes.proofs.CompletedReadings.{Then, Token, Maybe, Many, no_more, one_more, Moved, Closing, Stopped, Gives, gone, ended, either_of, close_none, close_maybe, close_token, close_then, close_map, close_name, moved_here, moved_then, moved_map, moved_sign, moved_token, moved_maybe, stopped_map, stopped_close, stopped_then, stopped_here, stopped_after, not_there, expect_gives, spelled_gives}
 use Rattle.viable_prefixes.proofs.Texts.{as_mark, as_sign, name_of, as_name, Word, mark_text}
 use Rattle.viable_prefixes.proofs.Openings.{Opens, opens}
 use Rattle.viable_prefixes.proofs.Quantified.{moved_word}

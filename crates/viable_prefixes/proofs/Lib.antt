@@ -1,11 +1,11 @@
-pub mod Calm
-pub mod Gives
+pub mod ClosingTokens
+pub mod CompletedReadings
 pub mod Texts
 pub mod Openings
 pub mod Nodes
 pub mod Quantified
 pub mod Bounds
 pub mod ParagraphTexts
-pub mod Signed
+pub mod SignatureEnds
 pub mod Paragraphs
 pub mod Models

@@ -16,9 +16,9 @@ use Rattle.alloy_grammar.proofs.Tokens.{token, class_is}
 use Rattle.fault_places.specs.Stops.{unread, AreLast}
 use Rattle.refused_tokens.specs.Texts.{next_terminal, GoesOn}
 use Rattle.viable_prefixes.specs.Beginnings.{Begins, EndsWithSignature, IsBehindComma, HasForm}
-use Rattle.viable_prefixes.proofs.Calm.{calm_end, calm_class}
-use Rattle.viable_prefixes.proofs.Gives.{Then, Token, Maybe, some, Many, Moved, Closing, stands, CommaBefore, Formed, Stopped, Gives, gone, ended, Goes, close_none, close_token, close_then, close_name, moved_then, moved_token, stopped_close, stopped_then, stopped_here, not_there, gives_none, gives_map, gives_behind, gives_then, gives_last, expect_gives, spelled_gives, gives_many}
-use Rattle.viable_prefixes.proofs.Signed.{Read, Signs, plainly, appended, signs_many}
+use Rattle.viable_prefixes.proofs.ClosingTokens.{calm_end, calm_class}
+use Rattle.viable_prefixes.proofs.CompletedReadings.{Then, Token, Maybe, some, Many, Moved, Closing, stands, CommaBefore, Formed, Stopped, Gives, gone, ended, Goes, close_none, close_token, close_then, close_name, moved_then, moved_token, stopped_close, stopped_then, stopped_here, not_there, gives_none, gives_map, gives_behind, gives_then, gives_last, expect_gives, spelled_gives, gives_many}
+use Rattle.viable_prefixes.proofs.SignatureEnds.{Read, Signs, plainly, appended, signs_many}
 use Rattle.viable_prefixes.proofs.ParagraphTexts.{Paragraph, Ordering, Opening, Heading, Signature, model_text, signed_text}
 use Rattle.viable_prefixes.proofs.Paragraphs.{paragraph_signs}
 

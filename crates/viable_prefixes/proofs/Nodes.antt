@@ -24,8 +24,8 @@ use Rattle.alloy_grammar.specs.Nodes.{class_of_prefix}
 use Rattle.alloy_grammar.proofs.Results.{true_not_false}
 use Rattle.alloy_grammar.proofs.Tokens.{and_left, and_right, or_no, other, counting_sign, counting_levels, quantifier_sign, tightening_sign, tightening_levels, constant_sign, number_of, link_sign, link_level}
 use Rattle.alloy_syntax.specs.Class.{is_class}
-use Rattle.fault_places.proofs.Among.{all_last}
-use Rattle.viable_prefixes.proofs.Gives.{Then, Token, some, Or, this, that, Listed, Moved, Closing, Gives, gone, ended, Goes, either_of, terminal_is, close_none, close_maybe, close_token, close_then, close_map, moved_map, moved_sign, moved_token, moved_unless_else, stopped_map, stopped_here, stopped_after, not_there, gives_none, gives_no_more, gives_map, gives_behind, gives_then, gives_last, gives_choice, expect_gives, spelled_gives, number_gives, gives_many, gives_listed}
+use Rattle.fault_places.proofs.LastTokens.{all_last}
+use Rattle.viable_prefixes.proofs.CompletedReadings.{Then, Token, some, Or, this, that, Listed, Moved, Closing, Gives, gone, ended, Goes, either_of, terminal_is, close_none, close_maybe, close_token, close_then, close_map, moved_map, moved_sign, moved_token, moved_unless_else, stopped_map, stopped_here, stopped_after, not_there, gives_none, gives_no_more, gives_map, gives_behind, gives_then, gives_last, gives_choice, expect_gives, spelled_gives, number_gives, gives_many, gives_listed}
 use Rattle.viable_prefixes.proofs.Texts.{Node, Braces, lower, named_text, path_text, number_text, constant_text, paren_text, Arguments, braces_text, block_text, prefix_text, Step, steps_node, Link, link_text, chain_text, Compare, plain, unequal, negated, comparison_text, Otherwise, Implied, implication_text, quantified_text, let_text, Part}
 use Rattle.viable_prefixes.proofs.Openings.{close_node, close_sum, close_braces}
 

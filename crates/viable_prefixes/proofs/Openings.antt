@@ -14,7 +14,7 @@ use Rattle.alloy_grammar.specs.Fronts.{Front}
 use Rattle.alloy_grammar.specs.Levels.{implication_level, negation_level, sum_level, size_level, tight_level, primary_level}
 use Rattle.alloy_grammar.proofs.Tokens.{and_left}
 use Rattle.refused_tokens.specs.Texts.{next_terminal}
-use Rattle.viable_prefixes.proofs.Gives.{Token, some, that, Closing, either_of, terminal_is, close_none, close_maybe, close_token, close_then, close_map, close_name, close_listed, close_names}
+use Rattle.viable_prefixes.proofs.CompletedReadings.{Token, some, that, Closing, either_of, terminal_is, close_none, close_maybe, close_token, close_then, close_map, close_name, close_listed, close_names}
 use Rattle.viable_prefixes.proofs.Texts.{Node, Braces, lower, named_text, path_text, number_text, constant_text, paren_text, braces_text, block_text, prefix_text, Word, Variables, Domain, Declaration, Body, Quantified, Let, quantified_text, let_text, Part}
 
 -- ---- shortest texts

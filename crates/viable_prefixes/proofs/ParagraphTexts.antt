@@ -20,7 +20,7 @@ use Rattle.alloy_grammar.specs.Nodes.{spells, spells_declarations}
 use Rattle.alloy_grammar.specs.Models.{optional, block_text, is_qualifier, qualifier, qualifiers, parent, field, parameters_in, parameters, class_of_kind, target, entry, exceptions, scope, expected, paragraph, opened, heading, spells_model}
 use Rattle.alloy_grammar.proofs.Spelled.{list_of, trees_of_list, list_of_declarations, declarations_of_list}
 use Rattle.viable_prefixes.specs.Beginnings.{is_signature}
-use Rattle.viable_prefixes.proofs.Gives.{Then, Token, Maybe, none, some, Or, this, that, Many, no_more, one_more, Listed}
+use Rattle.viable_prefixes.proofs.CompletedReadings.{Then, Token, Maybe, none, some, Or, this, that, Many, no_more, one_more, Listed}
 use Rattle.viable_prefixes.proofs.Texts.{Node, Braces, as_mark, as_sign, name_of, as_name, Word, mark_text, Names, names_text, Declaration, declarations_text, flag_text}
 use Rattle.viable_prefixes.proofs.Bounds.{Bound}
 

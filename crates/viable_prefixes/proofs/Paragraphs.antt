@@ -14,9 +14,9 @@ use Rattle.alloy_grammar.specs.Levels.{sum_level}
 use Rattle.alloy_grammar.specs.Models.{is_qualifier}
 use Rattle.alloy_grammar.proofs.Results.{either}
 use Rattle.alloy_grammar.proofs.Tokens.{and_left, and_right, multiplicity_sign}
-use Rattle.viable_prefixes.proofs.Calm.{is_calm}
-use Rattle.viable_prefixes.proofs.Gives.{Then, Token, Maybe, some, Or, this, that, Listed, Moved, Closing, gone, Goes, close_maybe, close_token, close_then, close_name, close_names, moved_then, moved_map, moved_sign, moved_token, moved_maybe, gives_none, gives_map, gives_behind, gives_then, gives_last, gives_choice, expect_gives, spelled_gives, number_gives, gives_listed, names_give}
-use Rattle.viable_prefixes.proofs.Signed.{Signs, plainly, signs_map, signs_behind, signs_then, signs_choice, signs_closed}
+use Rattle.viable_prefixes.proofs.ClosingTokens.{is_calm}
+use Rattle.viable_prefixes.proofs.CompletedReadings.{Then, Token, Maybe, some, Or, this, that, Listed, Moved, Closing, gone, Goes, close_maybe, close_token, close_then, close_name, close_names, moved_then, moved_map, moved_sign, moved_token, moved_maybe, gives_none, gives_map, gives_behind, gives_then, gives_last, gives_choice, expect_gives, spelled_gives, number_gives, gives_listed, names_give}
+use Rattle.viable_prefixes.proofs.SignatureEnds.{Signs, plainly, signs_map, signs_behind, signs_then, signs_choice, signs_closed}
 use Rattle.viable_prefixes.proofs.Texts.{Node, Braces, Word, Declaration}
 use Rattle.viable_prefixes.proofs.Openings.{close_braces, close_sum}
 use Rattle.viable_prefixes.proofs.Nodes.{block_gives, sum_gives, braced_gives}

@@ -19,11 +19,11 @@ use Rattle.alloy_grammar.specs.Fronts.{Front, names}
 use Rattle.alloy_grammar.specs.Nodes.{begins_operator, unless_operator}
 use Rattle.alloy_grammar.proofs.Results.{success, stop, known, either, no_success, done, done_is}
 use Rattle.alloy_grammar.proofs.Tokens.{class_is, and_left, and_right, multiplicity_sign}
-use Rattle.alloy_grammar.proofs.Sound.{node_reads}
+use Rattle.alloy_grammar.proofs.NodesSpelled.{node_reads}
 use Rattle.alloy_grammar.proofs.Quantified.{names_read, within_reads}
-use Rattle.fault_places.proofs.Among.{all_last}
+use Rattle.fault_places.proofs.LastTokens.{all_last}
 use Rattle.refused_tokens.specs.Texts.{next_terminal}
-use Rattle.viable_prefixes.proofs.Gives.{Then, Token, Maybe, some, CommaBefore, this, that, no_more, one_more, Listed, Moved, Closing, Stopped, Gives, gone, ended, Goes, close_none, close_token, close_then, close_name, close_names, moved_then, moved_map, moved_one, moved_sign, moved_token, moved_maybe, moved_unless_operator, stopped_map, stopped_close, stopped_then, stopped_here, stopped_after, not_there, gives_no_more, gives_map, gives_behind, gives_then, gives_last, gives_choice, expect_gives, spelled_gives, gives_many, gives_listed, names_give}
+use Rattle.viable_prefixes.proofs.CompletedReadings.{Then, Token, Maybe, some, CommaBefore, this, that, no_more, one_more, Listed, Moved, Closing, Stopped, Gives, gone, ended, Goes, close_none, close_token, close_then, close_name, close_names, moved_then, moved_map, moved_one, moved_sign, moved_token, moved_maybe, moved_unless_operator, stopped_map, stopped_close, stopped_then, stopped_here, stopped_after, not_there, gives_no_more, gives_map, gives_behind, gives_then, gives_last, gives_choice, expect_gives, spelled_gives, gives_many, gives_listed, names_give}
 use Rattle.viable_prefixes.proofs.Texts.{Node, Word, Names, Variables, Declaration, Binding, Body, Quantified, Let, Part}
 use Rattle.viable_prefixes.proofs.Openings.{close_sum, close_body, close_domain, close_part, opens_part, opens_block}
 use Rattle.viable_prefixes.proofs.Nodes.{block_tree_gives, negation_gives, implication_gives, size_gives, tight_gives, sum_gives, node_gives}

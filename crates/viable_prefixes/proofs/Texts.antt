@@ -21,7 +21,7 @@ use Rattle.alloy_syntax.specs.Readers.{value_from}
 use Rattle.alloy_grammar.specs.Fronts.{Front, ◌before◌, nothing, unless_next, sign, mark_of, flag, spelled_as, name, mark, names, each, class_of_multiplicity}
 use Rattle.alloy_grammar.specs.Levels.{implication_level, and_level, negation_level, comparison_level, counted_level, sum_level, path_level, tight_level, primary_level, level_of_operator, level_of_prefix, level_behind, level_of}
 use Rattle.alloy_grammar.specs.Nodes.{class_of_constant, class_of_prefix, class_of_operator, class_of_quantifier, class_of_comparison, comparing, unless_operator, has_steps, has_declarations, has_bindings, body, comma, spells, spells_trees, spells_links, spells_steps, spells_declarations, spells_bindings}
-use Rattle.viable_prefixes.proofs.Gives.{Then, Token, Maybe, none, some, Or, this, that, Many, no_more, one_more, Listed}
+use Rattle.viable_prefixes.proofs.CompletedReadings.{Then, Token, Maybe, none, some, Or, this, that, Many, no_more, one_more, Listed}
 
 -- a node that binds at least so tightly
 pub record Node (l : ℕ) (ts rest : List Seen) : Type 0 where

@@ -3,4 +3,4 @@
 
 mod lists;
 
-pub use lists::WatchLists;
+pub use crate::lists::WatchLists;

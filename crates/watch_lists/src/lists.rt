@@ -6,7 +6,7 @@ ghost use Rattle.watch_lists.specs.Steps.{unlinked_first, unlinked_slots};
 use std::alloc::{AllocError, Global};
 use std::marker::Model;
 
-/// A watched place of a clause: the number of the literal, and the link to the next place that has it.
+// A watched place of a clause: the number of the literal, and the link to the next place that has it.
 #[derive(Clone, Copy, Debug)]
 struct Slot {
     code: u32,

@@ -5,6 +5,6 @@ mod back;
 mod pending;
 mod walk;
 
-pub use back::back_to;
-pub use pending::Pending;
-pub use walk::draw_all;
+pub use crate::back::back_to;
+pub use crate::pending::Pending;
+pub use crate::walk::draw_all;

@@ -16,14 +16,14 @@ use assignment_trail::{Assigned, Assignment};
 use clause_store::{Store, code_of, literal_of};
 use watch_lists::WatchLists;
 
-/// What became of a slot.
+// What became of a slot.
 #[derive(Clone, Copy, Debug)]
 enum Step {
-    /// It stays on its list.
+    // It stays on its list.
     Kept,
-    /// It is on the list of another literal.
+    // It is on the list of another literal.
     Moved,
-    /// Its clause is falsified.
+    // Its clause is falsified.
     Falsified,
 }
 
@@ -123,7 +123,7 @@ fn force(
 {
     let other = other_of(store, watches, now, pending, drawn, gone, at, slot);
     let _count = watches.len(); // for the proof
-    let _clauses = store.len();
+    let _clauses = store.len(); // for the proof
     let is_high = level > now.at(drawn).level;
     now.assign(Assigned {
         lit: literal_of(other),
@@ -154,7 +154,7 @@ fn replace(
 {
     let other = other_of(store, watches, now, pending, drawn, gone, at, slot);
     let _count = watches.len(); // for the proof
-    let _clauses = store.len();
+    let _clauses = store.len(); // for the proof
     let _count_true = now.len(); // for the proof
     match replacement(store.codes(slot / 2 + 1), now, other) {
         Some(code) => {

@@ -8,7 +8,7 @@ use Rattle.settling_rules.specs.Same.{Asks}
 use Rattle.typed_scopes.specs.Declaring.{declared_by}
 use Rattle.typed_scopes.proofs.Standing.{same_types}
 use Rattle.alloy_types.specs.Meanings.{shared_in_meaning}
-use Rattle.alloy_types.proofs.Meant.{callee_told, callee_is}
+use Rattle.alloy_types.proofs.NamedRelations.{callee_told, callee_is}
 use Rattle.alloy_types.proofs.callees.callee_settled.Goals.{then-is_in_domains, else-is_in_domains}
 use Rattle.alloy_types.proofs.callees.callee_settled.Goals as goal
 

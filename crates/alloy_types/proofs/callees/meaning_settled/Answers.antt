@@ -7,7 +7,7 @@ use Rattle.model_types.specs.Models.{meaning_settled}
 use Rattle.settling_rules.proofs.Reaching.{told_then}
 use Rattle.typed_scopes.specs.Declaring.{declared_by}
 use Rattle.alloy_types.specs.Meanings.{value_settled}
-use Rattle.alloy_types.proofs.Meant.{value_apart}
+use Rattle.alloy_types.proofs.NamedRelations.{value_apart}
 use Rattle.alloy_types.proofs.callees.meaning_settled.Goals as goal
 
 pub returns-in_err-range-in-Value : goal.returns-in_err-range-in-Value

@@ -6,7 +6,7 @@ use Rattle.typed_scopes.specs.Declaring.{declared_by}
 use Rattle.known_callees.specs.declared.groups.Group.{Group}
 use Rattle.known_callees.specs.Groups.{GroupTree, group_view}
 use Rattle.alloy_types.specs.Meanings.{groups_unary}
-use Rattle.alloy_types.proofs.Meant.{groups_known, gives_same}
+use Rattle.alloy_types.proofs.NamedRelations.{groups_known, gives_same}
 use Rattle.alloy_types.proofs.commands.parameters_unary.Goals as goal
 
 pub returns : goal.returns

@@ -1,6 +1,6 @@
 use Rattle.named_model.specs.View.{phrase_view}
 use Rattle.typed_scopes.specs.Declaring.{declared_by}
-use Rattle.alloy_types.proofs.Meant.{no_only_link}
+use Rattle.alloy_types.proofs.NamedRelations.{no_only_link}
 use Rattle.alloy_types.proofs.fields.both_unary.Goals as goal
 
 pub returns-in_default-2 : goal.returns-in_default-2

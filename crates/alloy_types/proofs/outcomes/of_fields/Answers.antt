@@ -1,7 +1,7 @@
 use Rattle.named_model.specs.View.{field_view}
 use Rattle.model_types.specs.Models.{field_checked}
 use Rattle.typed_scopes.specs.Declaring.{declared_by}
-use Rattle.alloy_types.proofs.Found.{found_more, outcome_same, found_all}
+use Rattle.alloy_types.proofs.ListedOutcomes.{found_more, outcome_same, found_all}
 use Rattle.alloy_types.proofs.outcomes.of_fields.Goals as goal
 
 pub loop-field-preserved : goal.loop-field-preserved

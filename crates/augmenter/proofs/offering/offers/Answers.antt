@@ -1,16 +1,18 @@
 use Rattle.std.proofs.Common.{◌≡◌, ◌<◌, ◌+◌, ◌-◌, ◌∙◌, ◌++◌, ◌∷◌, [], ℕ, Bool, true, false, List, length, replicate, get_or, Contains, IsTrue, ◌↔◌, ◌⊎◌, sym, subst, ap, arith}
 use Rattle.std.proofs.lemmas.List.{get_or_default}
+use Rattle.cnf_core.specs.Formula.{Formula}
 use Rattle.cnf_core.specs.Valuation.{value_of}
 use Rattle.refutation_check.specs.Part.{Parted}
 use Rattle.rel_formula.specs.Bounds.{cells_of}
 use Rattle.rel_formula.specs.Instance.{AreCells, with_cell}
+use Rattle.sat_trail.specs.Trailed.{IsBase}
 use Rattle.translation_rules.specs.Translation.{var_of}
 use Rattle.translation_rules.specs.Offers.{IsPossible}
 use Rattle.translation_rules.specs.Parts.{novel_in}
 use Rattle.augmenter.specs.declared.search.Sought.{Sought}
 use Rattle.augmenter.specs.Search.{part_in, IsSearchFor, IsRightFor, GivesInstance}
 use Rattle.augmenter.specs.Offering.{AreTrials}
-use Rattle.augmenter.proofs.Trying.{Trying, set_out, skipped, spent_trials, spent_all, refused, given, all_offers, with_cell_in}
+use Rattle.augmenter.proofs.OfferSearches.{Trying, set_out, skipped, spent_trials, spent_all, refused, given, all_offers, others_refuted, with_cell_in}
 use Rattle.augmenter.proofs.MarkedCells.{written_back}
 use Rattle.augmenter.proofs.offering.offers.Goals.{then-has-via-then-has, then-has-via-else-has+then-index, in-Possible+in_ok-push-in-Possible, in-Impossible+in_ok-push-in-Impossible}
 use Rattle.augmenter.proofs.offering.offers.Goals as goal
@@ -38,8 +40,11 @@ loop-cell-preserved-then-has c =
     ] in
     skipped c.args.translation.now c.args.pool.now c.args.scenario.now c.args.budget c.loop-cell.cell marks c.loop-cell.parts.items c.loop-cell.left c.loop-cell.invariant known
 
-pub seek-requires-clause-cells : goal.seek-requires-clause-cells
-seek-requires-clause-cells c =
+pub seek_from-requires-clause-base : goal.seek_from-requires-clause-base
+seek_from-requires-clause-base c = subst (λ (f : Formula). IsBase f c.in_ok-base.base) c.cnf-cnf.ensures c.in_ok-base.ensures.base
+
+pub seek_from-requires-clause-cells : goal.seek_from-requires-clause-cells
+seek_from-requires-clause-cells c =
     let t = c.args.translation.now in
     let scenario = c.args.scenario.now in
     let cell = c.loop-cell.cell in
@@ -86,7 +91,7 @@ loop-cell-preserved c =
     let left = c.loop-cell.left in
     let in_range : cell < length (cells_of t.problem) = subst (λ n. cell < n) (c.cells-cells.ensures.value ∙ ap (λ p. length (cells_of p)) c.problem-problem.ensures.value) c.loop-cell-test.true in
     let absent : Contains scenario cell → ⊥ = λ there. let yes : c.has.result ≡ true = c.has.ensures.1 there in let no = c.if-has.false in absurd cc in
-    elim c.match-branch-4.branch [
+    elim c.match-branch-5.branch [
       | in-Possible+in_ok-push-in-Possible w ↦
           let part : Parted = w.in-Possible.part in
           let asked = subst (λ (s : Sought). IsSearchFor t pool c.in_ok-wanted.wanted left (part_in s)) w.in-Possible.is c.in_ok-valuation.ensures.part in
@@ -112,7 +117,7 @@ loop-cell-preserved c =
           let spent : length w.steps-in-Impossible.result.now ≡ length part.log = ap length (w.steps-in-Impossible.ensures.steps ∙ w.log-in-Impossible.ensures.log) in
           rw (w.possible-is, w.parts-is, w.left-is, w.in_ok-push-in-Impossible.ensures.items)
           (subst (λ n. Trying t pool scenario c.args.budget (cell + 1) c.loop-cell.possible.items (c.loop-cell.parts.items ++ part ∷ []) (left - n)) (sym spent)
-          (refused t pool scenario c.args.budget cell c.loop-cell.possible.items c.loop-cell.parts.items left c.loop-cell.invariant in_range absent c.requires.scenario part search none))
+          (refused t pool scenario c.args.budget cell c.loop-cell.possible.items c.loop-cell.parts.items left c.loop-cell.invariant in_range absent c.requires.scenario part search none answer.1))
     ]
 
 pub returns-clause-answer : goal.returns-clause-answer
@@ -120,5 +125,7 @@ returns-clause-answer c =
     let t = c.args.translation.now in
     let count : c.cells-cells.result ≡ length (cells_of t.problem) = c.cells-cells.ensures.value ∙ ap (λ p. length (cells_of p)) c.problem-problem.ensures.value in
     let end : c.loop-cell.cell ≡ length (cells_of t.problem) = let l = c.loop-cell-test.false in let k = c.loop-cell.auto.cell-end in omega arith in
-    let exactly = rw c.as_slice.ensures.value at c.in_ok-cells.ensures.exactly in
-    all_offers t c.args.pool.now c.args.scenario.now c.args.budget c.loop-cell.cell c.loop-cell.possible.items c.loop-cell.parts.items c.loop-cell.left c.loop-cell.invariant end c.in_ok-cells.cells.items exactly c.in_ok-cells.ensures.rising
+    let exactly = rw c.as_slice.ensures.value at c.in_ok-cells.ensures.exactly in (
+      all_offers t c.args.pool.now c.args.scenario.now c.args.budget c.loop-cell.cell c.loop-cell.possible.items c.loop-cell.parts.items c.loop-cell.left c.loop-cell.invariant end c.in_ok-cells.cells.items exactly c.in_ok-cells.ensures.rising,
+      others_refuted t c.args.pool.now c.args.scenario.now c.args.budget c.loop-cell.cell c.loop-cell.possible.items c.loop-cell.parts.items c.loop-cell.left c.loop-cell.invariant end c.in_ok-cells.cells.items exactly,
+    )

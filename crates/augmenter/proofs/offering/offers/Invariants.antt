@@ -1,4 +1,4 @@
-use Rattle.augmenter.proofs.Trying.{Trying}
+use Rattle.augmenter.proofs.OfferSearches.{Trying}
 use Rattle.augmenter.proofs.offering.offers.Given as goal
 
 abbrev pub invariant-loop-cell : goal.invariant-loop-cell

@@ -1,7 +1,7 @@
 use Rattle.std.proofs.Common.{◌<◌, ◌∙◌, length, sym, subst, arith}
 use Rattle.rel_formula.specs.Bounds.{cells_of}
 use Rattle.rel_formula.specs.Instance.{AreCells}
-use Rattle.augmenter.proofs.Trying.{with_cell_in}
+use Rattle.augmenter.proofs.OfferSearches.{with_cell_in}
 use Rattle.bench_descents.proofs.descents.steps_of.Goals.{then-len-most+then-has_step+in_ok-insert, else-len-most}
 use Rattle.bench_descents.proofs.descents.steps_of.Goals as goal
 

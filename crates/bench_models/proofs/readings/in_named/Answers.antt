@@ -1,5 +1,5 @@
 use Rattle.named_model.specs.View.{named_view}
-use Rattle.bench_models.proofs.Brought.{is_typed, of_typed}
+use Rattle.bench_models.proofs.BroughtModels.{is_typed, of_typed}
 use Rattle.bench_models.proofs.readings.in_named.Goals as goal
 
 pub in_typed-requires : goal.in_typed-requires

@@ -2,7 +2,7 @@ use Rattle.std.proofs.Common.{◌≡◌, Ok, rules, sym, ap, ◌∙◌}
 use Rattle.alloy_syntax.specs.Seen.{seen_all}
 use Rattle.alloy_syntax.specs.Paragraphs.{model_of}
 use Rattle.alloy_syntax.specs.View.{model_view}
-use Rattle.bench_models.proofs.Brought.{of_tree}
+use Rattle.bench_models.proofs.BroughtModels.{of_tree}
 use Rattle.bench_models.proofs.readings.in_text.Goals as goal
 
 pub returns-in-Ok-parse-clause-found : goal.returns-in-Ok-parse-clause-found

@@ -1,6 +1,6 @@
 use Rattle.alloy_syntax.specs.View.{model_view}
 use Rattle.named_model.specs.View.{named_view}
-use Rattle.bench_models.proofs.Brought.{of_named}
+use Rattle.bench_models.proofs.BroughtModels.{of_named}
 use Rattle.bench_models.proofs.readings.in_tree.Goals as goal
 
 pub returns-in-Ok-clause-found : goal.returns-in-Ok-clause-found

@@ -17,7 +17,7 @@ use Rattle.body_lowering.proofs.Loops.{loop_more, loop_all, front, front_all, pu
 use Rattle.body_lowering.proofs.Chains.{operator_seen, two_by_two, step_by_step}
 use Rattle.body_lowering.proofs.Domains.{counted, entered, added}
 use Rattle.body_lowering.proofs.Entered.{left_again, domains_inside, values_inside}
-use Rattle.body_lowering.proofs.Called.{there}
+use Rattle.body_lowering.proofs.LoweredCalls.{there}
 use Rattle.body_lowering.proofs.parts.+parts.Goals as goal
 
 -- ---- formulas

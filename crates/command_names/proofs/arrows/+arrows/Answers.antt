@@ -3,7 +3,7 @@ use Rattle.alloy_syntax.specs.Tree.{trees_of, links_of, steps_of, declarations_o
 use Rattle.alloy_syntax.specs.View.{view, views, link_view, step_view, declaration_view, binding_view}
 use Rattle.named_model.specs.Faults.{has_arrow, some_has_arrow, link_has_arrow, step_has_arrow, domain_has_arrow, binding_has_arrow}
 use Rattle.command_names.specs.Arrows.{has_link_arrow, has_step_arrow}
-use Rattle.command_names.proofs.Anywhere.{any_more, any_found, any_none, step_before}
+use Rattle.command_names.proofs.TestsOfParts.{any_more, any_found, any_none, step_before}
 use Rattle.command_names.proofs.arrows.+arrows.Goals as goal
 
 pub is_in_nodes-loop-node-preserved : goal.is_in_nodes-loop-node-preserved

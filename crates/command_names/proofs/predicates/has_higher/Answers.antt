@@ -2,7 +2,7 @@ use Rattle.std.proofs.Common.{map, refl, sym, ◌∙◌}
 use Rattle.std.specs.List.{list_any}
 use Rattle.alloy_syntax.specs.View.{declaration_view}
 use Rattle.named_model.specs.Faults.{is_higher_domain}
-use Rattle.command_names.proofs.Anywhere.{any_more, any_found, any_none}
+use Rattle.command_names.proofs.TestsOfParts.{any_more, any_found, any_none}
 use Rattle.command_names.proofs.predicates.has_higher.Goals as goal
 
 pub loop-declaration-preserved : goal.loop-declaration-preserved

@@ -9,7 +9,7 @@ use Rattle.lowering_rules.specs.Relations.{InProducts}
 use Rattle.bounding_types.specs.Same.{lists_of}
 use Rattle.field_bounds.specs.Bounds.{bound_type}
 use Rattle.field_bounds.proofs.Lists.{same_products}
-use Rattle.field_bounds.proofs.Placed.{weaker_too_large}
+use Rattle.field_bounds.proofs.PlacedProducts.{weaker_too_large}
 use Rattle.field_bounds.proofs.fields.field_places.Goals as goal
 
 pub returns : goal.returns

@@ -3,7 +3,7 @@ use Rattle.tuple_core.specs.Rows.{SetGains}
 use Rattle.tuple_core.proofs.Congruence.{rows_same}
 use Rattle.tuple_core.proofs.Steps.{set_same}
 use Rattle.lowering_rules.specs.Relations.{InProduct}
-use Rattle.field_bounds.proofs.Placed.{product_large, grown_large}
+use Rattle.field_bounds.proofs.PlacedProducts.{product_large, grown_large}
 use Rattle.field_bounds.proofs.products.add_product.Goals as goal
 
 pub returns-then-rows-room : goal.returns-then-rows-room

@@ -2,7 +2,7 @@ use Rattle.std.proofs.Common.{◌+◌, ◌∷◌, [], get_or, subst, sym}
 use Rattle.std.proofs.lemmas.List.{get_or_default}
 use Rattle.tuple_core.specs.Rows.{IsSetOf}
 use Rattle.lowering_rules.specs.Relations.{InProduct}
-use Rattle.field_bounds.proofs.Placed.{one_more, rest_at}
+use Rattle.field_bounds.proofs.PlacedProducts.{one_more, rest_at}
 use Rattle.field_bounds.proofs.products.product_of.Goals as goal
 
 pub loop-top-preserved : goal.loop-top-preserved

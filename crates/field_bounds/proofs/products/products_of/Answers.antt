@@ -6,7 +6,7 @@ use Rattle.tuple_core.specs.Rows.{SetGains}
 use Rattle.tuple_core.proofs.Steps.{set_more, set_all, set_from_gains}
 use Rattle.lowering_rules.specs.Relations.{InProduct, InProducts}
 use Rattle.bounding_types.specs.Same.{lists_of}
-use Rattle.field_bounds.proofs.Placed.{InProductOf, some_products, comes_from, weaker_too_large}
+use Rattle.field_bounds.proofs.PlacedProducts.{InProductOf, some_products, comes_from, weaker_too_large}
 use Rattle.field_bounds.proofs.products.products_of.Goals as goal
 
 pub returns-in_err-add_product : goal.returns-in_err-add_product

@@ -1,7 +1,7 @@
 use Rattle.std.proofs.Common.{◌≤◌, length, take}
 use Rattle.tuple_core.specs.Gains.{SomeGives}
 use Rattle.tuple_core.specs.Rows.{SetGains}
-use Rattle.field_bounds.proofs.Placed.{InProductOf}
+use Rattle.field_bounds.proofs.PlacedProducts.{InProductOf}
 use Rattle.field_bounds.proofs.products.products_of.Given as goal
 
 abbrev pub invariant-loop-list : goal.invariant-loop-list

@@ -1,4 +1,4 @@
-use Rattle.lowering_rules.proofs.Formed.{is_problem}
+use Rattle.lowering_rules.proofs.FormedProblems.{is_problem}
 use Rattle.lowering_rules.proofs.laws.problems_are_formed.Goals as goal
 
 pub returns : goal.returns

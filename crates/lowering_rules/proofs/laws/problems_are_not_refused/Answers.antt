@@ -1,4 +1,4 @@
-use Rattle.lowering_rules.proofs.One.{not_refused}
+use Rattle.lowering_rules.proofs.OneProblem.{not_refused}
 use Rattle.lowering_rules.proofs.laws.problems_are_not_refused.Goals as goal
 
 pub returns : goal.returns

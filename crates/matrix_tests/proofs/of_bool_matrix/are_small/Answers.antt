@@ -3,7 +3,7 @@ use Rattle.std.proofs.Math.Nat.{mul-le-mul}
 use Rattle.std.proofs.lemmas.List.{length-map}
 use Rattle.bool_matrix.specs.declared.entry.Entry.{Entry}
 use Rattle.bool_matrix.specs.Terms.{tuples}
-use Rattle.bool_matrix.proofs.Small.{joins_le}
+use Rattle.bool_matrix.proofs.SmallMatrices.{joins_le}
 use Rattle.matrix_tests.proofs.of_bool_matrix.are_small.Goals as goal
 
 pub returns-then-is_small-clause-joins : goal.returns-then-is_small-clause-joins

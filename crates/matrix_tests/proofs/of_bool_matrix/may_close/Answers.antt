@@ -1,7 +1,7 @@
 use Rattle.std.proofs.Common.{List, length, ap, arith}
 use Rattle.bool_matrix.specs.declared.entry.Entry.{Entry}
 use Rattle.bool_circuit.specs.Network.{size}
-use Rattle.bool_matrix.proofs.Small.{few_atoms, small_room}
+use Rattle.bool_matrix.proofs.SmallMatrices.{few_atoms, small_room}
 use Rattle.matrix_tests.proofs.of_bool_matrix.may_close.Goals as goal
 
 pub returns-clause-atoms : goal.returns-clause-atoms

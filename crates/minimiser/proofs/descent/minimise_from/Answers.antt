@@ -12,8 +12,8 @@ use Rattle.translation_rules.specs.Descents.{IsSmaller, descent_locals}
 use Rattle.local_clauses.proofs.Cells.{few_cells}
 use Rattle.minimiser.specs.Down.{IsDescent}
 use Rattle.minimiser.proofs.Cells.{fewer, few_locals}
-use Rattle.minimiser.proofs.Going.{Going, set_out, ended, spent_all, next, minimal}
-use Rattle.minimiser.proofs.Answered.{Told, told, found}
+use Rattle.minimiser.proofs.DescentStates.{Going, set_out, ended, spent_all, next, minimal}
+use Rattle.minimiser.proofs.SolverAnswers.{Told, told, found}
 use Rattle.minimiser.proofs.descent.minimise_from.Goals as goal
 
 pub descent-init : goal.descent-init
@@ -204,7 +204,12 @@ returns-in-Refuted-clause-answer c =
     let log = c.in-Refuted.log in
     let part : Parted = record { local = local; log = log } in
     let here = subst (Told t pool local left) c.in-Refuted.is said in
-    (minimal t (c.descent_clauses_say_what_is_smaller.ensures t.problem t c.problem-problem.ensures.well.stands) floor scenario going.instance_of going.above here.answer.1, going.within)
+    let made : c.of-in-Refuted.result ≡ part = c.of-in-Refuted.ensures ∙ ap (λ (ls : List (List Lit)). let p : Parted = record { local = ls; log = log } in p) are in
+    let now = c.in_ok-push-in-Refuted.ensures.items ∙ ap (λ (p : Parted). c.descent.parts.items ++ p ∷ []) made in (
+      minimal t (c.descent_clauses_say_what_is_smaller.ensures t.problem t c.problem-problem.ensures.well.stands) floor scenario going.instance_of going.above here.answer.1,
+      going.within,
+      (c.descent.parts.items, part, now, refl, here.answer.0),
+    )
 
 pub returns-in-Spent-clause-parts : goal.returns-in-Spent-clause-parts
 returns-in-Spent-clause-parts c =

@@ -1,5 +1,5 @@
 use Rattle.std.proofs.Common.{length}
-use Rattle.minimiser.proofs.Going.{Going}
+use Rattle.minimiser.proofs.DescentStates.{Going}
 use Rattle.minimiser.proofs.descent.minimise_from.Given as goal
 
 abbrev pub invariant-descent : goal.invariant-descent

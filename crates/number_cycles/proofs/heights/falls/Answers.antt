@@ -1,7 +1,7 @@
 use Rattle.std.proofs.Common.{◌<◌, ◌-◌, subst}
 use Rattle.number_cycles.specs.Walks.{rows_of, row_of}
 use Rattle.number_cycles.specs.Marks.{AreAtMost}
-use Rattle.number_cycles.proofs.Raised.{never_back}
+use Rattle.number_cycles.proofs.EdgeHeights.{never_back}
 use Rattle.number_cycles.proofs.heights.falls.Goals as goal
 
 pub returns-then-height-gt0 : goal.returns-then-height-gt0

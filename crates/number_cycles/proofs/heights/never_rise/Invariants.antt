@@ -1,5 +1,5 @@
 use Rattle.number_cycles.specs.Walks.{rows_of}
-use Rattle.number_cycles.proofs.Raised.{AreBelow}
+use Rattle.number_cycles.proofs.EdgeHeights.{AreBelow}
 use Rattle.number_cycles.proofs.heights.never_rise.Given as goal
 
 abbrev pub invariant-loop-number : goal.invariant-loop-number

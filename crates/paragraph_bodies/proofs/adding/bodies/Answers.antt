@@ -5,7 +5,7 @@ use Rattle.named_model.specs.Faults.{body_faults}
 use Rattle.name_tables.specs.InForce.{InForce}
 use Rattle.name_tables.specs.Told.{IsTold}
 use Rattle.paragraph_bodies.specs.Bodies.{IsLonger}
-use Rattle.paragraph_bodies.proofs.Gathering.{so_far_more, so_far_fault, so_far_all}
+use Rattle.paragraph_bodies.proofs.ParagraphLoops.{so_far_more, so_far_fault, so_far_all}
 use Rattle.paragraph_bodies.proofs.adding.bodies.Goals as goal
 
 pub loop-paragraph-preserved : goal.loop-paragraph-preserved

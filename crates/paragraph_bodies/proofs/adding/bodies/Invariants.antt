@@ -1,5 +1,5 @@
 use Rattle.std.proofs.Common.{◌≡◌, drop}
-use Rattle.paragraph_bodies.proofs.Gathering.{SoFar}
+use Rattle.paragraph_bodies.proofs.ParagraphLoops.{SoFar}
 use Rattle.paragraph_bodies.proofs.adding.bodies.Given as goal
 
 abbrev pub invariant-loop-paragraph : goal.invariant-loop-paragraph

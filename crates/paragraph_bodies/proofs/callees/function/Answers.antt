@@ -8,7 +8,7 @@ use Rattle.named_model.specs.Phrase.{domains_of, DomainTrees}
 use Rattle.named_model.specs.View.{domain_view, phrase_view}
 use Rattle.name_tables.specs.InForce.{InForce, with_locals}
 use Rattle.name_tables.specs.Told.{IsTold}
-use Rattle.paragraph_bodies.proofs.Saying.{left_all, function_all, function_told, function_range_told, function_body_told}
+use Rattle.paragraph_bodies.proofs.ParagraphParts.{left_all, function_all, function_told, function_range_told, function_body_told}
 use Rattle.paragraph_bodies.proofs.callees.function.Goals as goal
 
 -- what is known behind the parameters, for the list of them that the function has
@@ -34,7 +34,7 @@ returns-clause-names c =
     let n : InForce = c.args.names.now in
     let ds = map declaration_view c.args.function.now.parameters.items in
     let behind = subst (AreBehind n c.parameters.new.names) c.deref.ensures.value c.in_ok-domains.ensures.names in
-    left_all n c.expression-2.new.names c.leave_until.new.names (behind_declarations n.locals (declarations_of ds)) c.requires.global (c.in_ok-body.ensures.names ∙ c.in_ok-range.ensures.names ∙ behind) c.leave_until.ensures
+    left_all n c.expression-2.new.names c.leave_until.new.names (behind_declarations n.locals (declarations_of ds)) c.requires.global (c.in_ok-body.ensures.names ∙ c.in_ok-range.ensures.names ∙ behind) c.leave_until.ensures.left
 
 pub returns-in_err-domains-clause-value : goal.returns-in_err-domains-clause-value
 returns-in_err-domains-clause-value c =

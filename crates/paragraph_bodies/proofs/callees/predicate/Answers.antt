@@ -8,7 +8,7 @@ use Rattle.named_model.specs.Phrase.{domains_of}
 use Rattle.named_model.specs.View.{domain_view, phrases_view}
 use Rattle.name_tables.specs.InForce.{InForce}
 use Rattle.name_tables.specs.Told.{IsTold}
-use Rattle.paragraph_bodies.proofs.Saying.{left_all, predicate_all, predicate_told, predicate_body_told}
+use Rattle.paragraph_bodies.proofs.ParagraphParts.{left_all, predicate_all, predicate_told, predicate_body_told}
 use Rattle.paragraph_bodies.proofs.callees.predicate.Goals as goal
 
 pub returns-clause-value : goal.returns-clause-value
@@ -19,7 +19,7 @@ returns-clause-value c =
 
 pub returns-clause-names : goal.returns-clause-names
 returns-clause-names c =
-    left_all c.args.names.now c.formulas.new.names c.leave_until.new.names (behind_declarations c.args.names.now.locals (declarations_of (map declaration_view c.args.declarations.now))) c.requires.global (c.in_ok-body.ensures.names ∙ c.in_ok-domains.ensures.names) c.leave_until.ensures
+    left_all c.args.names.now c.formulas.new.names c.leave_until.new.names (behind_declarations c.args.names.now.locals (declarations_of (map declaration_view c.args.declarations.now))) c.requires.global (c.in_ok-body.ensures.names ∙ c.in_ok-domains.ensures.names) c.leave_until.ensures.left
 
 pub returns-in_err-domains-clause-value : goal.returns-in_err-domains-clause-value
 returns-in_err-domains-clause-value c =

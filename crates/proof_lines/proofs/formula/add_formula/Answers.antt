@@ -2,7 +2,7 @@ use Rattle.std.proofs.Common.{◌≡◌, ◌+◌, ◌-◌, ◌++◌, ◌∷◌, 
 use Rattle.std.proofs.lemmas.Option.{slice_get_within}
 use Rattle.cnf_core.specs.declared.literal.Lit.{Lit}
 use Rattle.cnf_core.specs.Formula.{Formula}
-use Rattle.search_rounds.proofs.Added.{added, at_place}
+use Rattle.search_rounds.proofs.AddedElements.{added, at_place}
 use Rattle.proof_lines.proofs.formula.add_formula.Goals as goal
 
 pub loop-number-preserved : goal.loop-number-preserved

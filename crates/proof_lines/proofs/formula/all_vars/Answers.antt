@@ -4,8 +4,8 @@ use Rattle.cnf_core.specs.Formula.{Formula}
 use Rattle.tuple_core.specs.declared.atom.Atom.{Atom}
 use Rattle.translation_rules.specs.Translation.{SwapClauses}
 use Rattle.translation.specs.Numbered.{pair_of}
-use Rattle.translation.proofs.Few.{few_pairs}
-use Rattle.search_rounds.proofs.Added.{at_place}
+use Rattle.translation.proofs.NeighbourCounts.{few_pairs}
+use Rattle.search_rounds.proofs.AddedElements.{at_place}
 use Rattle.search_rounds.proofs.Swaps.{swap_here}
 use Rattle.proof_lines.specs.Printed.{most_vars}
 use Rattle.proof_lines.proofs.Vars.{least_vars, most_push}

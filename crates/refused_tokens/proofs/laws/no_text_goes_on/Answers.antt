@@ -1,6 +1,5 @@
-use Rattle.std.proofs.Common.{true}
 use Rattle.refused_tokens.proofs.Models.{goes_nowhere}
 use Rattle.refused_tokens.proofs.laws.no_text_goes_on.Goals as goal
 
 pub returns : goal.returns
-returns c before rest e on = goes_nowhere true 200 before rest e on
+returns c strict limit before rest e on = goes_nowhere strict limit before rest e on

@@ -13,7 +13,7 @@ use Rattle.rel_terms.specs.Upper.{upper_structure}
 use Rattle.rel_terms.specs.Terms.{InUpperAt, ExpressionHas, FormulaHas, FormulasHave}
 use Rattle.rel_terms.specs.Counting.{Adds, IsCounted, RowsHave, arities_of}
 use Rattle.rel_terms.proofs.Adding.{adds_both}
-use Rattle.rel_terms.proofs.Parted.{parts_more, parts_above, adds_and, adds_or, rows_more, rows_above}
+use Rattle.rel_terms.proofs.PartTerms.{parts_more, parts_above, adds_and, adds_or, rows_more, rows_above}
 use Rattle.rel_terms.proofs.FormulaTerms.{each_adds}
 use Rattle.rel_terms.proofs.formula.+add_formula.Goals as goal
 

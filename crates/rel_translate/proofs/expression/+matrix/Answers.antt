@@ -18,7 +18,7 @@ use Rattle.rel_translate.proofs.Atoms.{few_begin}
 use Rattle.rel_translate.proofs.Operators.{union_parts, minus_parts, meet_parts, product_parts, join_parts, override_parts, dom_parts, ran_parts, transpose_parts, closure_parts}
 use Rattle.rel_translate.proofs.Operators.{union_room, minus_room, meet_room, product_room, join_room, override_room, dom_room, ran_room, closure_room}
 use Rattle.rel_translate.proofs.Operators.{union_made, minus_made, meet_made, product_made, join_made, override_made, dom_made, ran_made, transpose_made, closure_made}
-use Rattle.rel_translate.proofs.Plain.{relation_made, variable_made, nothing_made, universe_made, identity_made, both_made}
+use Rattle.rel_translate.proofs.PlainMatrices.{relation_made, variable_made, nothing_made, universe_made, identity_made, both_made}
 use Rattle.rel_translate.proofs.expression.+matrix.Goals as goal
 
 -- m is the matrix of e

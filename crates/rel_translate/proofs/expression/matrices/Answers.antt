@@ -4,7 +4,7 @@ use Rattle.rel_formula.specs.View.{expression_tree}
 use Rattle.rel_translate.specs.Makes.{TermsOf}
 use Rattle.rel_translate.proofs.Spending.{room_left, room_right}
 use Rattle.rel_translate.proofs.GrownCircuits.{ready_kept}
-use Rattle.rel_translate.proofs.Plain.{both_made}
+use Rattle.rel_translate.proofs.PlainMatrices.{both_made}
 use Rattle.rel_translate.proofs.expression.matrices.Goals as goal
 
 pub matrix-requires : goal.matrix-requires

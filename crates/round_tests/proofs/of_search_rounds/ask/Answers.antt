@@ -5,7 +5,7 @@ use Rattle.swap_symmetry.specs.Due.{IsDue}
 use Rattle.session_rules.specs.Proofs.{IsCopy, IsCovered}
 use Rattle.search_rounds.specs.declared.next.Found.{Found}
 use Rattle.search_rounds.specs.Next.{IsAnswer}
-use Rattle.search_rounds.proofs.Going.{IsNewCopy, cells_of_blocked}
+use Rattle.search_rounds.proofs.RoundStates.{IsNewCopy, cells_of_blocked}
 use Rattle.round_tests.proofs.of_search_rounds.ask.Goals as goal
 
 -- a copy stays one where more was shown

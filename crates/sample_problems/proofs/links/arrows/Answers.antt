@@ -5,7 +5,7 @@ use Rattle.rel_formula.specs.declared.problem.Relation.{Relation}
 use Rattle.rel_formula.specs.Shape.{IsProper}
 use Rattle.rel_formula.specs.View.{formula_tree}
 use Rattle.rel_formula.specs.Bounds.{IsRelation, IsProblem, relation_at}
-use Rattle.rel_formula.proofs.Two.{two_problem}
+use Rattle.rel_formula.proofs.TwoRelations.{two_problem}
 use Rattle.sample_problems.proofs.links.arrows.Goals as goal
 
 pub of-requires-3 : goal.of-requires-3

@@ -1,5 +1,5 @@
 use Rattle.std.proofs.Common.{arith}
-use Rattle.sat_trail.proofs.Settled.{held_up_true}
+use Rattle.sat_trail.proofs.SettledLiterals.{held_up_true}
 use Rattle.sat_trail.proofs.settling.is_held_by.Goals as goal
 
 pub returns-then-level_of : goal.returns-then-level_of

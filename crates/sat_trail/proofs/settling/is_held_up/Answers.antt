@@ -1,4 +1,4 @@
-use Rattle.sat_trail.proofs.Settled.{held_up_free}
+use Rattle.sat_trail.proofs.SettledLiterals.{held_up_free}
 use Rattle.sat_trail.proofs.settling.is_held_up.Goals as goal
 
 pub returns-in-None : goal.returns-in-None

@@ -5,7 +5,7 @@ use Rattle.refutation_check.specs.Part.{Parted}
 use Rattle.translation_rules.specs.Parts.{AreSearched, novel_in}
 use Rattle.minimiser.specs.declared.descent.Down.{Down}
 use Rattle.minimiser.specs.Down.{parts_of, IsDescent, IsRight}
-use Rattle.search_rounds.proofs.Emptied.{none_empty, none_empty_after}
+use Rattle.search_rounds.proofs.NovelSteps.{none_empty, none_empty_after}
 use Rattle.search_rounds.proofs.descent.go_down.Goals as goal
 
 pub returns-in-Minimal-clause-parts : goal.returns-in-Minimal-clause-parts

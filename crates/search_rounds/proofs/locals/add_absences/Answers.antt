@@ -5,7 +5,7 @@ use Rattle.rel_formula.specs.Instance.{AreCells}
 use Rattle.translation_rules.specs.Translation.{var_of}
 use Rattle.translation_rules.specs.Locals.{absence_in}
 use Rattle.local_clauses.proofs.Cells.{have_variables}
-use Rattle.search_rounds.proofs.Added.{added_of}
+use Rattle.search_rounds.proofs.AddedElements.{added_of}
 use Rattle.search_rounds.proofs.locals.add_absences.Goals as goal
 
 pub absence_in-requires-clause-variables : goal.absence_in-requires-clause-variables

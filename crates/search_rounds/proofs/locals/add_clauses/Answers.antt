@@ -1,7 +1,7 @@
 use Rattle.std.proofs.Common.{◌≡◌, ◌<◌, ◌+◌, ◌-◌, ℕ, List, ◌++◌, ◌∷◌, [], take, slice_get, Some, sym, ◌∙◌, ap, subst, arith}
 use Rattle.std.proofs.lemmas.Option.{slice_get_within}
 use Rattle.cnf_core.specs.declared.literal.Lit.{Lit}
-use Rattle.search_rounds.proofs.Added.{added, at_place}
+use Rattle.search_rounds.proofs.AddedElements.{added, at_place}
 use Rattle.search_rounds.proofs.locals.add_clauses.Goals as goal
 
 pub loop-number-preserved : goal.loop-number-preserved

@@ -6,7 +6,7 @@ use Rattle.rel_formula.specs.Bounds.{Bounded}
 use Rattle.translation_rules.specs.Free.{is_free_of}
 use Rattle.translation_rules.specs.Translation.{SwapClauses, clauses_of_swaps}
 use Rattle.translation.specs.Numbered.{pair_of}
-use Rattle.translation.proofs.Few.{few_pairs}
+use Rattle.translation.proofs.NeighbourCounts.{few_pairs}
 use Rattle.search_rounds.proofs.Swaps.{swap_here, clauses_more, clauses_same}
 use Rattle.search_rounds.proofs.locals.free_clauses.Goals.{then-is_free+in_ok-add_clauses, else-is_free}
 use Rattle.search_rounds.proofs.locals.free_clauses.Goals as goal

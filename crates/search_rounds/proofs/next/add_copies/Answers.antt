@@ -1,5 +1,5 @@
 use Rattle.std.proofs.Common.{◌≡◌, ℕ, List, ◌++◌, ◌∷◌, [], sym, ◌∙◌, ap}
-use Rattle.search_rounds.proofs.Added.{added}
+use Rattle.search_rounds.proofs.AddedElements.{added}
 use Rattle.search_rounds.proofs.next.add_copies.Goals as goal
 
 pub loop-scenario-preserved : goal.loop-scenario-preserved

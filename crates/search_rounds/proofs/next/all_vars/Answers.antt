@@ -1,6 +1,6 @@
 use Rattle.std.proofs.Common.{◌≡◌, map, length, ap, arith}
 use Rattle.translation.specs.Numbered.{pair_of}
-use Rattle.translation.proofs.Few.{few_pairs}
+use Rattle.translation.proofs.NeighbourCounts.{few_pairs}
 use Rattle.search_rounds.proofs.next.all_vars.Goals as goal
 
 pub overflow_cast-place : goal.overflow_cast-place

@@ -10,8 +10,8 @@ use Rattle.search_rounds.specs.declared.next.Found.TheVariants.{Shown, Ended, Sp
 use Rattle.search_rounds.specs.declared.round.RoundEnd.{RoundEnd}
 use Rattle.search_rounds.specs.Rounds.{parts_in, IsRoundAt, IsRightRound}
 use Rattle.search_rounds.specs.Next.{IsEndAt}
-use Rattle.search_rounds.proofs.Led.{novel_more, novel_none}
-use Rattle.search_rounds.proofs.Going.{Going, Answered, set_out, covered_later, cells_of_blocked, shown_are_blocked, few_blocked, done, spent_all, next, ended}
+use Rattle.search_rounds.proofs.SearchedRounds.{novel_more, novel_none}
+use Rattle.search_rounds.proofs.RoundStates.{Going, Answered, set_out, covered_later, cells_of_blocked, shown_are_blocked, few_blocked, done, spent_all, next, ended}
 use Rattle.search_rounds.proofs.next.next_from.Goals as goal
 
 pub rounds-init : goal.rounds-init

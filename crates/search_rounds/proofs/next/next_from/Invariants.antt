@@ -1,4 +1,4 @@
-use Rattle.search_rounds.proofs.Going.{Going}
+use Rattle.search_rounds.proofs.RoundStates.{Going}
 use Rattle.search_rounds.proofs.next.next_from.Given as goal
 
 abbrev pub invariant-rounds : goal.invariant-rounds

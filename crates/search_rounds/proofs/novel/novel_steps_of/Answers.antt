@@ -2,7 +2,7 @@ use Rattle.std.proofs.Common.{◌≡◌, ◌≢◌, ◌++◌, ◌∷◌, [], tru
 use Rattle.cnf_core.specs.declared.literal.Lit.{Lit}
 use Rattle.refutation_check.specs.declared.log.Step.{Step}
 use Rattle.refutation_check.specs.Chain.{members_of}
-use Rattle.search_rounds.proofs.Emptied.{counted_known, counted_new}
+use Rattle.search_rounds.proofs.NovelSteps.{counted_known, counted_new}
 use Rattle.search_rounds.proofs.novel.novel_steps_of.Goals as goal
 
 pub returns-then-is_known : goal.returns-then-is_known

@@ -4,7 +4,7 @@ use Rattle.translation_rules.specs.Parts.{novel_in}
 use Rattle.search_rounds.specs.declared.search.SearchEnd.{SearchEnd}
 use Rattle.search_rounds.specs.Searches.{part_of, IsSearchAt, IsRightSearch}
 use Rattle.search_rounds.specs.Rounds.{IsRoundAt}
-use Rattle.search_rounds.proofs.Led.{search_alone, units_alone, leads, counted, round_here}
+use Rattle.search_rounds.proofs.SearchedRounds.{search_alone, units_alone, leads, counted, round_here}
 use Rattle.search_rounds.proofs.round.round_at.Goals as goal
 
 pub round_of-requires : goal.round_of-requires

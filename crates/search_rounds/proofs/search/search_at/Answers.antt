@@ -12,7 +12,7 @@ use Rattle.sat_core.specs.declared.search.Answer.{Answer}
 use Rattle.translation_rules.specs.Locals.{IsLeft, locals_of}
 use Rattle.translation_rules.specs.Parts.{given_to}
 use Rattle.local_clauses.proofs.Cells.{few_cells}
-use Rattle.minimiser.proofs.Answered.{Told, told}
+use Rattle.minimiser.proofs.SolverAnswers.{Told, told}
 use Rattle.search_rounds.specs.Searches.{IsSearchAt}
 use Rattle.search_rounds.proofs.Sizes.{few_locals}
 use Rattle.search_rounds.proofs.SolverAnswers.{found_left, left_of}

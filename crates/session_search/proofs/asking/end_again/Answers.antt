@@ -2,7 +2,7 @@ use Rattle.std.proofs.Common.{length, sym, ap, subst}
 use Rattle.session_words.specs.declared.steps.Step.TheVariants.{Next}
 use Rattle.session_rules.specs.States.{HasEndedWith}
 use Rattle.session_search.specs.Proposed.{IsProposal}
-use Rattle.session_search.proofs.Bare.{ended_again}
+use Rattle.session_search.proofs.IdleReplies.{ended_again}
 use Rattle.session_search.proofs.asking.end_again.Goals as goal
 
 pub returns : goal.returns

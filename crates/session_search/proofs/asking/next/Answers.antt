@@ -4,7 +4,7 @@ use Rattle.swap_symmetry.specs.Due.{IsDue}
 use Rattle.session_rules.specs.States.{shown_here, top_floor}
 use Rattle.session_rules.specs.Proofs.{IsCopy}
 use Rattle.session_store.specs.Stored.{copies_at}
-use Rattle.session_search.proofs.Here.{floor_here, copies_here, few_at}
+use Rattle.session_search.proofs.TopFloors.{floor_here, copies_here, few_at}
 use Rattle.session_search.proofs.asking.next.Goals as goal
 
 pub end_again-requires : goal.end_again-requires

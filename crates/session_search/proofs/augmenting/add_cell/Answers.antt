@@ -5,8 +5,8 @@ use Rattle.session_words.specs.declared.steps.Step.TheVariants.{Augment}
 use Rattle.session_rules.specs.Steps.{AsksFor}
 use Rattle.session_rules.specs.declared.answers.Refusal.TheVariants.{Deep}
 use Rattle.session_search.specs.Proposed.{IsProposal}
-use Rattle.session_search.proofs.Bare.{refused}
-use Rattle.session_search.proofs.Fixed.{cells_with}
+use Rattle.session_search.proofs.IdleReplies.{refused}
+use Rattle.session_search.proofs.FloorProposals.{cells_with}
 use Rattle.session_search.proofs.augmenting.add_cell.Goals as goal
 
 pub returns-then-height-ge-MOST_FLOORS : goal.returns-then-height-ge-MOST_FLOORS

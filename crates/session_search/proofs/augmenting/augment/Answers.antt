@@ -2,7 +2,7 @@ use Rattle.std.proofs.Common.{◌<◌, length, subst}
 use Rattle.rel_formula.specs.Bounds.{Bounded, cells_of}
 use Rattle.rel_formula.proofs.Lists.{some_below}
 use Rattle.tuple_names.specs.Named.{IsWhatIsNamed}
-use Rattle.session_search.proofs.Here.{current_here}
+use Rattle.session_search.proofs.TopFloors.{current_here}
 use Rattle.session_search.proofs.augmenting.augment.Goals as goal
 
 pub add_cell-requires-clause-cells : goal.add_cell-requires-clause-cells

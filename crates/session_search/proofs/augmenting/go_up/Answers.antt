@@ -7,7 +7,7 @@ use Rattle.session_rules.specs.declared.answers.Reply.TheVariants.{Augmented, Re
 use Rattle.augmenter.specs.Search.{part_in, IsSearchFor, IsRightFor}
 use Rattle.augmenter.specs.declared.search.Sought.{Sought}
 use Rattle.session_search.specs.Proposed.{IsProposal}
-use Rattle.session_search.proofs.Fixed.{goes_up, goes_nowhere, spent_on_floor}
+use Rattle.session_search.proofs.FloorProposals.{goes_up, goes_nowhere, spent_on_floor}
 use Rattle.session_search.proofs.augmenting.go_up.Goals as goal
 
 pub returns-in_ok-parts-in-Possible : goal.returns-in_ok-parts-in-Possible

@@ -1,4 +1,4 @@
-use Rattle.session_search.proofs.Here.{current_here}
+use Rattle.session_search.proofs.TopFloors.{current_here}
 use Rattle.session_search.proofs.offering.offer.Goals as goal
 
 pub offers_of-requires-clause-current : goal.offers_of-requires-clause-current

@@ -1,7 +1,6 @@
 use Rattle.std.proofs.Common.{◌≡◌, ◌∙◌, ℕ, List, [], sym, subst}
 use Rattle.std.proofs.lemmas.Result.{IfOk-weaker}
 use Rattle.refutation_check.specs.Part.{Parted}
-use Rattle.translation_rules.specs.Offers.{AreOffers}
 use Rattle.translation_rules.specs.Parts.{novel_in}
 use Rattle.session_words.specs.declared.steps.Step.TheVariants.{Offers}
 use Rattle.session_rules.specs.declared.answers.Refusal.TheVariants.{Spent}
@@ -9,7 +8,7 @@ use Rattle.session_rules.specs.declared.answers.Reply.TheVariants.{Offers as Off
 use Rattle.augmenter.specs.Offering.{parts_of, AreTrials, IsRight}
 use Rattle.augmenter.specs.declared.answer.Offers.{Offers as Told}
 use Rattle.session_search.specs.Proposed.{IsProposal}
-use Rattle.session_search.proofs.Given.{offered, spent_on_offers}
+use Rattle.session_search.proofs.OfferProposals.{offered, spent_on_offers}
 use Rattle.session_search.proofs.offering.offers_of.Goals as goal
 
 pub returns-in-Exactly : goal.returns-in-Exactly
@@ -20,11 +19,11 @@ returns-in-Exactly c = λ s is most.
     let budget = c.args.budget in
     let cells : List ℕ = c.in-Exactly.cells.items in
     let trials : AreTrials t pool current budget c.in-Exactly.parts.items = subst (λ (told : Told). AreTrials t pool current budget (parts_of told)) c.in-Exactly.is c.in_ok-told.ensures.parts in
-    let right : AreOffers t.problem current cells = subst (IsRight t pool current budget) c.in-Exactly.is c.in_ok-told.ensures.answer in
+    let right = subst (IsRight t pool current budget) c.in-Exactly.is c.in_ok-told.ensures.answer in
     subst (IsProposal t pool s Offers) (sym c.searched.ensures)
     (subst (λ (cs : List ℕ). IsProposal t pool s Offers (record { reply = OffersAre cs; parts = c.of-parts.result; copies = [] })) (sym c.of-cells.ensures)
     (subst (λ (ps : List Parted). IsProposal t pool s Offers (record { reply = OffersAre cells; parts = ps; copies = [] })) (sym c.of-parts.ensures)
-    (offered t pool s current budget c.in-Exactly.parts.items is most trials cells right)))
+    (offered t pool s current budget c.in-Exactly.parts.items is most trials cells right.0)))
 
 pub returns-in-Spent : goal.returns-in-Spent
 returns-in-Spent c =

@@ -1,5 +1,5 @@
 use Rattle.std.proofs.Common.{arith}
-use Rattle.signature_formulas.proofs.Saying.{says_nothing}
+use Rattle.signature_formulas.proofs.FormulaLists.{says_nothing}
 use Rattle.signature_formulas.proofs.Extended.{apart_next, apart_end}
 use Rattle.signature_formulas.proofs.extensions.add_apart.Goals as goal
 

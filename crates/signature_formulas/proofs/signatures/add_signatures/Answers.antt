@@ -1,5 +1,5 @@
 use Rattle.lowering_rules.specs.Formula.{signature_says}
-use Rattle.signature_formulas.proofs.Saying.{says_nothing}
+use Rattle.signature_formulas.proofs.FormulaLists.{says_nothing}
 use Rattle.signature_formulas.proofs.Extended.{says_next}
 use Rattle.signature_formulas.proofs.signatures.add_signatures.Goals as goal
 

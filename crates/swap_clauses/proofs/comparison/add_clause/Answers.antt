@@ -2,7 +2,7 @@ use Rattle.std.proofs.Common.{sym, subst}
 use Rattle.std.specs.Prelude.{IfSome}
 use Rattle.cnf_core.specs.Literal.{HasSameLiterals}
 use Rattle.swap_clauses.specs.Comparison.{AddsClause}
-use Rattle.swap_clauses.proofs.Added.{push_adds}
+use Rattle.swap_clauses.proofs.AddedClauses.{push_adds}
 use Rattle.swap_clauses.proofs.comparison.add_clause.Goals as goal
 
 pub returns-in_ok-push-in-Some : goal.returns-in_ok-push-in-Some

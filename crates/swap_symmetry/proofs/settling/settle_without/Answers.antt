@@ -1,5 +1,5 @@
-use Rattle.swap_symmetry.proofs.SoFar.{nothing_done, one_more, less_left}
-use Rattle.swap_symmetry.proofs.Beside.{includes_beside, minimal_beside}
+use Rattle.swap_symmetry.proofs.PartlySettled.{nothing_done, one_more, less_left}
+use Rattle.swap_symmetry.proofs.FloorRenamings.{includes_beside, minimal_beside}
 use Rattle.swap_symmetry.proofs.settling.settle_without.Goals as goal
 
 pub swaps-init : goal.swaps-init

@@ -1,6 +1,6 @@
 use Rattle.std.proofs.Common.{length}
 use Rattle.rel_formula.specs.Bounds.{cells_of}
-use Rattle.swap_symmetry.proofs.SoFar.{SoFar}
+use Rattle.swap_symmetry.proofs.PartlySettled.{SoFar}
 use Rattle.swap_symmetry.proofs.Weights.{lacks}
 use Rattle.swap_symmetry.proofs.settling.settle_without.Given as goal
 

@@ -1,6 +1,6 @@
 use Rattle.std.proofs.Common.{◌≡◌, true, false}
-use Rattle.swap_symmetry.proofs.SoFar.{swap_kept, image_earlier}
-use Rattle.swap_symmetry.proofs.Beside.{beside_itself, beside_swap}
+use Rattle.swap_symmetry.proofs.PartlySettled.{swap_kept, image_earlier}
+use Rattle.swap_symmetry.proofs.FloorRenamings.{beside_itself, beside_swap}
 use Rattle.swap_symmetry.proofs.settling.swap_once.Goals as goal
 
 pub swap_atoms-requires : goal.swap_atoms-requires

@@ -3,7 +3,7 @@ use Rattle.rel_formula.specs.declared.problem.Relation.{Relation}
 use Rattle.rel_formula.specs.Kernel.{FormulaTree}
 use Rattle.rel_formula.specs.View.{formula_tree}
 use Rattle.rel_terms.specs.Terms.{IsTranslatable}
-use Rattle.translation_cache.proofs.Bare.{made_of, is_translatable}
+use Rattle.translation_cache.proofs.BareProblems.{made_of, is_translatable}
 use Rattle.translation_tests.proofs.of_translation_cache.translated.Goals as goal
 
 pub build-requires-clause-translatable : goal.build-requires-clause-translatable

@@ -2,7 +2,7 @@ use Rattle.std.proofs.Common.{rules, ◌≡◌, true, refl, sym, ap, ◌∙◌, 
 use Rattle.bool_circuit.specs.declared.shape.Shape.{Shape}
 use Rattle.bool_circuit.specs.Network.{IsInOrder}
 use Rattle.bool_circuit.specs.contracts.shape.ShapePartialEq.TheImpl.{eq-value}
-use Rattle.bool_circuit.proofs.Made.{Makes-inserted, Extends-made, Stands-made, one_more}
+use Rattle.bool_circuit.proofs.MadeNodes.{Makes-inserted, Extends-made, Stands-made, one_more}
 use Rattle.bool_circuit.proofs.Sizes.{size-made}
 use Rattle.bool_circuit.proofs.circuit.Circuit.add.Goals as goal
 

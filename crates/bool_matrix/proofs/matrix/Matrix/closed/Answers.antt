@@ -7,7 +7,7 @@ use Rattle.bool_matrix.specs.Terms.{tuples}
 use Rattle.std.proofs.Math.Nat.{mul-le-mul_right}
 use Rattle.tuple_core.specs.declared.atom.Atom.{Atom}
 use Rattle.tuple_core.specs.Operators.{Closed}
-use Rattle.bool_matrix.proofs.Distinct.{there_tuple}
+use Rattle.bool_matrix.proofs.DistinctLists.{there_tuple}
 use Rattle.bool_matrix.proofs.JoiningPairs.{all_behind, all_length, meetings_there}
 use Rattle.bool_matrix.proofs.Squares.{halved, few_reached, closure_start, closure_step, closure_end, squared_cost}
 use Rattle.bool_matrix.proofs.matrix.Matrix.closed.Goals as goal

@@ -6,7 +6,7 @@ use Rattle.session_rules.specs.declared.answers.Reply.{Reply}
 use Rattle.session_store.specs.Stored.{Stored, copies_after}
 use Rattle.session_search.specs.Fits.{InSession, FitsProblem}
 use Rattle.session_search.specs.Proposed.{IsProposal, IsPlainProposal}
-use Rattle.session_search.proofs.Later.{fits_later}
+use Rattle.session_search.proofs.LaterSessions.{fits_later}
 use Rattle.session_search.proofs.session.Session.apply.Goals as goal
 
 pub returns-clause-fits : goal.returns-clause-fits

@@ -1,6 +1,6 @@
 use Rattle.std.proofs.Common.{ap}
 use Rattle.session_store.specs.Stored.{Stored}
-use Rattle.session_search.proofs.Later.{fits_first}
+use Rattle.session_search.proofs.LaterSessions.{fits_first}
 use Rattle.session_search.proofs.session.Session.new.Goals as goal
 
 pub returns-clause-fits : goal.returns-clause-fits

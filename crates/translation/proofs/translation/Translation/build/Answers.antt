@@ -1,7 +1,7 @@
 use Rattle.std.proofs.Common.{◌≡◌, ◌≤◌, ◌∙◌, List, length, sym, ap, subst}
 use Rattle.tuple_core.specs.declared.atom.Atom.{Atom}
 use Rattle.translation.specs.Numbered.{swaps_of, AreNumbered}
-use Rattle.translation.proofs.Few.{few_pairs}
+use Rattle.translation.proofs.NeighbourCounts.{few_pairs}
 use Rattle.translation.proofs.ProblemClauses.{kept}
 use Rattle.translation.proofs.translation.Translation.build.Goals as goal
 

@@ -10,11 +10,10 @@ use Rattle.session_rules.specs.Steps.{MayAnswer, Exchange, MachineRun, state_aft
 use Rattle.session_rules.specs.Proofs.{IsCopy}
 use Rattle.session_rules.specs.declared.answers.Reply.{Reply}
 use Rattle.session_rules.proofs.Runs.{states_join, runs_joined}
-use Rattle.session_rules.specs.declared.answers.Reply.TheVariants.{Shown, End, BudgetSet}
+use Rattle.session_rules.specs.declared.answers.Reply.TheVariants.{Shown, End}
 use Rattle.session_store.specs.Stored.{Stored, copies_after, copies_kept}
-use Rattle.session_search.specs.Fits.{FitsProblem, IsKept}
-use Rattle.session_search.specs.Proposed.{SetsSmallBudget}
-use Rattle.session_search.proofs.Here.{CopyAt}
+use Rattle.session_search.specs.Fits.{FitsProblem}
+use Rattle.session_search.proofs.TopFloors.{CopyAt}
 
 abbrev ended_by : State → ProofOfEnd → State
 ended_by s proof = record s { ended = s.ended ++ record { floor = top_floor s; proof = proof } ∷ [] }
@@ -94,28 +93,11 @@ fits_first p budget kept state_is copies_are = record {
   copies = subst (All (CopyAt p kept.state)) (sym copies_are) (All-nil (CopyAt p kept.state));
 }
 
-budget_later : (s : State) (reply : Reply) → s.budget ≤ 100000 → SetsSmallBudget reply → (after s reply).budget ≤ 100000
-budget_later s (BudgetSet budget) old small = small
-budget_later s (End number proof) old small =
-    elim (has_ended (top_floor s) s) as (λ b. (if b then s else ended_by s proof).budget ≤ 100000) [ true ↦ old | false ↦ old ]
-budget_later s reply old small = old
-
 few_more : (xs ys : List ShownAt) → length xs ≤ 1000000 → length (xs ++ take (1000000 - length xs) ys) ≤ 1000000
 few_more xs ys few =
     let all : length (xs ++ take (1000000 - length xs) ys) ≡ length xs + length (take (1000000 - length xs) ys) = length-append xs (take (1000000 - length xs) ys) in
     let some : length (take (1000000 - length xs) ys) ≡ min (1000000 - length xs) (length ys) = length-take (1000000 - length xs) ys in
     omega arith
-
-copies_later : (kept : Stored) (reply : Reply) (found : List (List ℕ)) → length kept.copies ≤ 1000000 → length (copies_after kept reply found) ≤ 1000000
-copies_later kept (Shown number scenario) found few = few_more kept.copies (map (at_top kept.state) found) few
-copies_later kept (End number proof) found few = few_more kept.copies (map (at_top kept.state) found) few
-copies_later kept reply found few = few
-
-pub kept_later : (kept new : Stored) (reply : Reply) (found : List (List ℕ)) → IsKept kept → SetsSmallBudget reply → new.state ≡ after kept.state reply → new.copies ≡ copies_after kept reply found → IsKept new
-kept_later kept new reply found is small state_is copies_are = record {
-  few_copies = subst (λ (xs : List ShownAt). length xs ≤ 1000000) (sym copies_are) (copies_later kept reply found is.few_copies);
-  small_budget = subst (λ (s : State). s.budget ≤ 100000) (sym state_is) (budget_later kept.state reply is.small_budget small);
-}
 
 -- room changes nothing of that
 pub fits_still : (p : Bounded) (kept new : Stored) → new.state ≡ kept.state → new.copies ≡ kept.copies → FitsProblem p kept → FitsProblem p new

@@ -20,7 +20,7 @@ use Rattle.alloy_syntax.specs.Readers.{Stop, Parser, next_is, after, place_at, o
 use Rattle.alloy_syntax.specs.Nodes.{Reader, is_comprehension, is_inner, block_over, block_tree, paren_over, is_constant, primary_over, behind_prefix, is_tightening, tightening_of, tight_over, begins_step, step_over, path_over, begins_link, link_over, chained, restrict_over, begins_arrow, arrow_over, arrows_over, meet_over, override_over, size_over, sum_over, counting_of, is_counting, counted_over, begins_comparison, comparison_over, begins_declaration, quantifier_of, negation_over, and_over, implication_over, iff_over, node_over, variable_names, variables_over, declaration_over, another_declaration, more_declarations, declarations_over, quantified_over, binding_over, bindings_over, let_over, begins_primary, begins_tight, begins_sum, begins_node, begins, may_be_block, inside_over}
 use Rattle.alloy_syntax.specs.Bounds.{Standing, BoundReader, word_beside, side_over, begins_bound, begins_bound_arrow, bound_arrow_over, more_bound_arrows, bound_arrows_over, operand_over, bound_over}
 use Rattle.alloy_grammar.proofs.Results.{either}
-use Rattle.fault_places.proofs.Among.{Among, LeavesLast, Lands, Keeps, read, all_last, after_last, after_mark_last, among_then, among_choice, expect_lands, spelled_lands, many_lands, behind_lands, names_land}
+use Rattle.fault_places.proofs.LastTokens.{Among, LeavesLast, Lands, Keeps, read, all_last, after_last, after_mark_last, among_then, among_choice, expect_lands, spelled_lands, many_lands, behind_lands, names_land}
 use Rattle.fault_places.proofs.NodesAmong as among
 use Rattle.refused_tokens.proofs.Bounds.{BoundsLand, arrow_land, operand_land, word_passes}
 

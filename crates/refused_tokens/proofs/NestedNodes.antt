@@ -17,9 +17,9 @@ use Rattle.alloy_syntax.specs.Readers.{Stop, refused, too_deep, unsupported, Par
 use Rattle.alloy_syntax.specs.Nodes.{Reader, begins_primary, begins_tight, begins_sum, begins_node, begins, may_be_block, stop_at, is_comprehension, is_tightening, primary_over, tight_over, path_over, begins_step, step_over, begins_link, chained, restrict_over, arrows_over, meet_over, override_over, behind_prefix, size_over, sum_over, is_counting, counted_over, comparison_over, negation_over, and_over, implication_over, iff_over, node_over, after_disj, variable_names, variables_over, declaration_over, another_declaration, more_declarations, declarations_over, quantified_over, inside_over, within}
 use Rattle.alloy_grammar.proofs.Results.{either, no_success}
 use Rattle.alloy_grammar.proofs.Quantified.{within_reads}
-use Rattle.fault_places.proofs.Among.{all_last, after_last, after_mark_last, expect_lands, spelled_lands, many_lands, behind_lands}
+use Rattle.fault_places.proofs.LastTokens.{all_last, after_last, after_mark_last, expect_lands, spelled_lands, many_lands, behind_lands}
 use Rattle.fault_places.proofs.NodesAmong as among
-use Rattle.refused_tokens.proofs.Seam.{Seam, rest_of, near, past, out, of_past, IsElse, Past, went, faulty, Runs, ended, Law, landed, past_then, past_choice, class_next}
+use Rattle.refused_tokens.proofs.SeamedLists.{Seam, rest_of, near, past, out, of_past, IsElse, Past, went, faulty, Runs, ended, Law, landed, past_then, past_choice, class_next}
 use Rattle.refused_tokens.proofs.Tests.{quiet_class, quiet_step, quiet_link, quiet_arrow}
 use Rattle.refused_tokens.proofs.Nodes.{NameRead, named_so, deeper, Steady, chained_past, runs_taken, arrows_more, comma_compares_not, comparison_past, tight_law, sum_law, node_law, size_law, negation_law, implication_law, quantified_law, let_law}
 

@@ -5,7 +5,7 @@ use Rattle.alloy_syntax.specs.declared.reading.Form.TheVariants as form
 use Rattle.alloy_syntax.specs.declared.seen.Seen.{Seen}
 use Rattle.alloy_syntax.specs.Readers.{Stop, unsupported, Parser, ◌>>=◌, next_is, repeated, many}
 use Rattle.alloy_grammar.specs.Fronts.{Front}
-use Rattle.viable_prefixes.proofs.Gives.{Then, Many, no_more, one_more, Moved, Closing, Gives, gone, ended, close_none, moved_here, moved_then, moved_map, stopped_close, gives_no_more, gives_map, gives_behind, gives_last}
+use Rattle.viable_prefixes.proofs.CompletedReadings.{Then, Many, no_more, one_more, Moved, Closing, Gives, gone, ended, close_none, moved_here, moved_then, moved_map, stopped_close, gives_no_more, gives_map, gives_behind, gives_last}
 
 abbrev pub Read : Type 0 → Type 0
 Read A = Result (A × List Seen) Stop

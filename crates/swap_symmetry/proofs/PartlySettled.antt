@@ -9,7 +9,7 @@ use Rattle.rel_formula.proofs.SwapLaws.{laws_of, renames}
 use Rattle.swap_symmetry.specs.Order.{IsEarlier}
 use Rattle.swap_symmetry.specs.Swaps.{AreNeighbours, SwapIsEarlier}
 use Rattle.swap_symmetry.proofs.SwapLemmas.{earlier_from}
-use Rattle.swap_symmetry.proofs.Beside.{beside_itself, beside_then}
+use Rattle.swap_symmetry.proofs.FloorRenamings.{beside_itself, beside_then}
 use Rattle.swap_symmetry.proofs.Weights.{lacks, lacks_less}
 
 -- the second scenario is what the first has become

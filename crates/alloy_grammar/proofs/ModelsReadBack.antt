@@ -29,7 +29,7 @@ use Rattle.alloy_grammar.proofs.Results.{true_not_false}
 use Rattle.alloy_grammar.proofs.Tokens.{marks}
 use Rattle.alloy_grammar.proofs.FirstTokens.{looser, first}
 use Rattle.alloy_grammar.proofs.TextEnds.{is_next, after_is, differs, continues}
-use Rattle.alloy_grammar.proofs.Full.{mark_full, spelled_full, Goes, many_full}
+use Rattle.alloy_grammar.proofs.NodesReadBack.{mark_full, spelled_full, Goes, many_full}
 use Rattle.alloy_grammar.proofs.Spelled.{list_of, list_of_declarations, closed}
 use Rattle.alloy_grammar.proofs.Nodes.{block_full, names_full, word_full, no_word, multiplicity_full}
 use Rattle.alloy_grammar.proofs.Trees.{full, full_trees, full_declarations}

@@ -38,7 +38,7 @@ use Rattle.lowering_rules.proofs.Operators.{relation_of}
 use Rattle.lowering_rules.proofs.Bound.{ListProper, list_both}
 use Rattle.lowering_rules.proofs.Tops.{picked}
 use Rattle.lowering_rules.proofs.Sound.{part_right}
-use Rattle.lowering_rules.proofs.Plain.{arity_of_kind, bound_settled}
+use Rattle.lowering_rules.proofs.SettledBounds.{arity_of_kind, bound_settled}
 
 -- ---- words and lists
 

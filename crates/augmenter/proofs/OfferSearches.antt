@@ -1,14 +1,15 @@
 -- The search for offers on its way.
 use Rattle.std.proofs.Common.{◌≡◌, ◌≢◌, ◌↔◌, ◌⊎◌, inl, inr, ◌<◌, ◌+◌, ◌-◌, ℕ, Bool, true, false, List, [], ◌∷◌, ◌++◌, replicate, length, get_or, sum_by, All, AllPairs, Contains, IsTrue, refl, sym, ◌∙◌, ap, subst, arith}
 use Rattle.std.specs.List.{AllZip}
-use Rattle.std.proofs.lemmas.Bool.{cases_lt}
+use Rattle.std.proofs.lemmas.Bool.{cases_lt, cases_Bool}
 use Rattle.std.proofs.lemmas.List.{get_or-replicate, length-replicate}
-use Rattle.std.proofs.lemmas.List.Elements.{All-push, All-nil, All-weaker, All-contains}
+use Rattle.std.proofs.lemmas.List.Elements.{All-push, All-nil, All-weaker, All-contains, Contains-append_left, Contains-push}
 use Rattle.std.proofs.lemmas.List.Quantifiers.{all_pairs_push}
 use Rattle.std.proofs.lemmas.List.Sums.{sum_by-append}
 use Rattle.cnf_core.specs.Valuation.{value_of}
 use Rattle.refutation_check.specs.declared.log.Step.{Step as LogStep}
 use Rattle.refutation_check.specs.SearchLog.{IsSearchLog, novel_steps}
+use Rattle.refutation_check.specs.Chain.{EndsEmpty}
 use Rattle.refutation_check.specs.Part.{Parted}
 use Rattle.refutation_check.proofs.Novelty.{novel_all}
 use Rattle.refutation_check.proofs.TextLines.{zip_push}
@@ -19,13 +20,14 @@ use Rattle.translation_rules.specs.Translation.{Translated, var_of}
 use Rattle.translation_rules.specs.Offers.{IsPossible, AreOffers}
 use Rattle.translation_rules.specs.Parts.{AreSearched, TriesCell, given_to, novel_in}
 use Rattle.augmenter.specs.Search.{IsSearchFor, GivesInstance, RestsOnNoLocal}
-use Rattle.augmenter.specs.Offering.{AreTrials}
+use Rattle.augmenter.specs.Offering.{AreTrials, IsRefutedIn, OthersAreRefuted}
 
--- the cells below a number are settled: the marked ones can be given, and of the others outside none can; so much of the budget is left
+-- the cells below a number are settled: the marked ones can be given, and the others outside are refuted; so much of the budget is left
 pub record Trying (t : Translated) (pool : List LogStep) (scenario : List ℕ) (budget upto : ℕ) (marks : List Bool) (parts : List Parted) (left : ℕ) : Type 0 where
   pub count : length marks ≡ length (cells_of t.problem)
   pub marked : (n : ℕ) → n < length (cells_of t.problem) → get_or marks n false ≡ true → IsPossible t.problem (with_cell n scenario)
   pub settled : (n : ℕ) → n < upto → (Contains scenario n → ⊥) → IsPossible t.problem (with_cell n scenario) → get_or marks n false ≡ true
+  pub refuted : (n : ℕ) → n < upto → (Contains scenario n → ⊥) → get_or marks n false ≡ false → IsRefutedIn t.problem scenario parts n
   pub cells : List ℕ
   pub below : All (λ n. n < upto) cells
   pub distinct : AllPairs (λ m n. m ≢ n) cells
@@ -39,6 +41,7 @@ set_out t pool scenario budget count e = record {
   count = length-replicate count false ∙ e;
   marked = λ n l m. absurd (let f : get_or (replicate count false) n false ≡ false = get_or-replicate count n false false (omega arith) in let k : false ≡ true = sym f ∙ m in cc);
   settled = λ n l. absurd (omega arith);
+  refuted = λ n l. absurd (omega arith);
   cells = [];
   below = All-nil (λ n. n < 0);
   distinct = λ i j d less l. absurd (omega arith);
@@ -59,6 +62,13 @@ module _ (t : Translated) (pool : List LogStep) (scenario : List ℕ) (budget up
       | inr past ↦
           let same : upto ≡ n = omega arith in
           subst (λ m. get_or marks m false ≡ true) same (known (subst (λ m. Contains scenario m → ⊥) (sym same) out))
+    ];
+    refuted = λ n l out unmarked. elim (cases_lt n upto) [
+      | inl less ↦ trying.refuted n less out unmarked
+      | inr past ↦
+          let same : upto ≡ n = omega arith in
+          let marked : get_or marks n false ≡ true = subst (λ m. get_or marks m false ≡ true) same (known (subst (λ m. Contains scenario m → ⊥) (sym same) out)) in
+          absurd (let k : false ≡ true = sym unmarked ∙ marked in cc)
     ];
     cells = trying.cells;
     below = All-weaker (λ n. n < upto) (λ n. n < upto + 1) (λ n l. omega arith) trying.cells trying.below;
@@ -119,11 +129,17 @@ module _ (t : Translated) (pool : List LogStep) (scenario : List ℕ) (budget up
     pub spent_all : length part.log ≡ left → novel_in t pool (parts ++ part ∷ []) ≡ budget
     spent_all all = let e = more_novel in let s = trying.spent in omega arith
 
+    still_refuted : (n : ℕ) → IsRefutedIn t.problem scenario parts n → IsRefutedIn t.problem scenario (parts ++ part ∷ []) n
+    still_refuted n is = record { part = is.part; among = Contains-append_left parts (part ∷ []) is.part is.among; tries = is.tries; ends = is.ends }
+
+    refuted_now : EndsEmpty part.log → IsRefutedIn t.problem scenario (parts ++ part ∷ []) upto
+    refuted_now ends = record { part = part; among = Contains-push parts part; tries = record { in_range = in_range; absent = absent; local = search.local }; ends = ends }
+
     -- the cell is settled too, by these marks
     settled_by : (new : List Bool) → length new ≡ length marks → ((n : ℕ) → n < length (cells_of t.problem) → get_or new n false ≡ true → IsPossible t.problem (with_cell n scenario)) →
         ((n : ℕ) → n < length marks → get_or marks n false ≡ true → get_or new n false ≡ true) → (IsPossible t.problem (with_cell upto scenario) → get_or new upto false ≡ true) →
-        Trying t pool scenario budget (upto + 1) new (parts ++ part ∷ []) (left - length part.log)
-    settled_by new as_long marked kept here = record {
+        (get_or new upto false ≡ false → EndsEmpty part.log) → Trying t pool scenario budget (upto + 1) new (parts ++ part ∷ []) (left - length part.log)
+    settled_by new as_long marked kept here ends = record {
       count = as_long ∙ trying.count;
       marked = marked;
       settled = λ n l out possible. elim (cases_lt n upto) [
@@ -131,6 +147,17 @@ module _ (t : Translated) (pool : List LogStep) (scenario : List ℕ) (budget up
         | inr past ↦
             let same : upto ≡ n = omega arith in
             subst (λ m. get_or new m false ≡ true) same (here (subst (λ m. IsPossible t.problem (with_cell m scenario)) (sym same) possible))
+      ];
+      refuted = λ n l out unmarked. elim (cases_lt n upto) [
+        | inl less ↦ elim (cases_Bool (get_or marks n false)) [
+          | inl old ↦
+              let still : get_or new n false ≡ true = kept n (let e = trying.count in omega arith) old in
+              absurd (let k : false ≡ true = sym unmarked ∙ still in cc)
+          | inr old ↦ still_refuted n (trying.refuted n less out old)
+        ]
+        | inr past ↦
+            let same : upto ≡ n = omega arith in
+            subst (IsRefutedIn t.problem scenario (parts ++ part ∷ [])) same (refuted_now (ends (subst (λ m. get_or new m false ≡ false) (sym same) unmarked)))
       ];
       cells = more;
       below = more_below;
@@ -142,14 +169,16 @@ module _ (t : Translated) (pool : List LogStep) (scenario : List ℕ) (budget up
     }
 
     -- no instance has the cell
-    pub refused : (IsPossible t.problem (with_cell upto scenario) → ⊥) → Trying t pool scenario budget (upto + 1) marks (parts ++ part ∷ []) (left - length part.log)
-    refused none = settled_by marks refl trying.marked (λ n l m. m) (λ possible. absurd (none possible))
+    pub refused : (IsPossible t.problem (with_cell upto scenario) → ⊥) → EndsEmpty part.log → Trying t pool scenario budget (upto + 1) marks (parts ++ part ∷ []) (left - length part.log)
+    refused none ends = settled_by marks refl trying.marked (λ n l m. m) (λ possible. absurd (none possible)) (λ unmarked. ends)
 
     -- an instance has it, and all of the instance's cells are marked
     pub given : (valuation : List Bool) → GivesInstance t.problem (with_cell upto scenario) valuation → (new : List Bool) → length new ≡ length marks →
         ((n : ℕ) → n < length marks → IsTrue (get_or new n false) ↔ (IsTrue (get_or marks n false) ⊎ IsTrue (value_of valuation (var_of n)))) →
         Trying t pool scenario budget (upto + 1) new (parts ++ part ∷ []) (left - length part.log)
     given valuation gives new as_long adds =
+        let there : Contains gives.instance upto = gives.has upto ((with_cell_has upto scenario upto).1 (inr refl)) in
+        let now_marked : get_or new upto false ≡ true = (adds upto (let e = trying.count in omega arith)).1 (inr ((gives.chosen upto in_range).1 there)) in
         settled_by new as_long
         (λ n l m. elim ((adds n (let e = trying.count in omega arith)).0 m) [
           | inl old ↦ trying.marked n l old
@@ -165,9 +194,8 @@ module _ (t : Translated) (pool : List LogStep) (scenario : List ℕ) (budget up
               }
         ])
         (λ n l m. (adds n l).1 (inl m))
-        (λ possible.
-        let there : Contains gives.instance upto = gives.has upto ((with_cell_has upto scenario upto).1 (inr refl)) in
-        (adds upto (let e = trying.count in omega arith)).1 (inr ((gives.chosen upto in_range).1 there)))
+        (λ possible. now_marked)
+        (λ unmarked. absurd (let k : false ≡ true = sym unmarked ∙ now_marked in cc))
 
 -- at the end the marked cells outside are the offers
 pub all_offers : (t : Translated) (pool : List LogStep) (scenario : List ℕ) (budget upto : ℕ) (marks : List Bool) (parts : List Parted) (left : ℕ) → Trying t pool scenario budget upto marks parts left →
@@ -185,6 +213,15 @@ all_offers t pool scenario budget upto marks parts left trying all cells exactly
   );
   rising = rising;
 }
+
+-- and of the others outside each is refuted
+pub others_refuted : (t : Translated) (pool : List LogStep) (scenario : List ℕ) (budget upto : ℕ) (marks : List Bool) (parts : List Parted) (left : ℕ) → Trying t pool scenario budget upto marks parts left →
+    upto ≡ length (cells_of t.problem) → (cells : List ℕ) →
+    ((cell : ℕ) → Contains cells cell ↔ ((cell < length marks) × (Contains scenario cell → ⊥) × IsTrue (get_or marks cell false))) → OthersAreRefuted t.problem scenario cells parts
+others_refuted t pool scenario budget upto marks parts left trying all cells exactly = λ cell in_range absent out. elim (cases_Bool (get_or marks cell false)) [
+  | inl marked ↦ absurd (out ((exactly cell).1 ((let e = trying.count in omega arith), absent, marked)))
+  | inr unmarked ↦ trying.refuted cell (omega arith) absent unmarked
+]
 
 -- a scenario of cells with one cell more is one too
 pub with_cell_in : (p : Bounded) (scenario : List ℕ) (cell : ℕ) → AreCells p scenario → cell < length (cells_of p) → AreCells p (with_cell cell scenario)

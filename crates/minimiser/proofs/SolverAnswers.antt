@@ -13,7 +13,7 @@ use Rattle.sat_core.specs.Answers.{log_of, IsRight}
 use Rattle.translation_rules.specs.Translation.{Translated, var_of}
 use Rattle.translation_rules.specs.Descents.{IsSmaller, descent_locals}
 use Rattle.translation_rules.proofs.Tests.{from_each}
-use Rattle.minimiser.proofs.Going.{SaysWhatIsSmaller}
+use Rattle.minimiser.proofs.DescentStates.{SaysWhatIsSmaller}
 
 -- the answer is that of a search over the translation and the clauses of a descent
 pub record Told (t : Translated) (pool : List LogStep) (local : List (List Lit)) (left : ℕ) (a : Answer) : Type 0 where

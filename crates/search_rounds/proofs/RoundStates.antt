@@ -62,7 +62,7 @@ pub record Going (t : Translated) (pool : List LogStep) (floor : List ℕ) (show
 -- what was done in the end
 pub record Done (t : Translated) (pool : List LogStep) (floor : List ℕ) (shown copies : List (List ℕ)) (budget : ℕ) (parts : List Parted) (found : List (List ℕ)) : Type 0 where
   pub searched : AreSearched t pool parts
-  pub work : (work : IsNextWork t floor shown parts found) × (work.blocked ≡ shown ++ copies)
+  pub work : (work : IsNextWork t floor shown parts found) × (work.blocked ≡ shown ++ copies) × (length work.rounds ≡ length found + 1)
   pub new : All (IsNewCopy t.problem floor shown copies) found
   pub few : units_in t pool parts found ≤ budget
 
@@ -148,6 +148,7 @@ module _ (t : Translated) (pool : List LogStep) (floor : List ℕ) (shown copies
           are_rounds = last_round t floor shown (shown ++ copies) going.rounds found round.round going.whole going.are_rounds is_round;
         },
         refl,
+        (let long = length_push going.rounds round.round in let w = going.whole in omega arith),
       );
       new = going.new;
       few = (let e = novel_sum in let f = round.few in let g = going.units in omega arith);

@@ -2,19 +2,11 @@
 use Rattle.std.proofs.Common.{inl, inr, List, [], ◌∷◌, ◌++◌, Contains, IsTrue, sym, ◌∙◌, subst, arith, length-append}
 use Rattle.std.proofs.lemmas.List.Elements.{All-push, All-contains, Contains-push, Contains-push_cases}
 use Rattle.cnf_core.specs.declared.literal.Lit.{Lit}
-use Rattle.cnf_core.specs.Literal.{IsTautology, HasSameLiterals}
+use Rattle.cnf_core.specs.Literal.{HasSameLiterals}
 use Rattle.cnf_core.specs.Valuation.{clause_value}
-use Rattle.cnf_core.proofs.SameLiterals.{clause_value-same, clause_value-tautology}
+use Rattle.cnf_core.proofs.SameLiterals.{clause_value-same}
 use Rattle.translation_rules.proofs.Tests.{front}
 use Rattle.swap_clauses.specs.Comparison.{AddsClause}
-
--- a clause that is true of itself
-pub tautology_adds : (lits : List Lit) (old : List (List Lit)) → IsTautology lits → AddsClause lits old old
-tautology_adds lits old tautology = record {
-  means = λ v. (λ s. (s, clause_value-tautology v lits tautology), λ p. p.0);
-  few = omega arith;
-  vars = λ var is. inl is;
-}
 
 -- a clause of the same literals
 pub push_adds : (lits clause : List Lit) (old : List (List Lit)) → HasSameLiterals lits clause → AddsClause lits old (old ++ clause ∷ [])

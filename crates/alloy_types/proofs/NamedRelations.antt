@@ -1,17 +1,16 @@
 -- Fields, predicates and functions, by their relations.
-use Rattle.std.proofs.Common.{◌≡◌, ℕ, ◌≤◌, length, arith, false, ◌==◌, List, [], ◌∷◌, map, Bool, true, if◌then◌else◌, Option, Result, Ok, Err, refl, sym, ap, ◌∙◌, inr}
-use Rattle.std.specs.Prelude.{nat_le}
+use Rattle.std.proofs.Common.{◌≡◌, ℕ, ◌≤◌, length, arith, false, ◌==◌, List, [], ◌∷◌, map, Bool, Option, Result, Ok, Err, refl, sym, ap, ◌∙◌, inr}
 use Rattle.alloy_lex.specs.declared.token.Place.{Place}
 use Rattle.named_model.specs.Phrase.{PhraseTree, DomainTree, DomainTrees, domains_of, links_of}
 use Rattle.named_model.specs.declared.phrase.Link.{Link}
 use Rattle.named_model.specs.View.{link_view}
-use Rattle.named_model.specs.Model.{FieldTree, MeaningTree, formulas, value, CalleeTree}
+use Rattle.named_model.specs.Model.{MeaningTree, formulas, value, CalleeTree}
 use Rattle.named_model.specs.Answers.{◌>>=◌}
 use Rattle.model_types.specs.declared.fault.TypeFault.{TypeFault}
 use Rattle.model_types.specs.declared.fault.TypeFault.TheVariants as fault
 use Rattle.model_types.specs.Sorts.{Checked, unless, first_place, as_relation}
 use Rattle.model_types.specs.Typing.{Declared, Local, Settled, settled, types_in, domains_settled, onto, fits}
-use Rattle.model_types.specs.Models.{or_unknown, domains_known, domains_unary, only_link, sides_unary, unary, arrow_checked, wants_unary, field_checked, meaning_settled, callee_settled}
+use Rattle.model_types.specs.Models.{or_unknown, domains_known, domains_unary, only_link, sides_unary, meaning_settled, callee_settled}
 use Rattle.shared_names.specs.Shared.{shared_in}
 use Rattle.settling_rules.specs.Inside.{AreAlikeWhere}
 use Rattle.settling_rules.specs.Same.{AreSameTypes, Asks}
@@ -35,16 +34,6 @@ relation_apart p (Ok y) g = go (as_relation p y.kind)
     go (Ok n) = refl
 
 -- ---- fields
-
-pub field_apart : (d : Declared) (f : FieldTree)
-    → field_checked d f
-    ≡ (relation_settled d [] f.bound >>= λ r. arrow_checked d f >>= λ sides. unless (if wants_unary f.mark then r.1 == 1 else true) (fault.NotUnary (first_place f.bound)) >>= λ one. unless (nat_le r.1 2) (fault.ArityTooLarge f.place))
-field_apart d f =
-    relation_apart (first_place f.bound) (settled d [] [] f.bound)
-    (λ t n. arrow_checked d f >>= λ sides. unless (if wants_unary f.mark then n == 1 else true) (fault.NotUnary (first_place f.bound)) >>= λ one. unless (nat_le n 2) (fault.ArityTooLarge f.place))
-
-pub unary_apart : (d : Declared) (x : PhraseTree) → unary d x ≡ (relation_settled d [] x >>= λ r. unless (r.1 == 1) (fault.NotUnary (first_place x)))
-unary_apart d x = relation_apart (first_place x) (settled d [] [] x) (λ t n. unless (n == 1) (fault.NotUnary (first_place x)))
 
 -- ---- predicates and functions
 

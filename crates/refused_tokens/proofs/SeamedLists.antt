@@ -13,7 +13,7 @@ use Rattle.alloy_grammar.proofs.Results.{either, no_success, done_is}
 use Rattle.alloy_grammar.proofs.TextEnds.{same_class}
 use Rattle.alloy_grammar.proofs.Lists.{Shortens}
 use Rattle.fault_places.specs.Stops.{unread, AreLast}
-use Rattle.fault_places.proofs.Among.{Lands, Keeps, read, stops, all_last, after_last, choice_last}
+use Rattle.fault_places.proofs.LastTokens.{Lands, Keeps, read, stops, all_last, after_last, choice_last}
 
 pub record Seam : Type 0 where
   pub token : Seen

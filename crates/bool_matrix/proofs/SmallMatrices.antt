@@ -13,7 +13,7 @@ use Rattle.bool_matrix.specs.declared.entry.Entry.{Entry}
 use Rattle.bool_matrix.specs.Cells.{Cells, ThereIn}
 use Rattle.bool_matrix.specs.Closure.{HasFewAtoms, HasRoom}
 use Rattle.bool_matrix.specs.Terms.{joining, joins_of, joins}
-use Rattle.bool_matrix.proofs.Distinct.{contains_map}
+use Rattle.bool_matrix.proofs.DistinctLists.{contains_map}
 use Rattle.bool_matrix.proofs.JoiningPairs.{all_behind, all_length, meetings_there}
 
 one_or_none : (b : Bool) → cond b 0 1 ≤ 1

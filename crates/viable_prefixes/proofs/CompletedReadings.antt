@@ -15,7 +15,7 @@ use Rattle.alloy_grammar.proofs.Tokens.{token, class_is}
 use Rattle.fault_places.specs.Stops.{unread, AreLast}
 use Rattle.refused_tokens.specs.Texts.{next_terminal}
 use Rattle.viable_prefixes.specs.Beginnings.{may_stand}
-use Rattle.viable_prefixes.proofs.Calm.{Calm, any_token, is_calm, calm_token, stays_else, stays_operator}
+use Rattle.viable_prefixes.proofs.ClosingTokens.{Calm, any_token, is_calm, calm_token, stays_else, stays_operator}
 
 -- ---- texts, one behind the other
 
