@@ -1,3 +1,4 @@
 pub mod Depth
 pub mod Operands
 pub mod Sizes
+pub mod Nodes

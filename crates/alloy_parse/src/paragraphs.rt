@@ -6,8 +6,8 @@ ghost use Rattle.alloy_syntax.specs.View.{declaration_view, field_view, block_vi
 ghost use Rattle.alloy_syntax.specs.Gives.{Gives};
 
 use crate::bounds::{Standing, bound_within};
+use crate::expressions::nodes;
 use alloy_lex::Place;
-use alloy_nodes::nodes;
 use alloy_syntax::Class;
 use alloy_syntax::cursor::{
     after, after_mark, expect, fitted, is_mark, mark_at, name, names, next_is, number, path,

@@ -1,7 +1,11 @@
 pub mod WithOutcomes
 pub mod ListedOutcomes
-pub mod SameDeclarations
+pub mod DeclarationLemmas
 pub mod Order
 pub mod NamedRelations
 pub mod Targets
 pub mod SettledModels
+pub mod Declarations
+pub mod Headers
+pub mod SameCalls
+pub mod Calls

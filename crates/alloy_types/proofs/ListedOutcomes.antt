@@ -2,7 +2,7 @@
 use Rattle.std.proofs.Common.{◌≡◌, ℕ, ◌+◌, ◌<◌, ◌≤◌, List, [], ◌∷◌, ◌++◌, map, length, take, get_or, Result, Ok, Err, refl, sym, ap, ◌∙◌, inl, inr}
 use Rattle.std.proofs.lemmas.List.{map-append, map_push, take_more, take_all}
 use Rattle.model_types.specs.declared.fault.TypeFault.{TypeFault}
-use Rattle.settling_rules.specs.Told.{Gives}
+use Rattle.overload_resolution.specs.Settling.Told.{Gives}
 use Rattle.alloy_types.specs.Outcomes.{IsOutcome, outcome_view}
 
 -- an outcome is the definition's answer

@@ -11,16 +11,16 @@ use Rattle.model_types.specs.declared.fault.TypeFault.TheVariants as fault
 use Rattle.model_types.specs.Sorts.{Checked, unless, first_place, as_relation}
 use Rattle.model_types.specs.Typing.{Declared, Local, Settled, settled, types_in, domains_settled, onto, fits}
 use Rattle.model_types.specs.Models.{or_unknown, domains_known, domains_unary, only_link, sides_unary, meaning_settled, callee_settled}
-use Rattle.shared_names.specs.Shared.{shared_in}
-use Rattle.settling_rules.specs.Inside.{AreAlikeWhere}
-use Rattle.settling_rules.specs.Same.{AreSameTypes, Asks}
-use Rattle.settling_rules.specs.Single.{relation_settled}
-use Rattle.settling_rules.specs.Told.{IsTold, Gives}
-use Rattle.settling_rules.proofs.SettledAlike.{settled_alike, formulas_alike}
-use Rattle.settling_rules.proofs.SharedDeclarations.{asks_left, asks_right}
-use Rattle.settling_rules.proofs.Reaching.{told_then}
-use Rattle.known_callees.specs.Groups.{GroupTree, entered, group_in, groups_in}
-use Rattle.known_callees.proofs.Grouped.{local_is, arity_is, local_arity}
+use Rattle.overload_resolution.specs.Names.Shared.{shared_in}
+use Rattle.overload_resolution.specs.Settling.Inside.{AreAlikeWhere}
+use Rattle.overload_resolution.specs.Settling.Same.{AreSameTypes, Asks}
+use Rattle.overload_resolution.specs.Settling.Single.{relation_settled}
+use Rattle.overload_resolution.specs.Settling.Told.{IsTold, Gives}
+use Rattle.overload_resolution.proofs.Settling.SettledAlike.{settled_alike, formulas_alike}
+use Rattle.overload_resolution.proofs.Settling.SharedDeclarations.{asks_left, asks_right}
+use Rattle.overload_resolution.proofs.Settling.Reaching.{told_then}
+use Rattle.alloy_types.specs.Calls.Groups.{GroupTree, entered, group_in, groups_in}
+use Rattle.alloy_types.proofs.Calls.Grouped.{local_is, arity_is, local_arity}
 use Rattle.alloy_types.specs.Meanings.{shared_in_meaning, value_settled, groups_unary}
 
 -- what goes on with the tree and the arity of a relation

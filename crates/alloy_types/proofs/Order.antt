@@ -17,8 +17,8 @@ use Rattle.model_types.specs.Models.{field_checked, fields_checked, callee_settl
 use Rattle.alloy_types.specs.declared.outcomes.Outcomes.{Outcomes}
 use Rattle.named_model.specs.declared.phrase.Domain.{Domain}
 use Rattle.named_model.specs.View.{domain_view}
-use Rattle.known_callees.specs.declared.groups.Group.{Group}
-use Rattle.known_callees.specs.Groups.{GroupTree, group_view}
+use Rattle.alloy_types.specs.declared.known_callees.groups.Group.{Group}
+use Rattle.alloy_types.specs.Calls.Groups.{GroupTree, group_view}
 use Rattle.alloy_types.specs.Outcomes.{AreOutcomes, outcome_view, first_fault, fault_at}
 use Rattle.alloy_types.specs.Meanings.{group_unary, groups_unary}
 

@@ -7,9 +7,9 @@ use Rattle.model_types.specs.declared.fault.TypeFault.{TypeFault}
 use Rattle.model_types.specs.declared.fault.TypeFault.TheVariants as fault
 use Rattle.model_types.specs.Sorts.{Checked, unless, first_place}
 use Rattle.model_types.specs.Typing.{Declared, Local, fits}
-use Rattle.shared_names.specs.Shared.{shared_in, shared_among}
-use Rattle.settling_rules.specs.Single.{relation_settled}
-use Rattle.known_callees.specs.Groups.{GroupTree}
+use Rattle.overload_resolution.specs.Names.Shared.{shared_in, shared_among}
+use Rattle.overload_resolution.specs.Settling.Single.{relation_settled}
+use Rattle.alloy_types.specs.Calls.Groups.{GroupTree}
 
 -- whether a name of several fields stands in it
 abbrev pub shared_in_meaning : MeaningTree → Bool

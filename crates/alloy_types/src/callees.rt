@@ -2,19 +2,19 @@
 ghost use Rattle.std.specs.Prelude.{◌≡◌};
 ghost use Rattle.named_model.specs.View.{phrase_view, meaning_view, callee_view};
 ghost use Rattle.model_types.specs.Models.{meaning_settled, callee_settled};
-ghost use Rattle.settling_rules.specs.Told.{Gives};
-ghost use Rattle.typed_scopes.specs.Declaring.{declared_by, AreTables};
+ghost use Rattle.overload_resolution.specs.Settling.Told.{Gives};
+ghost use Rattle.overload_resolution.specs.Scopes.Declaring.{declared_by, AreTables};
 ghost use Rattle.alloy_types.specs.Meanings.{shared_in_meaning, value_settled};
 
 use crate::parts::relation;
 use model_types::TypeFault;
+use model_types::part_sorts::places::first_place;
 use named_model::named::{Callee, Meaning};
 use named_model::phrase::Phrase;
-use part_sorts::places::first_place;
-use settled_parts::{domains, formulas};
-use shared_names::walk::{is_among, is_in, is_in_domains};
+use overload_resolution::settled_parts::{domains, formulas};
+use overload_resolution::shared_names::walk::{is_among, is_in, is_in_domains};
+use overload_resolution::typed_scopes::{Locals, Scope, Setting};
 use std::alloc::Global;
-use typed_scopes::{Locals, Scope, Setting};
 
 // A predicate or a function with its shared names settled.
 pub fn callee_settled(

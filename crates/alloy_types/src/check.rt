@@ -1,6 +1,6 @@
 // The sorts and arities of a model.
 ghost use Rattle.named_model.specs.View.{named_view};
-ghost use Rattle.settling_rules.specs.Told.{Gives};
+ghost use Rattle.overload_resolution.specs.Settling.Told.{Gives};
 ghost use Rattle.alloy_types.specs.Typed.{typed};
 
 use crate::outcomes::outcomes_of;

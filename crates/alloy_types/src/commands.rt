@@ -4,20 +4,20 @@ ghost use Rattle.named_model.specs.Model.{NamedTree};
 ghost use Rattle.named_model.specs.Phrase.{domains_of};
 ghost use Rattle.named_model.specs.View.{domain_view, callee_view, target_view};
 ghost use Rattle.model_types.specs.Models.{domains_known, domains_unary, run_checked, target_settled};
-ghost use Rattle.known_callees.specs.Groups.{group_view};
-ghost use Rattle.settling_rules.specs.Told.{Gives};
-ghost use Rattle.typed_scopes.specs.Declaring.{declared_by, AreTables};
+ghost use Rattle.alloy_types.specs.Calls.Groups.{group_view};
+ghost use Rattle.overload_resolution.specs.Settling.Told.{Gives};
+ghost use Rattle.overload_resolution.specs.Scopes.Declaring.{declared_by, AreTables};
 ghost use Rattle.alloy_types.specs.Meanings.{group_unary, groups_unary};
 
-use known_callees::{Group, groups_in};
+use crate::known_callees::{Group, groups_in};
 use model_types::TypeFault;
+use model_types::part_sorts::places::first_place;
 use named_model::named::{Callee, Target};
 use named_model::phrase::Domain;
-use part_sorts::places::first_place;
-use settled_parts::formulas;
-use shared_names::walk::is_in_domains;
+use overload_resolution::settled_parts::formulas;
+use overload_resolution::shared_names::walk::is_in_domains;
+use overload_resolution::typed_scopes::{Locals, Scope, Setting};
 use std::alloc::Global;
-use typed_scopes::{Locals, Scope, Setting};
 
 // What a command runs or checks, with its shared names settled; the parameters of a predicate that is run have to be sets.
 pub fn target_settled(

@@ -3,17 +3,17 @@ ghost use Rattle.std.specs.Prelude.{◌≡◌, [], map};
 ghost use Rattle.named_model.specs.Phrase.{links_of};
 ghost use Rattle.named_model.specs.View.{field_view, phrase_view, link_view};
 ghost use Rattle.model_types.specs.Models.{unary, sides_of, only_link, sides_unary, arrow_checked, field_checked, wants_unary};
-ghost use Rattle.settling_rules.specs.Told.{Gives};
-ghost use Rattle.typed_scopes.specs.Declaring.{declared_by, AreTables};
+ghost use Rattle.overload_resolution.specs.Settling.Told.{Gives};
+ghost use Rattle.overload_resolution.specs.Scopes.Declaring.{declared_by, AreTables};
 
 use crate::parts::relation;
 use alloy_syntax::tree::{Mark, Multiplicity};
 use model_types::TypeFault;
+use model_types::part_sorts::places::first_place;
 use named_model::named::Field;
 use named_model::phrase::{Link, Phrase};
-use part_sorts::places::first_place;
+use overload_resolution::typed_scopes::{Locals, Scope, Setting};
 use std::alloc::Global;
-use typed_scopes::{Locals, Scope, Setting};
 
 // Whether the bound of a field has the sort and the arity that it has to have.
 pub fn field_checked(

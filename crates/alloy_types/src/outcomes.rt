@@ -4,19 +4,19 @@ ghost use Rattle.named_model.specs.Model.{NamedTree, CommandTree};
 ghost use Rattle.named_model.specs.View.{field_view, callee_view, formulas_view, target_view, command_view, named_view};
 ghost use Rattle.model_types.specs.Typing.{formulas_settled};
 ghost use Rattle.model_types.specs.Models.{field_checked, callee_settled, target_settled, declared_in};
-ghost use Rattle.settling_rules.specs.Told.{Gives};
-ghost use Rattle.typed_scopes.specs.Declaring.{declared_by, AreTables};
+ghost use Rattle.overload_resolution.specs.Settling.Told.{Gives};
+ghost use Rattle.overload_resolution.specs.Scopes.Declaring.{declared_by, AreTables};
 ghost use Rattle.alloy_types.specs.Outcomes.{AreOutcomes, IsOutcome, outcome_view};
 
 use crate::callees::callee_settled;
 use crate::commands::target_settled;
 use crate::fields::field_checked;
-use known_callees::declared;
+use crate::known_callees::declared;
 use model_types::TypeFault;
 use named_model::named::{Callee, Command, Field, Formulas, Named, Target};
-use settled_parts::formulas;
+use overload_resolution::settled_parts::formulas;
+use overload_resolution::typed_scopes::{Locals, Scope, Setting};
 use std::alloc::{AllocError, Global};
-use typed_scopes::{Locals, Scope, Setting};
 
 // Of each thing that a model declares, by its number, what it is with its shared names settled, or its fault.
 #[derive(Drop)]

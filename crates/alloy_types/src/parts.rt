@@ -1,19 +1,19 @@
 // Parts that have to be relations.
 ghost use Rattle.std.specs.Prelude.{◌≡◌};
 ghost use Rattle.named_model.specs.View.{phrase_view};
-ghost use Rattle.settling_rules.specs.Single.{relation_settled};
-ghost use Rattle.settling_rules.specs.Told.{Gives};
-ghost use Rattle.settled_parts.specs.Given.{relation_view};
-ghost use Rattle.typed_scopes.specs.Declaring.{declared_by, AreTables};
+ghost use Rattle.overload_resolution.specs.Settling.Single.{relation_settled};
+ghost use Rattle.overload_resolution.specs.Settling.Told.{Gives};
+ghost use Rattle.overload_resolution.specs.Parts.Given.{relation_view};
+ghost use Rattle.overload_resolution.specs.Scopes.Declaring.{declared_by, AreTables};
 
 use model_types::TypeFault;
+use model_types::part_sorts::kinds::as_relation;
+use model_types::part_sorts::places::first_place;
 use named_model::phrase::Phrase;
-use part_sorts::kinds::as_relation;
-use part_sorts::places::first_place;
-use settled_parts::part;
-use shared_fields::Tops;
+use overload_resolution::settled_parts::part;
+use overload_resolution::shared_fields::Tops;
+use overload_resolution::typed_scopes::{Scope, Setting};
 use std::alloc::Global;
-use typed_scopes::{Scope, Setting};
 
 // A part with its shared names settled, which has to be a relation, with its arity.
 pub fn relation(

@@ -7,13 +7,13 @@ ghost use Rattle.augmenter.specs.Search.{part_in, IsSearchFor, IsRightFor};
 
 use clause_pool::accepted_hints_name_members;
 use cnf_core::Valuation;
-use local_clauses::units_of;
 use refutation_check::{Log, Part, accepted_is_entailed};
 use rel_formula::Scenario;
 use sat_core::{Answer, Leaning, Trail, solve_from};
 use std::alloc::{AllocError, Global};
 use translation::Translation;
 use translation_rules::laws::units_say_what_is_possible;
+use translation_rules::local_clauses::units_of;
 
 /// What the search for an instance with some cells comes to, with what it derived.
 #[derive(Drop)]

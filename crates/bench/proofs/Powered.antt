@@ -7,7 +7,7 @@ use Rattle.rel_formula.specs.Kernel.{FormulaTree}
 use Rattle.rel_formula.specs.Bounds.{IsProblem}
 use Rattle.rel_formula.specs.Renaming.{IsSymmetric}
 use Rattle.rel_formula.specs.Shape.{IsProper}
-use Rattle.sample_links.proofs.Linked.{HasAllOver, atoms_over, product_over, links_symmetric, links_problem}
+use Rattle.samples.proofs.Links.Linked.{HasAllOver, atoms_over, product_over, links_symmetric, links_problem}
 use Rattle.bench.specs.Powers.{AreAtoms, IsPower}
 
 over : (atoms v : Rows) → IsPower atoms v → HasAllOver atoms v

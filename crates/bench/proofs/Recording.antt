@@ -11,8 +11,8 @@ use Rattle.session_words.specs.declared.steps.Step.TheVariants.{Next}
 use Rattle.session_rules.specs.States.{Start}
 use Rattle.session_rules.specs.Steps.{Exchange, MachineRun, state_after}
 use Rattle.session_rules.specs.declared.answers.Reply.TheVariants.{Shown}
-use Rattle.journal_rules.specs.Noted.{Note, Noted, Opened, Recorded}
-use Rattle.journal_rules.specs.Journal.{Opens, Records, exchanges_of, recorded_in}
+use Rattle.hub_state.specs.Journal.Noted.{Note, Noted, Opened, Recorded}
+use Rattle.hub_state.specs.Journal.Journal.{Opens, Records, exchanges_of, recorded_in}
 use Rattle.hub_state.specs.HubView.{HubView}
 use Rattle.translation_cache.proofs.BareProblems.{bare, no_atoms}
 use Rattle.bench.specs.Journals.{with_session}

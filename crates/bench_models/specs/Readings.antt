@@ -11,7 +11,7 @@ use Rattle.named_model.specs.Declarations.{named_of}
 use Rattle.named_model.specs.Faults.{faults_in}
 use Rattle.name_tables.specs.Told as name
 use Rattle.model_types.specs.Models.{settled_in, types_checked}
-use Rattle.settling_rules.specs.Told as type
+use Rattle.overload_resolution.specs.Settling.Told as type
 use Rattle.rel_formula.specs.Bounds.{Bounded, cells_of}
 use Rattle.rel_terms.specs.Terms.{HasTerms}
 use Rattle.lowering_rules.specs.Formula.{all_facts}

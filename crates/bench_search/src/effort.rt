@@ -1,7 +1,7 @@
 // How much a search does: it goes as `solve` does without local clauses, over the same trail, and counts.
 ghost use Rattle.std.specs.Prelude.{◌≡◌, ◌+◌, ◌<◌, ◌≤◌, ◌^◌, IfSome, OnOk, length};
 ghost use Rattle.refutation_check.specs.Chain.{Refutes};
-ghost use Rattle.assignment_trail.specs.Trail.{falses_of};
+ghost use Rattle.unit_propagation.specs.Assignments.Trail.{falses_of};
 ghost use Rattle.sat_trail.specs.Closed.{IsPropagated};
 
 use crate::found::Effort;

@@ -3,8 +3,6 @@
 
 mod shapes;
 mod stages;
-#[cfg(test)]
-mod tests;
 mod texts;
 
 pub use crate::shapes::{SHAPES, Shape, shape_of};

@@ -3,3 +3,4 @@ pub mod Entered
 pub mod Domains
 pub mod LoweredCalls
 pub mod Chains
+pub mod Kernel

@@ -1,7 +1,7 @@
 // The nodes of copies, which are taken before a copy is made.
+use crate::kernel_parts::Part;
 use crate::room::Room;
 use alloy_syntax::tree::{Comparing, Comparison, Operator, Prefix, Quantifier};
-use kernel_parts::Part;
 use rel_formula::{Expression, Formula};
 use std::alloc::AllocError;
 

@@ -1,9 +1,10 @@
-//! Bodies of a model lowered to the kernel: each part with its names, variables, calls and values as kernel expressions and
-//! formulas.
+//! Bodies of a model lowered to the kernel: each part with its names, variables, calls and values as kernel expressions
+//! and formulas. The module `kernel_parts` has what each operator, word and binder makes of these.
 #![tactic(auto)]
 
 pub mod bodies;
 mod charges;
+pub mod kernel_parts;
 mod locals;
 mod names;
 pub mod parts;

@@ -5,8 +5,8 @@ ghost use Rattle.lowering_rules.specs.Binders.{local_at, behind_variables};
 ghost use Rattle.body_lowering.specs.Locals.{locals_view};
 
 use crate::charges::charge;
+use crate::kernel_parts::shifts::shifted;
 use crate::room::{Depth, Room};
-use kernel_parts::shifts::shifted;
 use rel_formula::Expression;
 use std::alloc::{AllocError, Global};
 

@@ -7,9 +7,9 @@ ghost use Rattle.lowering_rules.specs.Binders as binders;
 ghost use Rattle.lowering_rules.specs.Binders.{differences_in, quantified_by};
 
 use crate::charges::charge_quantified;
+use crate::kernel_parts::binders::{add_differences, quantified};
 use crate::room::Room;
 use alloy_syntax::tree::Quantifier;
-use kernel_parts::binders::{add_differences, quantified};
 use named_model::phrase::Domain;
 use rel_formula::{Expression, Formula};
 use std::alloc::{AllocError, Global};

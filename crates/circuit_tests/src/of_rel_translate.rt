@@ -1,13 +1,12 @@
 // That the node has the truth that the evaluator finds, in every scenario of small problems of a set and a relation.
 ghost use Rattle.std.specs.Prelude.{◌≡◌, ◌∷◌, [], All, IfOk};
-ghost use Rattle.rel_formula.specs.Instance.{AreCells};
 ghost use Rattle.rel_formula.specs.Kernel.{rel, var, product, within};
 ghost use Rattle.rel_formula.specs.Shape.{IsProper};
 ghost use Rattle.rel_formula.specs.View.{formula_tree};
 
-use rel_formula::{Expression, Formula, Problem, Scenario, holds};
+use rel_formula::{Expression, Formula, Problem, holds};
 use rel_translate::{ProblemCircuit, circuit_of};
-use sample_problems::{arrows, is_translatable, two};
+use sample_problems::{arrows, is_translatable, scenario_of, two};
 use std::alloc::{AllocError, Global};
 use std::process::Abort;
 use std::test::Fail;
@@ -23,39 +22,52 @@ fn inputs_of(alloc: Global, bits: u32, count: u32) -> Result<Vec<bool>, AllocErr
     Ok(inputs)
 }
 
-// The scenario of the cells whose inputs are true.
-fn scenario_of(alloc: Global, problem: &Problem, inputs: &[bool]) -> Result<Scenario, AllocError>
-    ensures { IfOk result (λ s. AreCells problem.now s) }
-{
-    let mut scenario = Scenario::new(alloc);
-    for number in 0..problem.cells() {
-        let is_chosen = inputs.get(number as usize) == Some(&true);
-        if is_chosen {
-            scenario.insert(number)?;
-        }
-    }
-    Ok(scenario)
+// The formula's truth in the scenario of these bits.
+fn holds_at(alloc: Global, problem: &Problem, bits: u32) -> Result<bool, AllocError> {
+    let scenario = scenario_of(alloc, problem, bits)?;
+    holds(alloc, problem, &scenario)
 }
 
-// That the node's value is the formula's truth in the scenario of these bits.
-fn agrees_at(
+// The node's value where so many inputs are these bits.
+fn value_at(
+    rt: &impl Abort,
+    alloc: Global,
+    made: &ProblemCircuit,
+    bits: u32,
+    count: u32,
+) -> Result<bool, AllocError> {
+    let inputs = inputs_of(alloc, bits, count)?;
+    assert!(rt; made.node.place() < made.circuit.len());
+    assert!(rt; inputs.len() == made.circuit.inputs() as usize);
+    made.circuit.eval(alloc, made.node, &inputs)
+}
+
+// That they are the same in each scenario.
+fn agrees_in_each(
     rt: &impl Abort,
     alloc: Global,
     problem: &Problem,
     made: &ProblemCircuit,
-    bits: u32,
 ) -> Result<(), AllocError> {
-    let inputs = inputs_of(alloc, bits, problem.cells())?;
-    let scenario = scenario_of(alloc, problem, &inputs)?;
-    let expected = holds(alloc, problem, &scenario)?;
-    assert!(rt; made.node.place() < made.circuit.len());
-    assert!(rt; inputs.len() == made.circuit.inputs() as usize);
-    let found = made.circuit.eval(alloc, made.node, &inputs)?;
-    assert!(rt; found == expected);
+    assert!(rt; problem.cells() <= 9);
+    for bits in 0..1u32 << problem.cells() {
+        let expected = holds_at(alloc, problem, bits)?;
+        let found = value_at(rt, alloc, made, bits, problem.cells())?;
+        assert!(rt; found == expected);
+    }
     Ok(())
 }
 
-// That it is so in each scenario of the arrows among atoms at these places.
+// That it is so of the circuit of a problem with one top-level signature.
+fn problem_agrees(rt: &impl Abort, alloc: Global, problem: &Problem) -> Result<(), AllocError>
+    requires { problem.now.tops ≡ 0 ∷ [] }
+{
+    assert!(rt; is_translatable(alloc, problem)?);
+    let made = circuit_of(alloc, problem)?;
+    agrees_in_each(rt, alloc, problem, &made)
+}
+
+// That it is so where these are the arrows' places, of which these are fixed.
 fn agrees(
     rt: &impl Abort,
     alloc: Global,
@@ -66,11 +78,22 @@ fn agrees(
     requires { IsProper (1 ∷ 2 ∷ []) 0 (formula_tree formula) }
 {
     let problem = arrows(alloc, fixed, places, formula)?;
-    assert!(rt; is_translatable(alloc, &problem)?);
-    assert!(rt; problem.cells() <= 9);
-    let made = circuit_of(alloc, &problem)?;
-    for bits in 0..1u32 << problem.cells() {
-        agrees_at(rt, alloc, &problem, &made, bits)?;
+    Ok(problem_agrees(rt, alloc, &problem)?)
+}
+
+// That it is so of the count of the pairs, of the atoms, and of no atoms.
+fn count_agrees(rt: &impl Abort, alloc: Global, n: u32) -> Result<(), Fail> {
+    let of_pairs = Formula::AtLeast(n, Expression::Rel(1));
+    agrees(rt, alloc, &[], &[0, 1], of_pairs)?;
+    let of_atoms = Formula::AtLeast(n, Expression::Rel(0));
+    agrees(rt, alloc, &[1], &[0, 1], of_atoms)?;
+    let of_none = Formula::AtLeast(n, Expression::Univ);
+    agrees(rt, alloc, &[], &[], of_none)
+}
+
+fn counts_agree(rt: &impl Abort, alloc: Global, numbers: &[u32]) -> Result<(), Fail> {
+    for n in numbers {
+        count_agrees(rt, alloc, *n)?;
     }
     Ok(())
 }
@@ -78,169 +101,109 @@ fn agrees(
 // There are 0, 1, all, and more than all of the pairs, or so many of the atoms.
 #[test]
 fn counts(rt: HostRuntime) -> Result<(), Fail> {
-    let alloc = rt.alloc();
-    for n in [0, 1, 2, 4, 5] {
-        agrees(
-            &rt,
-            alloc,
-            &[],
-            &[0, 1],
-            Formula::AtLeast(n, Expression::Rel(1)),
-        )?;
-        agrees(
-            &rt,
-            alloc,
-            &[1],
-            &[0, 1],
-            Formula::AtLeast(n, Expression::Rel(0)),
-        )?;
-        agrees(&rt, alloc, &[], &[], Formula::AtLeast(n, Expression::Univ))?;
-    }
-    Ok(())
+    counts_agree(&rt, rt.alloc(), &[0, 1, 2, 4, 5])
 }
 
 #[test]
-fn sets(rt: HostRuntime) -> Result<(), Fail> {
-    let alloc = rt.alloc();
-    let (a, b) = two(alloc, Expression::Rel(1), Expression::Iden)?;
-    agrees(
-        &rt,
-        alloc,
-        &[],
-        &[0, 1],
-        Formula::Equal(Expression::Union(a, b), Expression::Rel(1)),
-    )?;
-    let (a, b) = two(alloc, Expression::Iden, Expression::Rel(1))?;
-    agrees(
-        &rt,
-        alloc,
-        &[0],
-        &[0, 1],
-        Formula::AtLeast(1, Expression::Minus(a, b)),
-    )?;
-    let (a, b) = two(alloc, Expression::Iden, Expression::Rel(1))?;
-    agrees(
-        &rt,
-        alloc,
-        &[],
-        &[0, 1],
-        Formula::AtLeast(2, Expression::Meet(a, b)),
-    )?;
-    let (a, b) = two(alloc, Expression::Univ, Expression::Rel(0))?;
-    agrees(
-        &rt,
-        alloc,
-        &[],
-        &[0, 1],
-        Formula::In(Expression::Product(a, b), Expression::Rel(1)),
-    )?;
-    agrees(
-        &rt,
-        alloc,
-        &[],
-        &[0, 1],
-        Formula::In(Expression::None, Expression::Rel(0)),
-    )?;
-    Ok(())
+fn unions(rt: HostRuntime) -> Result<(), Fail> {
+    let (a, b) = two(rt.alloc(), Expression::Rel(1), Expression::Iden)?;
+    let formula = Formula::Equal(Expression::Union(a, b), Expression::Rel(1));
+    agrees(&rt, rt.alloc(), &[], &[0, 1], formula)
 }
 
 #[test]
-fn relations(rt: HostRuntime) -> Result<(), Fail> {
-    let alloc = rt.alloc();
-    let (a, b) = two(alloc, Expression::Rel(0), Expression::Rel(1))?;
-    agrees(
-        &rt,
-        alloc,
-        &[],
-        &[0, 1],
-        Formula::In(Expression::Rel(0), Expression::Join(a, b)),
-    )?;
-    let (a, b) = two(alloc, Expression::Rel(1), Expression::Rel(1))?;
-    agrees(
-        &rt,
-        alloc,
-        &[],
-        &[0, 1],
-        Formula::In(Expression::Transpose(a), Expression::Rel(1)),
-    )?;
-    agrees(
-        &rt,
-        alloc,
-        &[0],
-        &[0, 1],
-        Formula::In(Expression::Closure(b), Expression::Rel(1)),
-    )?;
-    Ok(())
+fn differences(rt: HostRuntime) -> Result<(), Fail> {
+    let (a, b) = two(rt.alloc(), Expression::Iden, Expression::Rel(1))?;
+    let formula = Formula::AtLeast(1, Expression::Minus(a, b));
+    agrees(&rt, rt.alloc(), &[0], &[0, 1], formula)
 }
 
 #[test]
-fn overrides_and_restrictions(rt: HostRuntime) -> Result<(), Fail> {
-    let alloc = rt.alloc();
-    let (a, b) = two(alloc, Expression::Iden, Expression::Rel(1))?;
-    agrees(
-        &rt,
-        alloc,
-        &[],
-        &[0, 1],
-        Formula::Equal(Expression::Override(a, b), Expression::Rel(1)),
-    )?;
-    let (a, b) = two(alloc, Expression::Rel(0), Expression::Rel(1))?;
-    agrees(
-        &rt,
-        alloc,
-        &[],
-        &[0, 1],
-        Formula::In(Expression::Rel(1), Expression::Dom(a, b)),
-    )?;
-    let (a, b) = two(alloc, Expression::Rel(1), Expression::Rel(0))?;
-    agrees(
-        &rt,
-        alloc,
-        &[],
-        &[0, 1],
-        Formula::In(Expression::Rel(1), Expression::Ran(a, b)),
-    )?;
-    Ok(())
+fn intersections(rt: HostRuntime) -> Result<(), Fail> {
+    let (a, b) = two(rt.alloc(), Expression::Iden, Expression::Rel(1))?;
+    let formula = Formula::AtLeast(2, Expression::Meet(a, b));
+    agrees(&rt, rt.alloc(), &[], &[0, 1], formula)
 }
 
-// A set beside the relation, on either side; and the relation again, as what is joined to the set beside it.
+#[test]
+fn products(rt: HostRuntime) -> Result<(), Fail> {
+    let (a, b) = two(rt.alloc(), Expression::Univ, Expression::Rel(0))?;
+    let formula = Formula::In(Expression::Product(a, b), Expression::Rel(1));
+    agrees(&rt, rt.alloc(), &[], &[0, 1], formula)
+}
+
+#[test]
+fn the_empty_set(rt: HostRuntime) -> Result<(), Fail> {
+    let formula = Formula::In(Expression::None, Expression::Rel(0));
+    agrees(&rt, rt.alloc(), &[], &[0, 1], formula)
+}
+
+#[test]
+fn joins(rt: HostRuntime) -> Result<(), Fail> {
+    let (a, b) = two(rt.alloc(), Expression::Rel(0), Expression::Rel(1))?;
+    let formula = Formula::In(Expression::Rel(0), Expression::Join(a, b));
+    agrees(&rt, rt.alloc(), &[], &[0, 1], formula)
+}
+
+#[test]
+fn transpositions(rt: HostRuntime) -> Result<(), Fail> {
+    let arrows = Box::new(rt.alloc(), Expression::Rel(1))?;
+    let formula = Formula::In(Expression::Transpose(arrows), Expression::Rel(1));
+    agrees(&rt, rt.alloc(), &[], &[0, 1], formula)
+}
+
+#[test]
+fn closures(rt: HostRuntime) -> Result<(), Fail> {
+    let arrows = Box::new(rt.alloc(), Expression::Rel(1))?;
+    let formula = Formula::In(Expression::Closure(arrows), Expression::Rel(1));
+    agrees(&rt, rt.alloc(), &[0], &[0, 1], formula)
+}
+
+#[test]
+fn overrides(rt: HostRuntime) -> Result<(), Fail> {
+    let (a, b) = two(rt.alloc(), Expression::Iden, Expression::Rel(1))?;
+    let formula = Formula::Equal(Expression::Override(a, b), Expression::Rel(1));
+    agrees(&rt, rt.alloc(), &[], &[0, 1], formula)
+}
+
+#[test]
+fn restrictions_of_the_domain(rt: HostRuntime) -> Result<(), Fail> {
+    let (a, b) = two(rt.alloc(), Expression::Rel(0), Expression::Rel(1))?;
+    let formula = Formula::In(Expression::Rel(1), Expression::Dom(a, b));
+    agrees(&rt, rt.alloc(), &[], &[0, 1], formula)
+}
+
+#[test]
+fn restrictions_of_the_range(rt: HostRuntime) -> Result<(), Fail> {
+    let (a, b) = two(rt.alloc(), Expression::Rel(1), Expression::Rel(0))?;
+    let formula = Formula::In(Expression::Rel(1), Expression::Ran(a, b));
+    agrees(&rt, rt.alloc(), &[], &[0, 1], formula)
+}
+
+// A set beside the relation, on either side.
 #[test]
 fn triples(rt: HostRuntime) -> Result<(), Fail> {
-    let alloc = rt.alloc();
-    let (a, b) = two(alloc, Expression::Rel(0), Expression::Rel(1))?;
-    let (c, d) = two(alloc, Expression::Rel(1), Expression::Rel(0))?;
-    agrees(
-        &rt,
-        alloc,
-        &[],
-        &[0, 1],
-        Formula::In(Expression::Product(a, b), Expression::Product(c, d)),
-    )?;
-    let (a, b) = two(alloc, Expression::Rel(1), Expression::Rel(0))?;
-    let (c, d) = two(alloc, Expression::Product(a, b), Expression::Rel(0))?;
-    agrees(
-        &rt,
-        alloc,
-        &[1],
-        &[0, 1],
-        Formula::Equal(Expression::Join(c, d), Expression::Rel(1)),
-    )?;
-    Ok(())
+    let (a, b) = two(rt.alloc(), Expression::Rel(0), Expression::Rel(1))?;
+    let (c, d) = two(rt.alloc(), Expression::Rel(1), Expression::Rel(0))?;
+    let formula = Formula::In(Expression::Product(a, b), Expression::Product(c, d));
+    agrees(&rt, rt.alloc(), &[], &[0, 1], formula)
+}
+
+// The relation again, as what is joined to the set beside it.
+#[test]
+fn joined_triples(rt: HostRuntime) -> Result<(), Fail> {
+    let (a, b) = two(rt.alloc(), Expression::Rel(1), Expression::Rel(0))?;
+    let (c, d) = two(rt.alloc(), Expression::Product(a, b), Expression::Rel(0))?;
+    let formula = Formula::Equal(Expression::Join(c, d), Expression::Rel(1));
+    agrees(&rt, rt.alloc(), &[1], &[0, 1], formula)
 }
 
 // All pairs of three atoms are linked by arrows, as where these make a cycle.
 #[test]
 fn cycles(rt: HostRuntime) -> Result<(), Fail> {
-    let alloc = rt.alloc();
-    let closure = Expression::Closure(Box::new(alloc, Expression::Rel(1))?);
-    agrees(
-        &rt,
-        alloc,
-        &[0, 1, 2],
-        &[0, 1, 2],
-        Formula::AtLeast(9, closure),
-    )?;
-    Ok(())
+    let arrows = Box::new(rt.alloc(), Expression::Rel(1))?;
+    let formula = Formula::AtLeast(9, Expression::Closure(arrows));
+    agrees(&rt, rt.alloc(), &[0, 1, 2], &[0, 1, 2], formula)
 }
 
 // The pair of the outer variable and the inner one is an arrow.
@@ -254,36 +217,57 @@ fn linked(alloc: Global) -> Result<Box<Formula>, AllocError>
     )?)
 }
 
+// Some atom is linked to all of the set.
+fn one_is_linked_to_all(rt: &impl Abort, alloc: Global, places: &[u16]) -> Result<(), Fail> {
+    let inner = Box::new(alloc, Formula::All(Expression::Rel(0), linked(alloc)?))?;
+    agrees(
+        rt,
+        alloc,
+        &[],
+        places,
+        Formula::Exists(Expression::Univ, inner),
+    )
+}
+
+// At most one atom is linked to some of the set.
+fn at_most_one_is_linked(rt: &impl Abort, alloc: Global, places: &[u16]) -> Result<(), Fail> {
+    let inner = Box::new(alloc, Formula::Exists(Expression::Rel(0), linked(alloc)?))?;
+    agrees(
+        rt,
+        alloc,
+        &[],
+        places,
+        Formula::Lone(Expression::Univ, inner),
+    )
+}
+
+// All of the set are linked to at most one of it.
+fn all_are_linked_to_at_most_one(
+    rt: &impl Abort,
+    alloc: Global,
+    places: &[u16],
+) -> Result<(), Fail> {
+    let inner = Box::new(alloc, Formula::Lone(Expression::Rel(0), linked(alloc)?))?;
+    agrees(
+        rt,
+        alloc,
+        &[],
+        places,
+        Formula::All(Expression::Rel(0), inner),
+    )
+}
+
+fn quantifiers_agree(rt: &impl Abort, alloc: Global, places: &[u16]) -> Result<(), Fail> {
+    one_is_linked_to_all(rt, alloc, places)?;
+    at_most_one_is_linked(rt, alloc, places)?;
+    all_are_linked_to_at_most_one(rt, alloc, places)
+}
+
 #[test]
 fn quantifiers(rt: HostRuntime) -> Result<(), Fail> {
-    let alloc = rt.alloc();
-    for places in [&[][..], &[0], &[0, 1]] {
-        let inner = Box::new(alloc, Formula::All(Expression::Rel(0), linked(alloc)?))?;
-        agrees(
-            &rt,
-            alloc,
-            &[],
-            places,
-            Formula::Exists(Expression::Univ, inner),
-        )?;
-        let inner = Box::new(alloc, Formula::Exists(Expression::Rel(0), linked(alloc)?))?;
-        agrees(
-            &rt,
-            alloc,
-            &[],
-            places,
-            Formula::Lone(Expression::Univ, inner),
-        )?;
-        let inner = Box::new(alloc, Formula::Lone(Expression::Rel(0), linked(alloc)?))?;
-        agrees(
-            &rt,
-            alloc,
-            &[],
-            places,
-            Formula::All(Expression::Rel(0), inner),
-        )?;
-    }
-    Ok(())
+    quantifiers_agree(&rt, rt.alloc(), &[])?;
+    quantifiers_agree(&rt, rt.alloc(), &[0])?;
+    quantifiers_agree(&rt, rt.alloc(), &[0, 1])
 }
 
 // There is no atom; and there is an arrow.
@@ -296,11 +280,13 @@ fn none_and_some(alloc: Global) -> Result<Vec<Formula>, AllocError>
 }
 
 #[test]
-fn lists_of_formulas(rt: HostRuntime) -> Result<(), Fail> {
-    let alloc = rt.alloc();
-    let all = Formula::all_of(none_and_some(alloc)?);
-    agrees(&rt, alloc, &[], &[0, 1], all)?;
-    let any = Formula::any_of(none_and_some(alloc)?);
-    agrees(&rt, alloc, &[], &[0, 1], any)?;
-    Ok(())
+fn conjunctions(rt: HostRuntime) -> Result<(), Fail> {
+    let all = Formula::all_of(none_and_some(rt.alloc())?);
+    agrees(&rt, rt.alloc(), &[], &[0, 1], all)
+}
+
+#[test]
+fn disjunctions(rt: HostRuntime) -> Result<(), Fail> {
+    let any = Formula::any_of(none_and_some(rt.alloc())?);
+    agrees(&rt, rt.alloc(), &[], &[0, 1], any)
 }

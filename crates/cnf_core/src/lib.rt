@@ -4,8 +4,6 @@
 mod clause;
 mod cnf;
 mod literal;
-#[cfg(test)]
-mod tests;
 mod valuation;
 
 pub use crate::clause::Clause;

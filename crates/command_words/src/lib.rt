@@ -2,8 +2,6 @@
 #![tactic(auto)]
 
 mod reading;
-#[cfg(test)]
-mod tests;
 
 pub use crate::reading::{
     Command, DEFAULT_BUDGET, DEFAULT_WORKERS, command_of, words_say_one_command,

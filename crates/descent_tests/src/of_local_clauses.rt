@@ -1,11 +1,11 @@
 // That the clauses are those worked out by hand.
 use cnf_core::Clause;
-use local_clauses::{absence_in, descent_locals, units_of};
 use rel_formula::{Expression, Formula};
 use sample_problems::{chosen, set_of};
 use std::alloc::{AllocError, Global};
 use std::process::Abort;
 use std::test::Fail;
+use translation_rules::local_clauses::{absence_in, descent_locals, units_of};
 
 // The literals of all clauses as in DIMACS, with 0 behind each clause.
 fn numbers_of(rt: &impl Abort, alloc: Global, clauses: &[Clause]) -> Result<Vec<i32>, AllocError> {

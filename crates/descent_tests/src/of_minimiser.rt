@@ -6,7 +6,7 @@ use minimiser::{Down, minimise};
 use refutation_check::Log;
 use rel_formula::{Scenario, holds};
 use sample_problems::{bits_of, scenario_of};
-use sample_translations::translated_sets;
+use samples::sample_translations::translated_sets;
 use std::alloc::{AllocError, Global};
 use std::test::Fail;
 use translation::Translation;

@@ -21,9 +21,9 @@ use Rattle.session_rules.specs.Transcripts.{ListsShown}
 use Rattle.session_rules.specs.Evidence.{NeedsEvidence, HasEvidence}
 use Rattle.session_rules.specs.declared.answers.Reply.{Reply}
 use Rattle.session_rules.specs.declared.answers.Reply.TheVariants as reply
-use Rattle.session_store.specs.Stored.{Stored}
-use Rattle.session_search.specs.Fits.{FitsProblem}
-use Rattle.session_search.specs.Proposed.{Proposed, IsProposal, IsPlainProposal}
+use Rattle.session_state.specs.Store.Stored.{Stored}
+use Rattle.session_state.specs.Sessions.Fits.{FitsProblem}
+use Rattle.session_state.specs.Sessions.Proposed.{Proposed, IsProposal, IsPlainProposal}
 use Rattle.explorer_run.specs.Serving.{IsEndProof, IsOn, IsPrintable}
 
 abbrev ended_by : State → ProofOfEnd → State

@@ -20,9 +20,9 @@ use Rattle.session_rules.specs.Evidence.{NeedsEvidence, HasEvidence}
 use Rattle.session_rules.specs.Sound.{IsSound}
 use Rattle.session_rules.specs.declared.answers.Reply.{Reply}
 use Rattle.session_rules.proofs.Runs.{states_join, runs_joined}
-use Rattle.session_store.specs.Stored.{Stored}
-use Rattle.session_search.specs.Fits.{FitsProblem}
-use Rattle.session_search.proofs.TopFloors.{floor_here}
+use Rattle.session_state.specs.Store.Stored.{Stored}
+use Rattle.session_state.specs.Sessions.Fits.{FitsProblem}
+use Rattle.session_state.proofs.Sessions.TopFloors.{floor_here}
 use Rattle.explorer_run.specs.Serving.{IsEndProof, IsOn, IsPrintable, AreBacked, CommandStep}
 
 -- one run after the other

@@ -11,8 +11,8 @@ use Rattle.session_rules.specs.Proofs.{Proves}
 use Rattle.session_rules.specs.Evidence.{NeedsEvidence, HasEvidence}
 use Rattle.session_rules.specs.declared.answers.Reply.{Reply}
 use Rattle.session_rules.specs.declared.end_proof.ProofKind.TheVariants.{End}
-use Rattle.session_store.specs.Stored.{Stored}
-use Rattle.session_search.specs.Fits.{FitsProblem}
+use Rattle.session_state.specs.Store.Stored.{Stored}
+use Rattle.session_state.specs.Sessions.Fits.{FitsProblem}
 use Rattle.script_text.specs.Replies.{NamesCellsOf, PrintsRightProof}
 
 -- the proof shows over the translation that the floor has ended, and blocks scenarios of the problem's cells

@@ -15,7 +15,7 @@ use crate::steps::take_step;
 use refutation_check::Log;
 use session_rules::laws::a_run_is_sound;
 use session_rules::{Replies, Reply, Scenarios, Transcript};
-use session_search::Session;
+use session_state::session_search::Session;
 use session_words::Command;
 use std::alloc::{AllocError, Global};
 use translation::Translation;

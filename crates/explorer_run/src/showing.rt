@@ -1,7 +1,7 @@
 // `all`: the next scenario, again and again.
 ghost use Rattle.std.specs.Prelude.{◌≡◌, ◌≤◌, ◌<◌, ◌+◌, ◌==◌, ◌⊎◌, ◌++◌, ◌∷◌, [], ℕ, List, length, MatchOption, if◌then◌else◌, vec_len, vec_capacity};
 ghost use Rattle.rel_formula.specs.Bounds.{Bounded};
-ghost use Rattle.session_search.specs.Fits.{FitsProblem};
+ghost use Rattle.session_state.specs.Sessions.Fits.{FitsProblem};
 ghost use Rattle.refutation_check.specs.Chain.{IsAccepted};
 ghost use Rattle.session_words.specs.declared.commands.Command.TheVariants.{All};
 ghost use Rattle.session_rules.specs.States.{State, top_floor};
@@ -15,7 +15,7 @@ use refutation_check::Log;
 use rel_formula::Scenario;
 use session_rules::laws::a_run_is_sound;
 use session_rules::{Reply, Scenarios};
-use session_search::Session;
+use session_state::session_search::Session;
 use session_words::Step;
 use std::alloc::Global;
 use translation::Translation;

@@ -8,11 +8,11 @@ use Rattle.std.proofs.lemmas.Option.{none-some, slice_get_within}
 use Rattle.refutation_check.specs.declared.log.Step.{Step as LogStep}
 use Rattle.rel_formula.specs.Bounds.{Bounded}
 use Rattle.translation_rules.specs.Translation.{Translated, StandsFor}
-use Rattle.journal_rules.specs.declared.event.Entry.{Entry}
-use Rattle.journal_rules.specs.declared.event.Event.{Event}
-use Rattle.journal_rules.specs.declared.event.Event.TheVariants.{Published as WasPublished, Imported as WasImported, Shared as WasShared, Opened as WasOpened, Recorded as WasRecorded}
-use Rattle.journal_rules.specs.Noted.{Note, Published, Imported, Shared, Opened, Recorded, Noted}
-use Rattle.journal_rules.specs.Journal.{IsPublished, IsLegal, MayFollow, Shares, pool_of}
+use Rattle.hub_state.specs.declared.journal_rules.event.Entry.{Entry}
+use Rattle.hub_state.specs.declared.journal_rules.event.Event.{Event}
+use Rattle.hub_state.specs.declared.journal_rules.event.Event.TheVariants.{Published as WasPublished, Imported as WasImported, Shared as WasShared, Opened as WasOpened, Recorded as WasRecorded}
+use Rattle.hub_state.specs.Journal.Noted.{Note, Published, Imported, Shared, Opened, Recorded, Noted}
+use Rattle.hub_state.specs.Journal.Journal.{IsPublished, IsLegal, MayFollow, Shares, pool_of}
 use Rattle.hub_state.specs.HubView.{HubView, with_entry, HasTranslation, IsPublishing, note_to_record}
 use Rattle.hub_state.specs.Held.{noted_with, translations_in, journal_of, IsHub}
 use Rattle.hub_state.proofs.Journals.{one_more, first_publication}

@@ -8,8 +8,8 @@ use Rattle.std.proofs.lemmas.Option.{none-some}
 use Rattle.refutation_check.specs.declared.log.Step.{Step as LogStep}
 use Rattle.rel_formula.specs.Bounds.{Bounded}
 use Rattle.translation_rules.specs.Translation.{Translated}
-use Rattle.journal_rules.specs.Noted.{Note, Published, Shared, Noted}
-use Rattle.journal_rules.specs.Journal.{IsPublished, IsLegal, added_to, pool_of}
+use Rattle.hub_state.specs.Journal.Noted.{Note, Published, Shared, Noted}
+use Rattle.hub_state.specs.Journal.Journal.{IsPublished, IsLegal, added_to, pool_of}
 use Rattle.hub_state.specs.Held.{IsHub}
 
 -- a list of one element contains that element alone

@@ -4,11 +4,11 @@ use Rattle.std.proofs.Math.ListN.{get_or-map}
 use Rattle.std.proofs.lemmas.List.{length-map, map-append, get_or-set_same, get_or-set_other}
 use Rattle.std.proofs.lemmas.List.Elements.{Contains-append_left, Contains-append_right}
 use Rattle.translation_rules.specs.Translation.{Translated}
-use Rattle.journal_rules.specs.declared.event.Entry.{Entry}
-use Rattle.journal_rules.specs.declared.event.Event.{Event}
-use Rattle.journal_rules.specs.declared.event.Event.TheVariants.{Published as WasPublished, Imported as WasImported, Shared as WasShared, Opened as WasOpened, Recorded as WasRecorded}
-use Rattle.journal_rules.specs.Noted.{Note, Published, Noted, event_of, entry_of}
-use Rattle.journal_rules.specs.Journal.{IsPublished}
+use Rattle.hub_state.specs.declared.journal_rules.event.Entry.{Entry}
+use Rattle.hub_state.specs.declared.journal_rules.event.Event.{Event}
+use Rattle.hub_state.specs.declared.journal_rules.event.Event.TheVariants.{Published as WasPublished, Imported as WasImported, Shared as WasShared, Opened as WasOpened, Recorded as WasRecorded}
+use Rattle.hub_state.specs.Journal.Noted.{Note, Published, Noted, event_of, entry_of}
+use Rattle.hub_state.specs.Journal.Journal.{IsPublished}
 use Rattle.hub_state.specs.Held.{note_with, noted_with, translation_or, translations_in, journal_of}
 
 -- without translations the journal is the list of the entries

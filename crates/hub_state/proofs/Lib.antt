@@ -3,3 +3,4 @@ mod Journals
 pub mod GrowingJournals
 mod Sharing
 pub mod Appending
+pub mod Journal

@@ -10,8 +10,8 @@ use Rattle.clause_pool.specs.Limits.{IsWithinLimits, IsLongestFit, moved_behind}
 use Rattle.rel_formula.specs.Bounds.{Bounded}
 use Rattle.translation_rules.specs.Translation.{Translated}
 use Rattle.translation_cache.specs.Published.{shown}
-use Rattle.journal_rules.specs.Noted.{Noted}
-use Rattle.journal_rules.specs.Journal.{IsPublished, IsPool, Shares, pool_of}
+use Rattle.hub_state.specs.Journal.Noted.{Noted}
+use Rattle.hub_state.specs.Journal.Journal.{IsPublished, IsPool, Shares, pool_of}
 use Rattle.hub_state.specs.HubView.{HasTranslation, moved}
 use Rattle.hub_state.specs.Held.{IsHub}
 

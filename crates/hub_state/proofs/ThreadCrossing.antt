@@ -4,7 +4,7 @@ use Rattle.std.proofs.Crossing
 use Rattle.rel_formula.proofs.formula.Expression.TheLaws.TheKnot as expression
 use Rattle.rel_formula.proofs.formula.Formula.TheLaws.TheKnot as formula
 use Rattle.clause_pool.proofs.pool.Pool.TheSendSync as pool
-use Rattle.journal_rules.proofs.event.Entry.TheSendSync as entry
+use Rattle.hub_state.proofs.journal_rules.event.Entry.TheSendSync as entry
 use Rattle.rel_formula.specs.contracts.problem.Problem as Problem
 use Rattle.translation_cache.specs.contracts.cache.Cache as Cache
 use Rattle.hub_state.specs.contracts.hub.Hub.{the_row}

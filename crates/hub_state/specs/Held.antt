@@ -4,11 +4,11 @@ use Rattle.refutation_check.specs.declared.log.Step.{Step as LogStep}
 use Rattle.rel_formula.specs.Bounds.{Bounded}
 use Rattle.rel_formula.specs.Kernel.{conjunction, no_formulas}
 use Rattle.translation_rules.specs.Translation.{Translated}
-use Rattle.journal_rules.specs.declared.event.Entry.{Entry}
-use Rattle.journal_rules.specs.declared.event.Event.{Event}
-use Rattle.journal_rules.specs.declared.event.Event.TheVariants.{Published as WasPublished, Imported as WasImported, Shared as WasShared, Opened as WasOpened, Recorded as WasRecorded}
-use Rattle.journal_rules.specs.Noted.{Note, Published, Imported, Shared, Opened, Recorded, Noted}
-use Rattle.journal_rules.specs.Journal.{IsPublished, IsLegal, pool_of}
+use Rattle.hub_state.specs.declared.journal_rules.event.Entry.{Entry}
+use Rattle.hub_state.specs.declared.journal_rules.event.Event.{Event}
+use Rattle.hub_state.specs.declared.journal_rules.event.Event.TheVariants.{Published as WasPublished, Imported as WasImported, Shared as WasShared, Opened as WasOpened, Recorded as WasRecorded}
+use Rattle.hub_state.specs.Journal.Noted.{Note, Published, Imported, Shared, Opened, Recorded, Noted}
+use Rattle.hub_state.specs.Journal.Journal.{IsPublished, IsLegal, pool_of}
 
 -- the translation, or where there is none one of a problem without relations: no entry of a hub needs it
 abbrev pub translation_or : Option Translated → Translated

@@ -5,10 +5,10 @@ use Rattle.refutation_check.specs.Chain.{members_of, IsAccepted}
 use Rattle.clause_pool.specs.Limits.{moved_behind}
 use Rattle.rel_formula.specs.Bounds.{Bounded}
 use Rattle.translation_rules.specs.Translation.{Translated}
-use Rattle.journal_rules.specs.declared.event.Event.{Event}
-use Rattle.journal_rules.specs.declared.event.Event.TheVariants.{Published as WasPublished, Imported as WasImported, Shared as WasShared, Opened as WasOpened, Recorded as WasRecorded}
-use Rattle.journal_rules.specs.Noted.{Note, Published, Opened, Recorded, Noted}
-use Rattle.journal_rules.specs.Journal.{IsPublished, pool_of}
+use Rattle.hub_state.specs.declared.journal_rules.event.Event.{Event}
+use Rattle.hub_state.specs.declared.journal_rules.event.Event.TheVariants.{Published as WasPublished, Imported as WasImported, Shared as WasShared, Opened as WasOpened, Recorded as WasRecorded}
+use Rattle.hub_state.specs.Journal.Noted.{Note, Published, Opened, Recorded, Noted}
+use Rattle.hub_state.specs.Journal.Journal.{IsPublished, pool_of}
 
 -- the problems, by key, and the journal, whose publications have their translations
 pub record HubView : Type 0 where

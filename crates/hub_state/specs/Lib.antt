@@ -1,2 +1,3 @@
 pub mod HubView
 pub mod Held
+pub mod Journal

@@ -2,13 +2,13 @@
 ghost use Rattle.std.specs.Prelude.{◌≡◌, ◌↔◌, ◌<◌, ◌^◌, [], Some, IfOk, OnOk, OnErr, IfSome, IsNone, IsSomeAnd, length, map, replicate, slice_get, take};
 ghost use Rattle.clause_pool.specs.Limits.{IsLongestFit};
 ghost use Rattle.translation_rules.specs.Translation.{Translated};
-ghost use Rattle.journal_rules.specs.Noted.{Published as WasPublished, Imported as WasImported, Shared as WasShared, entry_of};
-ghost use Rattle.journal_rules.specs.Journal.{IsLegal, IsPublished, MayFollow, pool_of};
+ghost use Rattle.hub_state.specs.Journal.Noted.{Published as WasPublished, Imported as WasImported, Shared as WasShared, entry_of};
+ghost use Rattle.hub_state.specs.Journal.Journal.{IsLegal, IsPublished, MayFollow, pool_of};
 ghost use Rattle.hub_state.specs.HubView.{with_entry, HasTranslation, IsPublishing, GoesOn, moved, note_to_record};
 
+use crate::journal_rules::laws::{a_legal_journal_grows, a_pool_rests_on_the_translation_alone};
+use crate::journal_rules::{Entry, Event};
 use clause_pool::{Pool, one_length_is_longest};
-use journal_rules::laws::{a_legal_journal_grows, a_pool_rests_on_the_translation_alone};
-use journal_rules::{Entry, Event};
 use refutation_check::Log;
 use rel_formula::Problem;
 use std::alloc::{AllocError, Global};

@@ -1,7 +1,7 @@
 // The hub as a turn lock keeps it.
 use crate::hub::Hub;
+use crate::journal_rules::Entry;
 use hub_lock::Kept;
-use journal_rules::Entry;
 use rel_formula::Problem;
 use std::marker::Model;
 use std::sync::Arc;
@@ -17,7 +17,7 @@ pub struct SeenEntry {
 impl Model for SeenEntry {
     ghost use Rattle.std.specs.Coded.{codes};
     ghost use Rattle.rel_formula.specs.Code.{formula_code};
-    ghost use Rattle.journal_rules.specs.Noted.{Noted};
+    ghost use Rattle.hub_state.specs.Journal.Noted.{Noted};
     ghost use Rattle.translation_cache.specs.Published.{shown};
     ghost use Rattle.hub_state.specs.Held.{translation_or, noted_with};
 

@@ -18,8 +18,8 @@ use Rattle.session_rules.specs.ProofOfEnd.{ProofOfEnd}
 use Rattle.session_rules.specs.States.{State, Start, after}
 use Rattle.session_rules.specs.Proofs.{IsCopy, RefutesWith}
 use Rattle.session_rules.specs.declared.answers.Reply.TheVariants.{Shown, End, Memory}
-use Rattle.journal_rules.specs.Noted.{Note, Noted, Published, Imported, Shared, Opened, Recorded}
-use Rattle.journal_rules.specs.Journal.{HasNoted, IsPublished, Opens, Records}
+use Rattle.hub_state.specs.Journal.Noted.{Note, Noted, Published, Imported, Shared, Opened, Recorded}
+use Rattle.hub_state.specs.Journal.Journal.{HasNoted, IsPublished, Opens, Records}
 use Rattle.hub_state.proofs.GrowingJournals.{note_is, only_one}
 use Rattle.hub_tests.proofs.Bottom.{always, no_cells, empty_is_due, no_swaps, blocked}
 

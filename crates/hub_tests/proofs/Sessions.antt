@@ -8,8 +8,8 @@ use Rattle.translation_rules.specs.Translation.{Translated}
 use Rattle.session_words.specs.declared.steps.Step.TheVariants.{Next}
 use Rattle.session_rules.specs.ProofOfEnd.{ProofOfEnd}
 use Rattle.session_rules.specs.declared.answers.Reply.TheVariants.{Shown, End}
-use Rattle.journal_rules.specs.Noted.{Note, Noted, Published, Imported, Shared, Opened, Recorded}
-use Rattle.journal_rules.specs.Journal.{IsPublished, pool_of}
+use Rattle.hub_state.specs.Journal.Noted.{Note, Noted, Published, Imported, Shared, Opened, Recorded}
+use Rattle.hub_state.specs.Journal.Journal.{IsPublished, pool_of}
 use Rattle.hub_state.specs.HubView.{HubView, with_entry, HasTranslation, IsPublishing, GoesOn}
 use Rattle.hub_state.proofs.GrowingJournals.{note_is, only_one}
 use Rattle.hub_state.proofs.Appending.{seen}

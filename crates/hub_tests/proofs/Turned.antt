@@ -5,8 +5,8 @@ use Rattle.std.proofs.lemmas.Bool.{cases_Bool, eq-eqb}
 use Rattle.std.proofs.lemmas.List.Elements.{Contains-append_cases}
 use Rattle.hub_lock.specs.Passes.{of_pass}
 use Rattle.rel_formula.specs.Bounds.{Bounded}
-use Rattle.journal_rules.specs.Noted.{Noted, Opened}
-use Rattle.journal_rules.specs.Journal.{Opens}
+use Rattle.hub_state.specs.Journal.Noted.{Noted, Opened}
+use Rattle.hub_state.specs.Journal.Journal.{Opens}
 use Rattle.hub_state.specs.HubView.{HubView}
 use Rattle.hub_state.proofs.GrowingJournals.{only_one}
 use Rattle.hub_tests.proofs.Bottom.{always}

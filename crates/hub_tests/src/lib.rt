@@ -1,5 +1,4 @@
-//! Tests of `hub_lock`, `hub_state`, `clause_pool` and `journal_rules`, in a crate of their own: so these aren't
-//! proved a second time for their tests.
+//! Tests of what sessions share: the pool of clauses, its journal, the lock, and the hub itself.
 #![tactic(auto)]
 
 #[cfg(test)]

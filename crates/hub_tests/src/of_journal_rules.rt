@@ -1,6 +1,6 @@
 // Copies of entries, read back as numbers.
 use cnf_core::{Clause, Lit};
-use journal_rules::{Entry, Event};
+use hub_state::journal_rules::{Entry, Event};
 use refutation_check::{Hints, Log};
 use session_rules::{Reply, Step};
 use std::alloc::{AllocError, Global};

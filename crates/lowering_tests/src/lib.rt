@@ -1,13 +1,10 @@
-//! Tests of `kernel_parts` and `body_lowering`, in a crate of their own: so neither is proved a second time for its tests.
+//! Tests of `body_lowering`, and of the bounds that `rel_lower` gives: bodies that ask for more than there is room for, three
+//! variables, and relations. What bodies mean is tested by texts in `rel_lower_tests`.
 #![tactic(auto)]
 
 #[cfg(test)]
-mod of_body_lowering;
-#[cfg(test)]
-mod of_kernel_parts;
-#[cfg(test)]
 mod of_large_bodies;
 #[cfg(test)]
-mod shown;
+mod of_relation_bounds;
 #[cfg(test)]
-mod texts;
+mod of_three_variables;

@@ -1,102 +1,161 @@
 // Bodies that ask for more than there is room for.
-use crate::of_body_lowering::{callee, model, model_with};
-use crate::texts::{PLACE, phrase};
+use alloy_lex::{Place, Text};
 use alloy_syntax::tree::Operator;
 use body_lowering::Room;
 use body_lowering::bodies::{block, expression};
 use named_model::Named;
-use named_model::named::{Callee, Meaning};
-use named_model::phrase::{Link, Phrase};
+use named_model::named::{Callee, Meaning, Signature};
+use named_model::phrase::{Domain, Link, Phrase, Referent};
 use std::alloc::{AllocError, Global};
 use std::test::Fail;
 
-// A call of a predicate with `x`.
+const PLACE: Place = Place { line: 1, column: 1 };
+
+// The first signature.
+const FIRST: Phrase = Phrase::Refers(PLACE, Referent::Signature(0));
+
+fn signature(alloc: Global, name: &str) -> Result<Signature, AllocError> {
+    Ok(Signature {
+        name: Text::of(alloc, name)?,
+        place: PLACE,
+        is_abstract: false,
+        mark: None,
+        parent: None,
+    })
+}
+
+// One variable that stands for atoms of the first signature.
+fn parameters(alloc: Global) -> Result<Vec<Domain>, AllocError> {
+    let mut parameters = Vec::new(alloc);
+    parameters.push(Domain {
+        disjoint: false,
+        count: 1,
+        mark: None,
+        domain: FIRST,
+    })?;
+    Ok(parameters)
+}
+
+// A predicate or function of one parameter.
+fn callee(alloc: Global, meaning: Meaning) -> Result<Callee, AllocError> {
+    Ok(Callee {
+        place: PLACE,
+        parameters: parameters(alloc)?,
+        meaning,
+    })
+}
+
+fn signatures(alloc: Global) -> Result<Vec<Signature>, AllocError> {
+    let mut signatures = Vec::new(alloc);
+    signatures.push(signature(alloc, "A")?)?;
+    signatures.push(signature(alloc, "B")?)?;
+    Ok(signatures)
+}
+
+fn model_with(alloc: Global, callees: Vec<Callee>) -> Result<Named, AllocError> {
+    Ok(Named {
+        signatures: signatures(alloc)?,
+        fields: Vec::new(alloc),
+        callees,
+        facts: Vec::new(alloc),
+        fact_names: Vec::new(alloc),
+        assertions: Vec::new(alloc),
+        commands: Vec::new(alloc),
+        parts: Vec::new(alloc),
+    })
+}
+
+// A call of a predicate with the innermost variable.
 fn call(alloc: Global, number: usize) -> Result<Phrase, AllocError> {
     let mut given = Vec::new(alloc);
-    given.push(phrase(alloc, "x")?)?;
+    given.push(Phrase::Refers(PLACE, Referent::Local(0)))?;
     Ok(Phrase::Called(PLACE, number, given))
 }
 
-// A predicate that calls another one twice.
-fn twice(alloc: Global, number: usize) -> Result<Callee, AllocError> {
+// So many calls of a predicate.
+fn calls(alloc: Global, number: usize, times: usize) -> Result<Vec<Phrase>, AllocError> {
     let mut formulas = Vec::new(alloc);
-    formulas.push(call(alloc, number)?)?;
-    formulas.push(call(alloc, number)?)?;
-    callee(alloc, Meaning::Formulas(formulas))
-}
-
-// Each predicate but the first calls the one before it twice.
-fn doubling(alloc: Global, count: usize) -> Result<Named, AllocError> {
-    let mut callees = Vec::new(alloc);
-    callees.push(callee(alloc, Meaning::Formulas(Vec::new(alloc)))?)?;
-    for number in 0..count {
-        callees.push(twice(alloc, number)?)?;
+    for _call in 0..times {
+        formulas.push(call(alloc, number)?)?;
     }
-    model_with(alloc, callees)
+    Ok(formulas)
 }
 
-// Whether a call of the last one of so many predicates is lowered.
-fn is_doubled(alloc: Global, count: usize) -> Result<bool, AllocError> {
-    let model = doubling(alloc, count)?;
-    let mut phrases = Vec::new(alloc);
-    phrases.push(call(alloc, count)?)?;
-    Ok(block(alloc, &model, &mut Room::new(), &phrases).is_ok())
+// A predicate that calls another one so many times.
+fn caller(alloc: Global, number: usize, times: usize) -> Result<Callee, AllocError> {
+    callee(alloc, Meaning::Formulas(calls(alloc, number, times)?))
+}
+
+// A predicate that says nothing, and behind it so many others: each calls the one before it so many times.
+fn callers(alloc: Global, count: usize, times: usize) -> Result<Vec<Callee>, AllocError> {
+    let mut callees = Vec::new(alloc);
+    callees.push(caller(alloc, 0, 0)?)?;
+    for number in 0..count {
+        callees.push(caller(alloc, number, times)?)?;
+    }
+    Ok(callees)
+}
+
+// Whether a call of a predicate is lowered.
+fn is_lowered(alloc: Global, model: &Named, number: usize) -> Result<bool, AllocError> {
+    let phrases = calls(alloc, number, 1)?;
+    Ok(block(alloc, model, &mut Room::new(), &phrases).is_ok())
+}
+
+// Whether a call of the last one of so many predicates is lowered, each of which calls the one before it so many times.
+fn is_reached(alloc: Global, count: usize, times: usize) -> Result<bool, AllocError> {
+    let model = model_with(alloc, callers(alloc, count, times)?)?;
+    is_lowered(alloc, &model, count)
 }
 
 #[test]
 fn calls_that_double_are_bounded(rt: HostRuntime) -> Result<(), Fail> {
     for (count, expected) in [(3, true), (10, true), (30, false)] {
-        assert_eq!(rt; is_doubled(rt.alloc(), count)?, expected);
+        assert_eq!(rt; is_reached(rt.alloc(), count, 2)?, expected);
     }
     Ok(())
-}
-
-// Each predicate but the first calls the one before it.
-fn in_a_row(alloc: Global, count: usize) -> Result<Named, AllocError> {
-    let mut callees = Vec::new(alloc);
-    callees.push(callee(alloc, Meaning::Formulas(Vec::new(alloc)))?)?;
-    for number in 0..count {
-        let mut formulas = Vec::new(alloc);
-        formulas.push(call(alloc, number)?)?;
-        callees.push(callee(alloc, Meaning::Formulas(formulas))?)?;
-    }
-    model_with(alloc, callees)
-}
-
-// Whether a call of the last one of so many predicates in a row is lowered.
-fn is_reached(alloc: Global, count: usize) -> Result<bool, AllocError> {
-    let model = in_a_row(alloc, count)?;
-    let mut phrases = Vec::new(alloc);
-    phrases.push(call(alloc, count)?)?;
-    Ok(block(alloc, &model, &mut Room::new(), &phrases).is_ok())
 }
 
 #[test]
 fn calls_in_a_row_are_bounded(rt: HostRuntime) -> Result<(), Fail> {
     for (count, expected) in [(100, true), (250, true), (5_000, false)] {
-        assert_eq!(rt; is_reached(rt.alloc(), count)?, expected);
+        assert_eq!(rt; is_reached(rt.alloc(), count, 1)?, expected);
     }
     Ok(())
 }
 
-// A chain of so many links.
-fn chain(alloc: Global, operator: Operator, count: usize) -> Result<Phrase, AllocError> {
+fn link(operator: Operator) -> Link {
+    Link {
+        operator,
+        place: PLACE,
+        operand: FIRST,
+    }
+}
+
+fn links(alloc: Global, operator: Operator, count: usize) -> Result<Vec<Link>, AllocError> {
     let mut links = Vec::new(alloc);
     for _link in 0..count {
-        links.push(Link {
-            operator,
-            place: PLACE,
-            operand: phrase(alloc, "A")?,
-        })?;
+        links.push(link(operator))?;
     }
-    Ok(Phrase::Chain(Box::new(alloc, phrase(alloc, "A")?)?, links))
+    Ok(links)
+}
+
+// A chain of so many links.
+fn chain(alloc: Global, operator: Operator, count: usize) -> Result<Phrase, AllocError> {
+    let first = Box::new(alloc, FIRST)?;
+    Ok(Phrase::Chain(first, links(alloc, operator, count)?))
+}
+
+// Whether an expression is lowered.
+fn is_expression(alloc: Global, phrase: &Phrase) -> Result<bool, AllocError> {
+    let model = model_with(alloc, Vec::new(alloc))?;
+    Ok(expression(alloc, &model, &mut Room::new(), 0, phrase).is_ok())
 }
 
 // Whether a chain is lowered.
 fn is_chained(alloc: Global, operator: Operator, count: usize) -> Result<bool, AllocError> {
-    let model = model(alloc, "xs", "x")?;
     let chain = chain(alloc, operator, count)?;
-    Ok(expression(alloc, &model, &mut Room::new(), 0, &chain).is_ok())
+    is_expression(alloc, &chain)
 }
 
 #[test]

@@ -8,13 +8,13 @@ ghost use Rattle.translation_rules.specs.Translation.{var_of};
 ghost use Rattle.minimiser.specs.Down.{parts_of, IsDescent, IsRight};
 
 use cnf_core::Valuation;
-use local_clauses::descent_locals;
 use refutation_check::{Log, Part};
 use rel_formula::Scenario;
 use sat_core::{Answer, Leaning, Trail, solve_from};
 use std::alloc::{AllocError, Global};
 use translation::Translation;
 use translation_rules::laws::descent_clauses_say_what_is_smaller;
+use translation_rules::local_clauses::descent_locals;
 
 /// What a descent comes to, with its searches in order.
 #[derive(Drop)]

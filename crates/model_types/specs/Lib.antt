@@ -3,3 +3,5 @@ pub mod Sorts
 pub mod Typing
 pub mod Models
 pub mod Rows
+pub mod Parts
+pub mod Bounds

@@ -7,3 +7,7 @@ pub mod Standings
 pub mod WordsMet
 pub mod Telling
 pub mod Reaching
+pub mod Signatures
+pub mod Repeats
+pub mod Globals
+pub mod Parents

@@ -1,13 +1,17 @@
-//! Tests of `signature_names`, `repeated_names`, `parent_cycles` and `command_names`, in a crate of their own: so these aren't
-//! proved a second time for their tests.
+//! Tests of `name_tables`, `reference_cycles` and `sig_resolve`: long chains, texts with more names than there is room for, names
+//! that hide others, and what is said of a model's paragraphs. Which faults names have is tested by texts in `model_text_tests`.
 #![tactic(auto)]
 
 #[cfg(test)]
-mod of_command_names;
+mod crossed_names;
 #[cfg(test)]
-mod of_parent_cycles;
+mod of_global_names;
 #[cfg(test)]
-mod of_repeated_names;
+mod of_name_tables;
+#[cfg(test)]
+mod of_number_cycles;
+#[cfg(test)]
+mod of_resolved_paragraphs;
 #[cfg(test)]
 mod of_signature_names;
 #[cfg(test)]

@@ -1,10 +1,12 @@
-// Signatures and fields: texts with the column of the name that is no signature's, or with how many there are.
+// Signatures and fields: texts with how many there are, where there is room for them.
+use crate::crossed_names::crossed;
 use crate::reading::tree;
 use alloy_syntax::tree::Paragraph;
 use name_tables::Names;
+use name_tables::signature_names::{Declared, declarations};
 use named_model::NameFault;
-use signature_names::{Declared, declarations};
 use std::alloc::{AllocError, Global};
+use std::process::Abort;
 use std::test::Fail;
 
 // The names A and B.
@@ -27,24 +29,20 @@ fn told(alloc: Global, text: &str) -> Result<Declared, NameFault> {
     }
 }
 
-fn unknown(alloc: Global, text: &str) -> u32 {
-    match told(alloc, text) {
-        Ok(_) => 0,
-        Err(NameFault::Unknown { place }) => place.column,
-        Err(_) => 999,
-    }
-}
-
 // How many signatures and fields there are, and the number of the last field's signature.
 fn counted(alloc: Global, text: &str) -> (usize, usize, usize) {
     match told(alloc, text) {
-        Ok(declared) => (
-            declared.signatures.len(),
-            declared.fields.len(),
-            owner_of_last(&declared),
-        ),
+        Ok(declared) => counts(&declared),
         Err(_) => (999, 999, 999),
     }
+}
+
+fn counts(declared: &Declared) -> (usize, usize, usize) {
+    (
+        declared.signatures.len(),
+        declared.fields.len(),
+        owner_of_last(declared),
+    )
 }
 
 fn owner_of_last(declared: &Declared) -> usize {
@@ -54,56 +52,46 @@ fn owner_of_last(declared: &Declared) -> usize {
     }
 }
 
-#[test]
-fn the_first_unknown_name_is_told(rt: HostRuntime) -> Result<(), Fail> {
-    for (text, want) in [
-        ("sig A { f: A + B -> (A) } sig B in A {}", 0),
-        ("sig A extends C { f: D }", 15),
-        ("sig A { f: C } sig B extends D {}", 12),
-        ("sig A { f: A + (B -> C) }", 22),
-        ("sig A { f: A -> some (B + C) }", 27),
-    ] {
-        assert_eq!(rt; unknown(rt.alloc(), text), want, "{text}");
+fn tells_counts(
+    rt: &impl Abort,
+    alloc: Global,
+    rows: &[(&str, (usize, usize, usize))],
+) -> Result<(), Fail> {
+    for (text, want) in rows {
+        let found = counted(alloc, text);
+        assert_eq!(*rt; found, *want, "{text}");
     }
     Ok(())
 }
 
 #[test]
 fn a_field_of_two_signatures_is_two(rt: HostRuntime) -> Result<(), Fail> {
-    for (text, want) in [
-        ("sig A, B { f: A }", (2, 2, 1)),
-        ("sig A, B { f, g: A }", (2, 4, 1)),
-        ("sig A { f: A, g: A -> lone A } sig B {}", (2, 2, 0)),
-    ] {
-        assert_eq!(rt; counted(rt.alloc(), text), want, "{text}");
-    }
-    Ok(())
+    tells_counts(
+        &rt,
+        rt.alloc(),
+        &[
+            ("sig A, B { f: A }", (2, 2, 1)),
+            ("sig A, B { f, g: A }", (2, 4, 1)),
+            ("sig A { f: A, g: A -> lone A } sig B {}", (2, 2, 0)),
+        ],
+    )
 }
 
-// sig A, A, .. { ff..: A }, with so many signatures, and a name of so many letters
-fn crossed(alloc: Global, owners: usize, letters: usize) -> Result<String, AllocError> {
-    let mut text = String::from_str(alloc, "sig A")?;
-    for _ in 1..owners {
-        text.push_str(", A")?;
-    }
-    text.push_str(" { ")?;
-    for _ in 0..letters {
-        text.push_str("f")?;
-    }
-    text.push_str(": A }")?;
-    Ok(text)
+// How many there are in `sig A, A, .. { ff..: A }`, with so many names behind the first one, and so many letters behind the first.
+fn counted_of(
+    alloc: Global,
+    more: usize,
+    letters: usize,
+) -> Result<(usize, usize, usize), AllocError> {
+    let text = crossed(alloc, more, "f", letters)?;
+    Ok(counted(alloc, &text))
 }
 
 #[test]
 fn more_than_there_is_room_for_is_want_of_memory(rt: HostRuntime) -> Result<(), Fail> {
-    let alloc = rt.alloc();
-    assert_eq!(rt;
-        counted(alloc, &crossed(alloc, 100, 10_000)?),
-        (100, 100, 0)
-    );
-    assert_eq!(rt;
-        counted(alloc, &crossed(alloc, 110, 10_000)?),
-        (999, 999, 999)
-    );
+    for (more, want) in [(99, (100, 100, 0)), (109, (999, 999, 999))] {
+        let found = counted_of(rt.alloc(), more, 9_999)?;
+        assert_eq!(rt; found, want, "{more}");
+    }
     Ok(())
 }

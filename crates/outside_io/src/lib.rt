@@ -14,6 +14,3 @@ pub use crate::memory::{MemSink, MemSource};
 pub use crate::sink::{Sink, finish, write_all};
 pub use crate::source::{Failed, ReadFault, Source, read_all};
 pub use crate::streams::{StdSink, StdSource};
-
-#[cfg(test)]
-mod tests;

@@ -1,9 +1,19 @@
-//! Tests of the program's top call, in a crate of their own: so the call is not proved a second time for its tests.
+//! Tests of the program: its words, its input and output, and the answers of its top call to whole scripts.
 #![tactic(auto)]
 
 #[cfg(test)]
-mod explorer;
+mod of_command_words;
+#[cfg(test)]
+mod of_explorer_cli;
 #[cfg(test)]
 mod of_models;
 #[cfg(test)]
+mod of_outside_io;
+#[cfg(test)]
+mod of_proofs;
+#[cfg(test)]
 mod of_sessions;
+#[cfg(test)]
+mod of_words;
+#[cfg(test)]
+mod running;

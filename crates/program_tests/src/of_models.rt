@@ -1,5 +1,5 @@
 // Models of every form, and what is wrong with others: the expected lines were worked out by hand from what models mean.
-use crate::explorer::{answers, serves};
+use crate::running::{answers, serves};
 use std::test::Fail;
 
 #[test]

@@ -1,6 +1,7 @@
 // Sessions whose searches take more than a step: the expected lines were worked out by hand from what models mean.
-use crate::explorer::{run, serves};
-use std::alloc::{AllocError, Global};
+use crate::running::{grown, run, serves};
+use std::alloc::Global;
+use std::fmt::Write;
 use std::test::Fail;
 
 #[test]
@@ -114,14 +115,18 @@ fn refuses_what_isn_t_there(rt: HostRuntime) -> Result<(), Fail> {
     )
 }
 
+fn push_atom(script: &mut String, name: &str, place: u32) -> Result<(), Fail> {
+    Ok(write!(script, "augment {name} {name}${place}\nnext\n")?)
+}
+
 // A session that gives its scenario one atom after the other, 64 in all, and then asks for one floor more.
-fn rising(alloc: Global) -> Result<String, AllocError> {
+fn rising(alloc: Global) -> Result<String, Fail> {
     let front = "== model m\nsig A, B {} sig P in A {} run {} for 32\n== session a m 1\nnext\n";
     let mut script = String::from_str(alloc, front)?;
-    for place in 0..64 {
-        let name = if place < 32 { "A" } else { "B" };
-        let line = format!(in alloc; "augment {name} {name}${}\nnext\n", place % 32)?;
-        script.push_str(&line)?;
+    for name in ["A", "B"] {
+        for place in 0..32 {
+            push_atom(&mut script, name, place)?;
+        }
     }
     script.push_str("augment P A$0\nback\nnext\n")?;
     Ok(script)
@@ -149,13 +154,8 @@ fn has_64_floors(rt: HostRuntime) -> Result<(), Fail> {
 
 #[test]
 fn lists_20_000_scenarios(rt: HostRuntime) -> Result<(), Fail> {
-    let mut script = String::from_str(
-        rt.alloc(),
-        "== model m\nsig A { f: set A } run { some A } for 4\n== session a m 1\n",
-    )?;
-    for _ in 0..20 {
-        script.push_str("all 1000\n")?;
-    }
+    let front = "== model m\nsig A { f: set A } run { some A } for 4\n== session a m 1\n";
+    let script = grown(rt.alloc(), front, ("all 1000\n", false, ""), 20)?;
     let (status, text) = run(rt.alloc(), &script)?;
     assert_eq!(rt; (status, lines_that_are(&text, "end 1")), (0, 20));
     Ok(())

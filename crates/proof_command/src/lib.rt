@@ -4,8 +4,6 @@
 mod answer;
 mod command;
 mod laws;
-#[cfg(test)]
-mod tests;
 
 pub use crate::command::check_proof;
 pub use crate::laws::one_answer;

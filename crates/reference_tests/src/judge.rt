@@ -5,8 +5,8 @@ ghost use Rattle.rel_formula.specs.Bounds.{cells_of};
 use crate::asks::{Ask, Asked, ENOUGH};
 use crate::kinds::kind_of;
 use crate::proofs_of_ends::is_same_proof;
-use exhaustive_search::{all_due_at, all_offers, has_instance_above};
 use rel_formula::{Problem, Scenario};
+use samples::exhaustive_search::{all_due_at, all_offers, has_instance_above};
 use session_rules::{EndProof, Refusal, Reply, WorkDone};
 use std::alloc::{AllocError, Global};
 

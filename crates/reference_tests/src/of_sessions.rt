@@ -3,7 +3,7 @@ ghost use Rattle.std.specs.Prelude.{◌≤◌, ◌<◌, ◌+◌, ◌∷◌, [], 
 ghost use Rattle.rel_formula.specs.Bounds.{cells_of};
 ghost use Rattle.rel_formula.specs.Shape.{IsProper};
 ghost use Rattle.rel_formula.specs.View.{formula_tree};
-ghost use Rattle.session_search.specs.Fits.{FitsProblem};
+ghost use Rattle.session_state.specs.Sessions.Fits.{FitsProblem};
 
 use crate::asks::{Ask, ENOUGH, any_ask};
 use crate::judge::Judge;
@@ -11,13 +11,13 @@ use crate::kinds::ALL_KINDS;
 use crate::serving::answer;
 use rand_pcg::Pcg32;
 use rel_formula::{Expression, Formula};
-use sample_links::{
+use sample_problems::set_of;
+use samples::sample_links::{
     all_turned, arrows_of_the_set, each_leads_on, fewer_arrows, links, no_cycle, one_leads_on,
 };
-use sample_problems::set_of;
-use sample_translations::{translated_sets, translation_of};
+use samples::sample_translations::{translated_sets, translation_of};
 use session_rules::{Refusal, Reply};
-use session_search::Session;
+use session_state::session_search::Session;
 use std::alloc::{AllocError, Global};
 use std::process::Abort;
 use std::test::Fail;

@@ -1,13 +1,13 @@
 // Sessions that are served step by step.
 ghost use Rattle.std.specs.Prelude.{◌≤◌, ◌+◌, IfOk, OnOk, length};
-ghost use Rattle.session_search.specs.Fits.{FitsProblem};
-ghost use Rattle.session_search.specs.Proposed.{IsPlain, NeedsTranslation};
+ghost use Rattle.session_state.specs.Sessions.Fits.{FitsProblem};
+ghost use Rattle.session_state.specs.Sessions.Proposed.{IsPlain, NeedsTranslation};
 
 use crate::asks::{Ask, Asked};
 use refutation_check::Log;
 use rel_formula::Problem;
 use session_rules::Reply;
-use session_search::Session;
+use session_state::session_search::Session;
 use session_words::{AtomName, AtomNames, Step};
 use std::alloc::{AllocError, Global};
 use translation::Translation;

@@ -9,8 +9,6 @@ pub mod laws;
 mod problem;
 mod scenario;
 mod tables;
-#[cfg(test)]
-mod tests;
 
 pub use crate::formula::{Expression, Formula};
 pub use crate::instance::holds;

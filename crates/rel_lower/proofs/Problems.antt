@@ -10,7 +10,7 @@ use Rattle.lowering_rules.specs.declared.fault.LowerFault.{LowerFault}
 use Rattle.lowering_rules.specs.declared.fault.LowerFault.TheVariants as fault
 use Rattle.lowering_rules.specs.Relations.{Outline, signature_outline, field_outline, outlines, IsOutlined}
 use Rattle.lowering_rules.specs.Problem.{Commands, IsRefusal}
-use Rattle.field_bounds.specs.Bounds.{AreRelations, IsTooMany}
+use Rattle.rel_lower.specs.Bounding.Bounds.{AreRelations, IsTooMany}
 
 -- too many relations or cells refuse a problem
 pub too_many : (m : NamedTree) (n : ℕ) (facts : List ℕ) (c : CommandTree) (sizes : List Size) → Commands m n c sizes →

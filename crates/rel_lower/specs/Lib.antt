@@ -1,1 +1,4 @@
 pub mod Lowered
+pub mod Signatures
+pub mod Placing
+pub mod Bounding

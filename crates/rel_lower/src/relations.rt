@@ -2,8 +2,8 @@
 ghost use Rattle.std.specs.Prelude.{◌≡◌, ◌≢◌, All, AllPairs, IfOk, IsFalse, IsTrue};
 ghost use Rattle.named_model.specs.Signatures.{tops};
 
+use model_types::part_sorts::tables::top_signatures;
 use named_model::Named;
-use part_sorts::tables::top_signatures;
 use rel_formula::Relation;
 use std::alloc::{AllocError, Global};
 use tuple_core::Name;

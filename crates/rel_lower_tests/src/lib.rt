@@ -1,16 +1,11 @@
-//! Tests of `rel_lower`, in a crate of their own: so it isn't proved a second time for its tests.
+//! Tests of `rel_lower` through texts: what signatures, fields, facts, commands and the forms of bodies mean is shown by counting
+//! the instances of small models. The numbers were worked out by hand.
 #![tactic(auto)]
 
 #[cfg(test)]
-mod calls;
+mod counting;
 #[cfg(test)]
-mod commands;
-#[cfg(test)]
-mod fields;
-#[cfg(test)]
-mod instances;
-#[cfg(test)]
-mod many;
+mod lowered;
 #[cfg(test)]
 mod of_calls;
 #[cfg(test)]
@@ -20,8 +15,14 @@ mod of_facts;
 #[cfg(test)]
 mod of_fields;
 #[cfg(test)]
+mod of_formulas;
+#[cfg(test)]
+mod of_levels;
+#[cfg(test)]
+mod of_relations;
+#[cfg(test)]
 mod of_signatures;
 #[cfg(test)]
-mod phrases;
+mod of_variables;
 #[cfg(test)]
-mod samples;
+mod one_relation;

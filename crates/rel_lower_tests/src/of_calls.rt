@@ -1,39 +1,40 @@
 // That fields of one name have names of their own, and calls become bodies.
-use crate::calls::model;
-use crate::instances::instances;
-use lowering_rules::LowerFault;
-use rel_lower::lower;
-use std::alloc::Global;
+use crate::counting::counts;
+use crate::lowered::lowered;
+use rel_formula::Problem;
+use std::alloc::{AllocError, Global};
 use std::test::Fail;
 
-// How many instances there are.
-fn counted(alloc: Global) -> Result<u32, LowerFault> {
-    let model = model(alloc)?;
-    let problem = lower(alloc, &model, 1)?;
-    instances(alloc, &problem)
+const CALLING: &str =
+    "sig A { f: set B } sig B { f: set A } fun g [x: A]: set B { x.f } run { some a: A | some g[a] } for 1";
+
+// The names of a problem's relations, with a blank behind each.
+fn names_of(alloc: Global, problem: &Problem) -> Result<String, AllocError> {
+    let mut names = String::new(alloc);
+    for relation in problem.relations() {
+        names.push_str(relation.name.text())?;
+        names.push_str(" ")?;
+    }
+    Ok(names)
 }
 
-// Whether the relations have these names.
-fn has_names(alloc: Global, names: &[&str]) -> Result<bool, LowerFault> {
-    let model = model(alloc)?;
-    let problem = lower(alloc, &model, 1)?;
-    let relations = problem.relations();
-    let mut same = relations.len() == names.len();
-    for (relation, name) in relations.iter().zip(names) {
-        same = same && relation.name.text() == *name;
+// The names of the relations of a model, where it has a problem.
+fn names(alloc: Global, text: &str) -> Result<String, Fail> {
+    match lowered(alloc, text, 1, None)? {
+        Ok(problem) => Ok(names_of(alloc, &problem)?),
+        Err(_) => Err("no problem")?,
     }
-    Ok(same)
 }
 
 // one atom of each signature, the first of which leads to the second
 #[test]
 fn a_function(rt: HostRuntime) -> Result<(), Fail> {
-    assert_eq!(rt; counted(rt.alloc()), Ok(2));
-    Ok(())
+    counts(&rt, rt.alloc(), &[(CALLING, 2)])
 }
 
 #[test]
-fn names(rt: HostRuntime) -> Result<(), Fail> {
-    assert_eq!(rt; has_names(rt.alloc(), &["A", "B", "A.f", "B.f"]), Ok(true));
+fn fields_of_one_name(rt: HostRuntime) -> Result<(), Fail> {
+    let names = names(rt.alloc(), CALLING)?;
+    assert_eq!(rt; names.as_str(), "A B A.f B.f ");
     Ok(())
 }

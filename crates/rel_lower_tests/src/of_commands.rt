@@ -1,43 +1,35 @@
 // That commands ask for what they run, or against what they check.
-use crate::commands::model;
-use crate::instances::instances;
+use crate::counting::counted;
+use crate::lowered::refusal;
 use lowering_rules::LowerFault;
-use rel_lower::lower;
-use std::alloc::Global;
 use std::test::Fail;
 
-// How many instances the problem of the command of that number has.
-fn counted(alloc: Global, command: u32) -> Result<u32, LowerFault> {
-    let model = model(alloc)?;
-    let problem = lower(alloc, &model, command)?;
-    instances(alloc, &problem)
-}
+const COMMANDS: &str =
+    "sig A {} pred p [x, y: A] { x != y } assert n { no A } run p for 2 check n for 2 run { all a, b, c, d: A | some A } for 32";
 
-// `run p for 2`, where two atoms differ
+// `run p for 2`, where two atoms differ, and `check n for 2`, where there is an atom
 #[test]
-fn a_predicate(rt: HostRuntime) -> Result<(), Fail> {
-    assert_eq!(rt; counted(rt.alloc(), 1), Ok(1));
-    Ok(())
-}
-
-// `check n for 2`, where there is an atom
-#[test]
-fn a_negated_assertion(rt: HostRuntime) -> Result<(), Fail> {
-    assert_eq!(rt; counted(rt.alloc(), 2), Ok(3));
+fn a_predicate_and_a_negated_assertion(rt: HostRuntime) -> Result<(), Fail> {
+    for (command, expected) in [(1, 1), (2, 3)] {
+        let count = counted(rt.alloc(), COMMANDS, command, None)?;
+        assert_eq!(rt; count, expected);
+    }
     Ok(())
 }
 
 // 32 * 32 * 32 * 32 atoms of four variables
 #[test]
 fn too_many_terms(rt: HostRuntime) -> Result<(), Fail> {
-    assert_eq!(rt; counted(rt.alloc(), 3), Err(LowerFault::TooManyTerms));
+    let fault = refusal(rt.alloc(), COMMANDS, 3, None)?;
+    assert_eq!(rt; fault, Some(LowerFault::TooManyTerms));
     Ok(())
 }
 
 #[test]
 fn no_command(rt: HostRuntime) -> Result<(), Fail> {
     for number in [0, 4, u32::MAX] {
-        assert_eq!(rt; counted(rt.alloc(), number), Err(LowerFault::NoCommand));
+        let fault = refusal(rt.alloc(), COMMANDS, number, None)?;
+        assert_eq!(rt; fault, Some(LowerFault::NoCommand));
     }
     Ok(())
 }

@@ -1,180 +1,195 @@
 // That signatures mean what their words and sizes say: the instances of small models, counted.
-use crate::instances::instances;
-use crate::many;
-use crate::samples::{Sample, model};
-use alloy_syntax::tree::{Manner, Multiplicity};
+use crate::counting::counted;
+use crate::lowered::refusal;
 use lowering_rules::LowerFault;
 use named_model::NameFault;
-use rel_lower::{lower, lower_with};
-use std::alloc::Global;
+use std::alloc::{AllocError, Global};
+use std::process::Abort;
 use std::test::Fail;
 
-// How many instances there are without facts.
-fn counted(alloc: Global, sample: Sample) -> Result<u32, LowerFault> {
-    let model = model(alloc, sample)?;
-    let problem = lower_with(alloc, &model, 1, &[])?;
-    instances(alloc, &problem)
+const EXTENDED: &str = "abstract sig A {} one sig B extends A {} sig C extends A {}";
+
+const TOO_LARGE: LowerFault = LowerFault::Scope(NameFault::ScopeTooLarge);
+
+// Some facts, and a command under that scope, behind these signatures.
+fn with_facts(alloc: Global, signatures: &str, scope: &str) -> Result<String, AllocError> {
+    let mut text = String::from_str(alloc, signatures)?;
+    text.push_str(" fact { some A } fact { lone A } fact { no B } run {} ")?;
+    text.push_str(scope)?;
+    Ok(text)
 }
 
-// `MARK sig B, C {}` beside `sig A {}`: two places each, or one
+// How many instances there are without the facts.
+fn counted_without(alloc: Global, signatures: &str, scope: &str) -> Result<u32, Fail> {
+    let text = with_facts(alloc, signatures, scope)?;
+    counted(alloc, &text, 1, Some(&[]))
+}
+
+// Whether each of these rows of signatures has so many instances under that scope.
+fn counts(rt: &impl Abort, alloc: Global, scope: &str, rows: &[(&str, u32)]) -> Result<(), Fail> {
+    for (signatures, expected) in rows {
+        let count = counted_without(alloc, signatures, scope)?;
+        assert_eq!(rt; count, *expected, "{signatures}");
+    }
+    Ok(())
+}
+
+// two places each, or one
 #[test]
 fn words(rt: HostRuntime) -> Result<(), Fail> {
-    for (others, expected) in [
-        (None, 4 * 4 * 4),
-        (Some(Multiplicity::One), 4),
-        (Some(Multiplicity::Lone), 4 * 2 * 2),
-        (Some(Multiplicity::Some), 4 * 3 * 3),
-    ] {
-        let sample = Sample {
-            others,
-            ..Sample::plain()
-        };
-        assert_eq!(rt; counted(rt.alloc(), sample), Ok(expected));
-    }
-    Ok(())
+    counts(
+        &rt,
+        rt.alloc(),
+        "for 2",
+        &[
+            ("sig A {} sig B, C {}", 4 * 4 * 4),
+            ("sig A {} one sig B, C {}", 4),
+            ("sig A {} lone sig B, C {}", 4 * 2 * 2),
+            ("sig A {} some sig B, C {}", 4 * 3 * 3),
+        ],
+    )
 }
 
-// `MARK sig B, C {}` for 2 but 1 B
 #[test]
 fn words_under_a_scope(rt: HostRuntime) -> Result<(), Fail> {
-    for (others, expected) in [
-        (None, 4 * 2 * 4),
-        (Some(Multiplicity::One), 4),
-        (Some(Multiplicity::Lone), 4 * 2 * 2),
-        (Some(Multiplicity::Some), 4 * 1 * 3),
-    ] {
-        let sample = Sample {
-            others,
-            listed: Some((false, 1)),
-            ..Sample::plain()
-        };
-        assert_eq!(rt; counted(rt.alloc(), sample), Ok(expected));
-    }
-    Ok(())
+    counts(
+        &rt,
+        rt.alloc(),
+        "for 2 but 1 B",
+        &[
+            ("sig A {} sig B, C {}", 4 * 2 * 4),
+            ("sig A {} one sig B, C {}", 4),
+            ("sig A {} lone sig B, C {}", 4 * 2 * 2),
+            ("sig A {} some sig B, C {}", 4 * 1 * 3),
+        ],
+    )
 }
 
-// `MARK sig B, C {}` for 2 but exactly 2 B
 #[test]
 fn words_under_an_exact_scope(rt: HostRuntime) -> Result<(), Fail> {
-    for (others, expected) in [
-        (None, 4 * 1 * 4),
-        (Some(Multiplicity::One), 0),
-        (Some(Multiplicity::Lone), 0),
-        (Some(Multiplicity::Some), 4 * 1 * 3),
-    ] {
-        let sample = Sample {
-            others,
-            listed: Some((true, 2)),
-            ..Sample::plain()
-        };
-        assert_eq!(rt; counted(rt.alloc(), sample), Ok(expected));
-    }
-    Ok(())
+    counts(
+        &rt,
+        rt.alloc(),
+        "for 2 but exactly 2 B",
+        &[
+            ("sig A {} sig B, C {}", 4 * 1 * 4),
+            ("sig A {} one sig B, C {}", 0),
+            ("sig A {} lone sig B, C {}", 0),
+            ("sig A {} some sig B, C {}", 4 * 1 * 3),
+        ],
+    )
 }
 
-// `sig B, C extends A {}` and `sig B, C in A {}`: each place is no atom, or one of A, of B and of C as they allow
+// each place is no atom, or one of A, of B and of C as they allow
 #[test]
 fn parents(rt: HostRuntime) -> Result<(), Fail> {
-    for (manner, is_abstract, expected) in [
-        (Manner::Extends, false, 4 * 4),
-        (Manner::Extends, true, 3 * 3),
-        (Manner::In, false, 5 * 5),
-        (Manner::In, true, 5 * 5),
-    ] {
-        let sample = Sample {
-            manner: Some(manner),
-            is_abstract,
-            ..Sample::plain()
-        };
-        assert_eq!(rt; counted(rt.alloc(), sample), Ok(expected));
-    }
-    Ok(())
+    counts(
+        &rt,
+        rt.alloc(),
+        "for 2",
+        &[
+            ("sig A {} sig B, C extends A {}", 4 * 4),
+            ("abstract sig A {} sig B, C extends A {}", 3 * 3),
+            ("sig A {} sig B, C in A {}", 5 * 5),
+            ("abstract sig A {} sig B, C in A {}", 5 * 5),
+        ],
+    )
 }
 
-// `MARK sig B, C extends A {}`
 #[test]
 fn words_below_a_parent(rt: HostRuntime) -> Result<(), Fail> {
-    for (others, expected) in [
-        (Some(Multiplicity::One), 2),
-        (Some(Multiplicity::Lone), 4 + 2 * 4 + 2),
-        (Some(Multiplicity::Some), 2),
-    ] {
-        let sample = Sample {
-            others,
-            manner: Some(Manner::Extends),
-            ..Sample::plain()
-        };
-        assert_eq!(rt; counted(rt.alloc(), sample), Ok(expected));
-    }
-    Ok(())
+    counts(
+        &rt,
+        rt.alloc(),
+        "for 2",
+        &[
+            ("sig A {} one sig B, C extends A {}", 2),
+            ("sig A {} lone sig B, C extends A {}", 4 + 2 * 4 + 2),
+            ("sig A {} some sig B, C extends A {}", 2),
+        ],
+    )
 }
 
-// `sig B, C in A {}` for 2 but 1 B, and but exactly 1 B
 #[test]
 fn sizes_below_a_parent(rt: HostRuntime) -> Result<(), Fail> {
-    for (exactly, expected) in [(false, 3 * 3 + 2 * 2 * 3), (true, 2 * 2 * 3)] {
-        let sample = Sample {
-            manner: Some(Manner::In),
-            listed: Some((exactly, 1)),
-            ..Sample::plain()
-        };
-        assert_eq!(rt; counted(rt.alloc(), sample), Ok(expected));
+    for (scope, expected) in [
+        ("for 2 but 1 B", 3 * 3 + 2 * 2 * 3),
+        ("for 2 but exactly 1 B", 2 * 2 * 3),
+    ] {
+        let count = counted_without(rt.alloc(), "sig A {} sig B, C in A {}", scope)?;
+        assert_eq!(rt; count, expected);
     }
     Ok(())
 }
 
-// `abstract sig A {} one sig B, C extends A {}` for 1: two places of A
+// two places of A
 #[test]
 fn sums_of_extensions(rt: HostRuntime) -> Result<(), Fail> {
-    let sample = Sample {
-        is_abstract: true,
-        others: Some(Multiplicity::One),
-        manner: Some(Manner::Extends),
-        default: Some(1),
-        ..Sample::plain()
-    };
-    assert_eq!(rt; counted(rt.alloc(), sample), Ok(2));
+    counts(
+        &rt,
+        rt.alloc(),
+        "for 1",
+        &[("abstract sig A {} one sig B, C extends A {}", 2)],
+    )
+}
+
+#[test]
+fn words_of_the_first(rt: HostRuntime) -> Result<(), Fail> {
+    counts(
+        &rt,
+        rt.alloc(),
+        "for 2",
+        &[
+            ("one sig A {} sig B, C {}", 4 * 4),
+            ("some sig A {} sig B, C {}", 3 * 4 * 4),
+        ],
+    )
+}
+
+#[test]
+fn no_scope(rt: HostRuntime) -> Result<(), Fail> {
+    let text = with_facts(rt.alloc(), "sig A {} sig B, C {}", "for 2 B")?;
+    let fault = refusal(rt.alloc(), &text, 1, Some(&[]))?;
+    assert_eq!(rt; fault, Some(LowerFault::Scope(NameFault::NoScope)));
     Ok(())
 }
 
-// `one sig A {}`, and `some sig A {}`
+// `sig A, AA, AAA, .. {} run {} for 0`, with so many signatures
+fn many(alloc: Global, count: usize) -> Result<String, AllocError> {
+    let mut text = String::from_str(alloc, "sig ")?;
+    for number in 0..count {
+        if number > 0 {
+            text.push_str(", ")?;
+        }
+        for _letter in 0..number + 1 {
+            text.push_str("A")?;
+        }
+    }
+    text.push_str(" {} run {} for 0")?;
+    Ok(text)
+}
+
 #[test]
-fn words_of_the_first(rt: HostRuntime) -> Result<(), Fail> {
-    for (first, expected) in [
-        (Some(Multiplicity::One), 4 * 4),
-        (Some(Multiplicity::Some), 3 * 4 * 4),
-    ] {
-        let sample = Sample {
-            first,
-            ..Sample::plain()
-        };
-        assert_eq!(rt; counted(rt.alloc(), sample), Ok(expected));
+fn too_many_relations(rt: HostRuntime) -> Result<(), Fail> {
+    for (count, expected) in [(128, None), (129, Some(LowerFault::TooManyRelations))] {
+        let text = many(rt.alloc(), count)?;
+        let fault = refusal(rt.alloc(), &text, 1, None)?;
+        assert_eq!(rt; fault, expected);
     }
     Ok(())
 }
 
-// for 2 B
+// an abstract signature has the places of its extensions, of which there are at most 32
 #[test]
-fn no_scope(rt: HostRuntime) -> Result<(), Fail> {
-    let sample = Sample {
-        default: None,
-        listed: Some((false, 2)),
-        ..Sample::plain()
-    };
-    assert_eq!(rt;
-        counted(rt.alloc(), sample),
-        Err(LowerFault::Scope(NameFault::NoScope))
-    );
-    Ok(())
-}
-
-// `sig A, AA, AAA, .. {}`, 129 of them without atoms
-#[test]
-fn too_many_relations(rt: HostRuntime) -> Result<(), Fail> {
-    let model = many::model(rt.alloc())?;
-    assert_eq!(rt;
-        lower(rt.alloc(), &model, 1).err(),
-        Some(LowerFault::TooManyRelations)
-    );
+fn too_large_a_scope(rt: HostRuntime) -> Result<(), Fail> {
+    for (scope, expected) in [
+        ("for 1 but 31 C", None),
+        ("for 1 but 32 C", Some(TOO_LARGE)),
+        ("for 33 but 2 C", Some(TOO_LARGE)),
+    ] {
+        let text = with_facts(rt.alloc(), EXTENDED, scope)?;
+        let fault = refusal(rt.alloc(), &text, 1, None)?;
+        assert_eq!(rt; fault, expected, "{scope}");
+    }
     Ok(())
 }

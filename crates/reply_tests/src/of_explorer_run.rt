@@ -8,7 +8,7 @@ use explorer_run::serve;
 use refutation_check::Log;
 use rel_formula::{Expression, Formula, Scenario};
 use sample_problems::set_of;
-use sample_translations::translation_of;
+use samples::sample_translations::translation_of;
 use session_rules::{Reply, Transcript};
 use session_words::{AtomName, AtomNames, Command, Step};
 use std::alloc::{AllocError, Global};

@@ -3,14 +3,14 @@ ghost use Rattle.std.specs.Prelude.{[], All, IfOk};
 ghost use Rattle.rel_formula.specs.Instance.{AreCells};
 ghost use Rattle.session_rules.specs.Proofs.{Proves};
 
-use proof_lines::laws::covered_scenarios_are_cells;
-use proof_lines::text_of_proof;
 use refutation_check::{Log, Scratch, Verdict, check, read_proof};
 use rel_formula::{Expression, Formula, Scenario};
 use sample_problems::set_of;
-use sample_translations::translation_of;
-use search_rounds::{Found, Leaning, NextAt, next_at};
+use samples::sample_translations::translation_of;
+use script_text::proof_lines::laws::covered_scenarios_are_cells;
+use script_text::proof_lines::text_of_proof;
 use session_rules::{EndProof, ProofKind};
+use session_state::search_rounds::{Found, Leaning, NextAt, next_at};
 use std::alloc::Global;
 use std::test::Fail;
 use translation::Translation;

@@ -1,7 +1,7 @@
 // Texts of sessions, as they are worked out by hand.
 use rel_formula::{Expression, Formula, Scenario};
 use sample_problems::set_of;
-use sample_translations::translation_of;
+use samples::sample_translations::translation_of;
 use script_text::session_text;
 use session_rules::{Replies, Reply, Scenarios, Transcript};
 use std::alloc::{AllocError, Global};

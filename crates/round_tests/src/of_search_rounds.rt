@@ -6,13 +6,13 @@ ghost use Rattle.swap_symmetry.specs.Due.{IsDue};
 ghost use Rattle.session_rules.specs.Proofs.{IsCopy};
 
 use cnf_core::{Clause, Cnf};
-use exhaustive_search::all_due;
 use refutation_check::{Log, Part, Scratch, Verdict, check};
 use rel_formula::Scenario;
 use sample_problems::{bits_of, scenario_of};
-use sample_translations::translated_sets;
-use search_rounds::{Found, Leaning, NextAt, locals_of, next_at};
+use samples::exhaustive_search::all_due;
+use samples::sample_translations::translated_sets;
 use session_rules::EndProof;
+use session_state::search_rounds::{Found, Leaning, NextAt, locals_of, next_at};
 use std::alloc::{AllocError, Global};
 use std::process::Abort;
 use std::test::Fail;

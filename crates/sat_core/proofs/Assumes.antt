@@ -12,9 +12,9 @@ use Rattle.cnf_core.specs.Literal.{negation_of}
 use Rattle.refutation_check.specs.Chain.{IsFalsified, IsUnit, Refutes, Forces}
 use Rattle.refutation_check.specs.Assumed.{IsOpen}
 use Rattle.refutation_check.proofs.Chains.{names_all}
-use Rattle.assignment_trail.specs.declared.assigned.Assigned.{Assigned}
-use Rattle.assignment_trail.specs.Trail.{IsTrail, ForcesMore, falses_of, level_of}
-use Rattle.assignment_trail.proofs.Trails.{each_push, each_cut, falses_of-push, level_before, level_of_take, placed_level, from_falses, false_from, from_front, vars_differ}
+use Rattle.unit_propagation.specs.declared.assignment_trail.assigned.Assigned.{Assigned}
+use Rattle.unit_propagation.specs.Assignments.Trail.{IsTrail, ForcesMore, falses_of, level_of}
+use Rattle.unit_propagation.proofs.Assignments.Trails.{each_push, each_cut, falses_of-push, level_before, level_of_take, placed_level, from_falses, false_from, from_front, vars_differ}
 use Rattle.sat_trail.specs.Closed.{IsClosed}
 use Rattle.sat_core.specs.Assuming.{AreTrue, IsAssumedFirst, IsClash}
 use Rattle.sat_trail.proofs.Waiting.{contains_or_not}

@@ -13,13 +13,13 @@ use Rattle.refutation_check.specs.Chain.{IsFalsified, IsUnit, Refutes, Forces, R
 use Rattle.refutation_check.proofs.Chains.{names_all, names_one}
 use Rattle.refutation_check.proofs.Entailment.{lit_equal_or_not, false_clause}
 use Rattle.refutation_check.proofs.Sights.{lit_equal}
-use Rattle.assignment_trail.specs.declared.assigned.Assigned.{Assigned}
-use Rattle.assignment_trail.specs.Trail.{IsTrail, falses_of, level_of}
+use Rattle.unit_propagation.specs.declared.assignment_trail.assigned.Assigned.{Assigned}
+use Rattle.unit_propagation.specs.Assignments.Trail.{IsTrail, falses_of, level_of}
 use Rattle.sat_trail.specs.Trailed.{IsValue}
 use Rattle.sat_trail.specs.Closed.{IsClosed}
 use Rattle.sat_trail.specs.Learnt.{IsFlat, IsAbove}
 use Rattle.sat_trail.proofs.Waiting.{contains_or_not}
-use Rattle.assignment_trail.proofs.Trails.{level_before, from_front, vars_differ}
+use Rattle.unit_propagation.proofs.Assignments.Trails.{level_before, from_front, vars_differ}
 use Rattle.sat_core.specs.Answers.{IsModel}
 use Rattle.sat_core.specs.Search.{AreValues}
 

@@ -4,3 +4,4 @@ pub mod Stops
 pub mod SearchClauses
 pub mod Numbers
 pub mod Searches
+pub mod Limits

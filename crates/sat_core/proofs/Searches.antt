@@ -15,9 +15,9 @@ use Rattle.refutation_check.specs.Chain.{Names, IsFalsified, IsUnit, Refutes, Is
 use Rattle.refutation_check.specs.SearchLog.{IsSearchLog, IsVarOf, HasNoEmpty, HasVarsOf, IsAllNovel, IsNovelButLast}
 use Rattle.refutation_check.proofs.Entailment.{each_entailed, no_valuation}
 use Rattle.refutation_check.proofs.Renumbered.{chain_renumbered}
-use Rattle.assignment_trail.specs.declared.assigned.Assigned.{Assigned}
-use Rattle.assignment_trail.specs.Trail.{IsTrail, IsBackTo, falses_of}
-use Rattle.assignment_trail.proofs.Trails.{All-front, IsTrail-cut, in_falses}
+use Rattle.unit_propagation.specs.declared.assignment_trail.assigned.Assigned.{Assigned}
+use Rattle.unit_propagation.specs.Assignments.Trail.{IsTrail, IsBackTo, falses_of}
+use Rattle.unit_propagation.proofs.Assignments.Trails.{All-front, IsTrail-cut, in_falses}
 use Rattle.sat_trail.specs.Trailed.{Trailed}
 use Rattle.sat_trail.specs.Learnt.{IsFlat, IsAbove, IsAsserting}
 use Rattle.sat_trail.specs.Closed.{IsClosed, IsClosedBelow}

@@ -10,13 +10,13 @@ use Rattle.cnf_core.specs.Literal.{negation_of}
 use Rattle.refutation_check.specs.Chain.{Refutes}
 use Rattle.refutation_check.specs.Assumed.{IsOpen}
 use Rattle.refutation_check.proofs.Sights.{lit_equal}
-use Rattle.assignment_trail.specs.declared.assigned.Assigned.{Assigned}
-use Rattle.assignment_trail.specs.Trail.{IsTrail, ForcesMore, falses_of, level_of}
+use Rattle.unit_propagation.specs.declared.assignment_trail.assigned.Assigned.{Assigned}
+use Rattle.unit_propagation.specs.Assignments.Trail.{IsTrail, ForcesMore, falses_of, level_of}
 use Rattle.sat_trail.specs.Trailed.{Trailed, IsValue}
 use Rattle.sat_trail.specs.Closed.{IsClosed, IsClosedBelow}
 use Rattle.sat_core.specs.Assuming.{AreTrue, IsAssumedFirst, IsClash}
 use Rattle.sat_core.specs.Search.{IsStuck, IsAssumedTo}
-use Rattle.assignment_trail.proofs.Trails.{falses_of-push, level_of-push}
+use Rattle.unit_propagation.proofs.Assignments.Trails.{falses_of-push, level_of-push}
 use Rattle.sat_core.proofs.Assumes.{decisions_forced, decisions_more, decision_above, first_forced, first_more, first_lowered, assumed_up_to, assumed_while, assumed_more, clash_of_clause, clash_of_literal, consistent, true_forced, true_more}
 
 -- what propagation forces after a trail that was closed before each decision

@@ -1,3 +1,4 @@
 pub mod Answers
 pub mod Assuming
 pub mod Search
+pub mod Limits

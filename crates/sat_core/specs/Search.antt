@@ -5,7 +5,7 @@ use Rattle.cnf_core.specs.Literal.{HasVarsUpTo, IsClause}
 use Rattle.refutation_check.specs.declared.log.Step.{Step}
 use Rattle.refutation_check.specs.Chain.{members_of, IsAccepted, IsChain, IsNovel, Refutes}
 use Rattle.refutation_check.specs.SearchLog.{IsVarOf, HasVarsOf, HasNoEmpty, IsAllNovel}
-use Rattle.assignment_trail.specs.Trail.{IsTrail, falses_of}
+use Rattle.unit_propagation.specs.Assignments.Trail.{IsTrail, falses_of}
 use Rattle.sat_trail.specs.Trailed.{Trailed}
 use Rattle.sat_trail.specs.Closed.{IsClosed, IsClosedBelow}
 use Rattle.sat_trail.specs.Deciding.{HasAllValues}

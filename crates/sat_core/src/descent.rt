@@ -1,6 +1,6 @@
 // Decisions, down to a valuation or a conflict.
 ghost use Rattle.std.specs.Prelude.{◌≡◌, ◌+◌, ◌<◌, All, MatchBool, MatchOption, IfOk, length};
-ghost use Rattle.assignment_trail.specs.Trail.{IsTrail, falses_of};
+ghost use Rattle.unit_propagation.specs.Assignments.Trail.{IsTrail, falses_of};
 ghost use Rattle.sat_trail.specs.Closed.{IsClosedBelow};
 ghost use Rattle.sat_core.specs.Assuming.{AreTrue, IsAssumedFirst, IsClash};
 ghost use Rattle.sat_core.specs.Search.{AreValues, IsDeadEnd, IsAssumedTo, IsFull, IsVarIn};

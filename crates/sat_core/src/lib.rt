@@ -1,9 +1,11 @@
-//! The search for a valuation, with a log of what was learnt on the way.
+//! The search for a valuation of clauses, with a log of what was learnt on the way: a valuation, a refutation, or a
+//! spent budget. The module `search_limits` has the laws of how many steps a search can take.
 #![tactic(auto)]
 
 mod descent;
 mod locals;
 mod search;
+pub mod search_limits;
 
 pub use crate::search::{Answer, solve, solve_from, solve_towards};
 pub use sat_trail::{Leaning, Trail};

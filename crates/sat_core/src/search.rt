@@ -3,7 +3,7 @@ ghost use Rattle.std.specs.Prelude.{◌≡◌, ◌+◌, ◌≤◌, ◌<◌, ◌^
 ghost use Rattle.cnf_core.specs.Literal.{HasVarsUpTo, IsVariable};
 ghost use Rattle.refutation_check.specs.Chain.{members_of, IsAccepted, IsChain, Refutes};
 ghost use Rattle.refutation_check.specs.SearchLog.{IsSearchLog, HasVarsOf};
-ghost use Rattle.assignment_trail.specs.Trail.{falses_of};
+ghost use Rattle.unit_propagation.specs.Assignments.Trail.{falses_of};
 ghost use Rattle.sat_trail.specs.Trailed.{IsBase};
 ghost use Rattle.sat_trail.specs.Closed.{IsClosed, IsClosedBelow};
 ghost use Rattle.sat_core.specs.Answers.{log_of, leaned_behind, HasEmptyOnlyLast, HasFewValues, IsRight, NamesNoUnits};

@@ -6,9 +6,9 @@ use Rattle.std.proofs.lemmas.List.Elements.{All-contains, All-push}
 use Rattle.std.specs.List.{Contains}
 use Rattle.cnf_core.specs.declared.literal.Lit.{Lit}
 use Rattle.cnf_core.specs.Literal.{negation_of}
-use Rattle.assignment_trail.specs.declared.assigned.Assigned.{Assigned}
-use Rattle.assignment_trail.specs.Trail.{IsBackTo, IsTrail, falses_of, level_of}
-use Rattle.assignment_trail.proofs.Trails.{IsTrail-cut, from_front, level_before, level_rises, vars_differ}
+use Rattle.unit_propagation.specs.declared.assignment_trail.assigned.Assigned.{Assigned}
+use Rattle.unit_propagation.specs.Assignments.Trail.{IsBackTo, IsTrail, falses_of, level_of}
+use Rattle.unit_propagation.proofs.Assignments.Trails.{IsTrail-cut, from_front, level_before, level_rises, vars_differ}
 use Rattle.sat_trail.specs.Closed.{IsClosedBelow}
 use Rattle.sat_trail.specs.Learnt.{IsAsserting, IsBackLevel}
 use Rattle.sat_trail.specs.Levels.{IsHighestBelow}

@@ -4,16 +4,16 @@ use Rattle.std.proofs.lemmas.List.Elements.{All-contains}
 use Rattle.std.specs.List.{Contains, slice_get}
 use Rattle.cnf_core.specs.declared.literal.Lit.{Lit}
 use Rattle.cnf_core.specs.Literal.{IsClause, IsVariable, HasVarsUpTo}
-use Rattle.clause_store.specs.Codes.{literals_of}
-use Rattle.watch_lists.specs.WatchState.{WatchState}
+use Rattle.unit_propagation.specs.Clauses.Codes.{literals_of}
+use Rattle.unit_propagation.specs.Watches.WatchState.{WatchState}
 use Rattle.refutation_check.specs.Chain.{IsFalsified, IsUnit, Refutes}
-use Rattle.assignment_trail.specs.declared.assigned.Assigned.{Assigned}
-use Rattle.assignment_trail.specs.AssignmentState.{AssignmentState}
-use Rattle.assignment_trail.specs.Trail.{IsPlaced, IsVarUpTo, falses_of, level_of}
-use Rattle.watched_literals.specs.PendingState.{IsMarkList}
-use Rattle.watched_literals.specs.Walk.{IsReady}
-use Rattle.watched_literals.proofs.MarkLists.{marked_in}
-use Rattle.watched_literals.proofs.Slots.{clause_is}
+use Rattle.unit_propagation.specs.declared.assignment_trail.assigned.Assigned.{Assigned}
+use Rattle.unit_propagation.specs.Assignments.AssignmentState.{AssignmentState}
+use Rattle.unit_propagation.specs.Assignments.Trail.{IsPlaced, IsVarUpTo, falses_of, level_of}
+use Rattle.unit_propagation.specs.Propagation.PendingState.{IsMarkList}
+use Rattle.unit_propagation.specs.Propagation.Walk.{IsReady}
+use Rattle.unit_propagation.proofs.Propagation.MarkLists.{marked_in}
+use Rattle.unit_propagation.proofs.Propagation.Slots.{clause_is}
 use Rattle.sat_trail.specs.Rounds.{IsQuiet, IsFollowed}
 
 module _ (clauses : List (List Lit)) (w : WatchState) (vars : ℕ) (assigned : List Assigned) (flags : List Bool) (drawn n : ℕ) (codes : List ℕ) (was : IsReady clauses w (record { vars = vars; assigned = assigned }) flags drawn) (each : All IsClause clauses) (in' : n < length clauses) (named : slice_get clauses ((n + 1) - 1) ≡ Some (literals_of codes)) where

@@ -12,13 +12,13 @@ use Rattle.refutation_check.specs.Chain.{IsUnit, Names, Refutes, Forces, IsChain
 use Rattle.cnf_core.proofs.Literals.{not_itself}
 use Rattle.refutation_check.proofs.Chains.{names_one}
 use Rattle.refutation_check.specs.SearchLog.{IsVarOf}
-use Rattle.assignment_trail.specs.declared.assigned.Assigned.{Assigned}
+use Rattle.unit_propagation.specs.declared.assignment_trail.assigned.Assigned.{Assigned}
 use Rattle.refutation_check.specs.Assumed.{IsOpen}
-use Rattle.assignment_trail.specs.Trail.{falses_of, level_of, IsPlaced, IsTrail, IsVarUpTo}
+use Rattle.unit_propagation.specs.Assignments.Trail.{falses_of, level_of, IsPlaced, IsTrail, IsVarUpTo}
 use Rattle.sat_trail.specs.Closed.{IsClosedBelow}
 use Rattle.sat_trail.specs.Learnt.{IsAbove, IsAsserting, IsFlat}
 use Rattle.sat_trail.specs.Learning.{IsMarked, Learning, Marking, IsHigh, IsPointed, IsResolved}
-use Rattle.assignment_trail.proofs.Trails.{placed_level, level_of_take, from_falses, in_front, from_front, front_more, vars_differ, level_before, level_rises}
+use Rattle.unit_propagation.proofs.Assignments.Trails.{placed_level, level_of_take, from_falses, in_front, from_front, front_more, vars_differ, level_before, level_rises}
 
 pub named_in : (clauses : List (List Lit)) (number : ℕ) (c : List Lit) → Names clauses number c → number ≤ length clauses
 named_in clauses number c named =

@@ -7,7 +7,7 @@ use Rattle.cnf_core.specs.declared.literal.Lit.{Lit}
 use Rattle.cnf_core.specs.Literal.{HasVarsUpTo, IsClause}
 use Rattle.refutation_check.specs.declared.log.Step.{Step}
 use Rattle.refutation_check.specs.Chain.{members_of}
-use Rattle.assignment_trail.proofs.Trails.{All-front}
+use Rattle.unit_propagation.proofs.Assignments.Trails.{All-front}
 use Rattle.sat_trail.specs.Trailed.{IsVarLimit}
 
 pub vars_weaker : (v w : ℕ) (lits : List Lit) → v ≤ w → HasVarsUpTo v lits → HasVarsUpTo w lits

@@ -6,16 +6,16 @@ use Rattle.std.proofs.lemmas.List.Elements.{All-push}
 use Rattle.std.specs.List.{Contains}
 use Rattle.cnf_core.specs.declared.literal.Lit.{Lit}
 use Rattle.cnf_core.specs.Literal.{negation_of, HasVarsUpTo}
-use Rattle.clause_store.specs.Codes.{literal_of}
-use Rattle.watch_lists.specs.WatchState.{WatchState, with_slot}
-use Rattle.assignment_trail.specs.declared.assigned.Assigned.{Assigned}
-use Rattle.assignment_trail.specs.AssignmentState.{AssignmentState}
-use Rattle.assignment_trail.specs.Trail.{IsPlaced}
-use Rattle.assignment_trail.proofs.Trails.{IsTrail-push, IsTrail-clause}
-use Rattle.watched_literals.specs.Rule.{twin, watched, IsMarked, IsCovered, IsRightAt, IsShort, IsWatching}
-use Rattle.watched_literals.specs.Walk.{IsReady}
-use Rattle.watched_literals.proofs.Keeping.{right_push, right_mark, marked_more}
-use Rattle.watched_literals.proofs.Slots.{twin_is}
+use Rattle.unit_propagation.specs.Clauses.Codes.{literal_of}
+use Rattle.unit_propagation.specs.Watches.WatchState.{WatchState, with_slot}
+use Rattle.unit_propagation.specs.declared.assignment_trail.assigned.Assigned.{Assigned}
+use Rattle.unit_propagation.specs.Assignments.AssignmentState.{AssignmentState}
+use Rattle.unit_propagation.specs.Assignments.Trail.{IsPlaced}
+use Rattle.unit_propagation.proofs.Assignments.Trails.{IsTrail-push, IsTrail-clause}
+use Rattle.unit_propagation.specs.Propagation.Rule.{twin, watched, IsMarked, IsCovered, IsRightAt, IsShort, IsWatching}
+use Rattle.unit_propagation.specs.Propagation.Walk.{IsReady}
+use Rattle.unit_propagation.proofs.Propagation.Keeping.{right_push, right_mark, marked_more}
+use Rattle.unit_propagation.proofs.Propagation.Slots.{twin_is}
 use Rattle.sat_trail.specs.Settling.{IsSettled}
 
 -- one more literal is true

@@ -3,10 +3,10 @@ use Rattle.std.proofs.Common.{◌≡◌, ◌<◌, ◌≤◌, ◌/◌, ℕ, List,
 use Rattle.std.specs.List.{Contains}
 use Rattle.cnf_core.specs.declared.literal.Lit.{Lit}
 use Rattle.cnf_core.specs.Literal.{negation_of}
-use Rattle.clause_store.specs.Codes.{literal_of}
-use Rattle.assignment_trail.specs.declared.assigned.Assigned.{Assigned}
-use Rattle.assignment_trail.specs.Trail.{falses_of}
-use Rattle.assignment_trail.proofs.Trails.{neg_neg, false_from, from_falses}
+use Rattle.unit_propagation.specs.Clauses.Codes.{literal_of}
+use Rattle.unit_propagation.specs.declared.assignment_trail.assigned.Assigned.{Assigned}
+use Rattle.unit_propagation.specs.Assignments.Trail.{falses_of}
+use Rattle.unit_propagation.proofs.Assignments.Trails.{neg_neg, false_from, from_falses}
 use Rattle.sat_trail.specs.Settling.{IsHeldUp}
 
 -- a literal that is not false

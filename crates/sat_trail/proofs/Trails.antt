@@ -6,14 +6,14 @@ use Rattle.std.proofs.lemmas.Option.{get_or_from_slice_get}
 use Rattle.std.specs.List.{Contains, slice_get}
 use Rattle.cnf_core.specs.declared.literal.Lit.{Lit}
 use Rattle.cnf_core.specs.Formula.{Formula}
-use Rattle.clause_store.specs.Codes.{literal_of}
-use Rattle.clause_store.proofs.Coded.{literal_of-code_of}
+use Rattle.unit_propagation.specs.Clauses.Codes.{literal_of}
+use Rattle.unit_propagation.proofs.Clauses.Coded.{literal_of-code_of}
 use Rattle.refutation_check.specs.declared.log.Step.{Step}
 use Rattle.refutation_check.specs.Chain.{members_of}
-use Rattle.assignment_trail.specs.declared.assigned.Assigned.{Assigned}
-use Rattle.assignment_trail.specs.AssignmentState.{IsValueOf}
-use Rattle.assignment_trail.specs.Trail.{ForcesMore}
-use Rattle.watched_literals.specs.Closed.{IsClosedBut}
+use Rattle.unit_propagation.specs.declared.assignment_trail.assigned.Assigned.{Assigned}
+use Rattle.unit_propagation.specs.Assignments.AssignmentState.{IsValueOf}
+use Rattle.unit_propagation.specs.Assignments.Trail.{ForcesMore}
+use Rattle.unit_propagation.specs.Propagation.Closed.{IsClosedBut}
 use Rattle.sat_trail.specs.Closed.{IsClosed}
 use Rattle.sat_trail.specs.Rounds.{IsQuiet, AreQuiet}
 use Rattle.sat_trail.specs.Trailed.{Trailed, IsBase, IsValue}

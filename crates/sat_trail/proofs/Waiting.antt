@@ -8,17 +8,17 @@ use Rattle.std.specs.List.{Contains, sum_by, count_by}
 use Rattle.std.specs.Option.{is_some}
 use Rattle.cnf_core.specs.declared.literal.Lit.{Lit}
 use Rattle.cnf_core.specs.Literal.{negation_of, HasVarsUpTo, IsClause}
-use Rattle.clause_store.specs.Codes.{literal_of, literals_of}
-use Rattle.clause_store.proofs.Coded.{literal_of-code_of}
+use Rattle.unit_propagation.specs.Clauses.Codes.{literal_of, literals_of}
+use Rattle.unit_propagation.proofs.Clauses.Coded.{literal_of-code_of}
 use Rattle.refutation_check.specs.Assumed.{IsOpen}
 use Rattle.refutation_check.specs.Chain.{Names, Reaches, IsChain}
 use Rattle.refutation_check.proofs.Chains.{names_all}
 use Rattle.refutation_check.proofs.Entailment.{lit_equal_or_not}
-use Rattle.activity_order.specs.OrderState.{OrderState, Waits, NoneWaits, with_waiting}
-use Rattle.assignment_trail.specs.declared.assigned.Assigned.{Assigned}
-use Rattle.assignment_trail.specs.AssignmentState.{AssignmentState, IsValueOf}
-use Rattle.assignment_trail.specs.Trail.{ForcesMore, IsBackTo, IsVarUpTo, falses_of}
-use Rattle.assignment_trail.proofs.Trails.{falses_of-push, from_falses, in_front}
+use Rattle.unit_propagation.specs.Activity.OrderState.{OrderState, Waits, NoneWaits, with_waiting}
+use Rattle.unit_propagation.specs.declared.assignment_trail.assigned.Assigned.{Assigned}
+use Rattle.unit_propagation.specs.Assignments.AssignmentState.{AssignmentState, IsValueOf}
+use Rattle.unit_propagation.specs.Assignments.Trail.{ForcesMore, IsBackTo, IsVarUpTo, falses_of}
+use Rattle.unit_propagation.proofs.Assignments.Trails.{falses_of-push, from_falses, in_front}
 use Rattle.sat_trail.specs.Deciding.{HasAllValues, IsOpenVar}
 use Rattle.sat_trail.specs.Waiting.{IsOrderOf, IsPutBack}
 use Rattle.sat_trail.proofs.Learned.{named_in}

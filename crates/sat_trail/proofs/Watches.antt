@@ -5,12 +5,12 @@ use Rattle.std.proofs.lemmas.List.Elements.{All-contains}
 use Rattle.std.specs.List.{Contains}
 use Rattle.std.specs.Prelude.{◌||◌}
 use Rattle.cnf_core.specs.declared.literal.Lit.{Lit}
-use Rattle.clause_store.specs.Codes.{literal_of, literals_of}
-use Rattle.watched_literals.specs.Rule.{IsMarked}
-use Rattle.watched_literals.specs.Walk.{IsReady}
-use Rattle.watched_literals.proofs.Keeping.{marked_more}
-use Rattle.watched_literals.proofs.MarkLists.{flag_stays}
-use Rattle.watched_literals.proofs.Slots.{literal_of-same}
+use Rattle.unit_propagation.specs.Clauses.Codes.{literal_of, literals_of}
+use Rattle.unit_propagation.specs.Propagation.Rule.{IsMarked}
+use Rattle.unit_propagation.specs.Propagation.Walk.{IsReady}
+use Rattle.unit_propagation.proofs.Propagation.Keeping.{marked_more}
+use Rattle.unit_propagation.proofs.Propagation.MarkLists.{flag_stays}
+use Rattle.unit_propagation.proofs.Propagation.Slots.{literal_of-same}
 use Rattle.sat_trail.specs.Filling.{IsPair, IsFlagged}
 
 pub Contains-literal : (codes : List ℕ) (code : ℕ) → Contains codes code → Contains (literals_of codes) (literal_of code)

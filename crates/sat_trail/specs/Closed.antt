@@ -2,10 +2,10 @@
 use Rattle.std.specs.Prelude.{◌≡◌, ◌<◌, ℕ, List, All, Contains, None, length, take, slice_index_or}
 use Rattle.cnf_core.specs.declared.literal.Lit.{Lit}
 use Rattle.refutation_check.specs.Chain.{IsFalsified, IsUnit, Refutes}
-use Rattle.assignment_trail.specs.declared.assigned.Assigned.{Assigned}
+use Rattle.unit_propagation.specs.declared.assignment_trail.assigned.Assigned.{Assigned}
 use Rattle.sat_trail.specs.declared.trail.Propagated.{Propagated}
 use Rattle.sat_trail.specs.declared.trail.Propagated.TheVariants.{Closed, Conflict}
-use Rattle.assignment_trail.specs.Trail.{falses_of}
+use Rattle.unit_propagation.specs.Assignments.Trail.{falses_of}
 use Rattle.sat_trail.specs.Trailed.{Trailed}
 
 -- no clause is falsified, and none is a unit with its literal open

@@ -2,7 +2,7 @@
 use Rattle.std.specs.Prelude.{◌++◌, ◌∷◌, [], ◌+◌, ◌≤◌, ℕ, Bool, not, false, List, Contains, None}
 use Rattle.cnf_core.specs.declared.literal.Lit.{Lit}
 use Rattle.refutation_check.specs.Assumed.{IsOpen}
-use Rattle.assignment_trail.specs.Trail.{level_of}
+use Rattle.unit_propagation.specs.Assignments.Trail.{level_of}
 use Rattle.sat_trail.specs.Trailed.{Trailed}
 
 -- each variable from 1 to this one has a value

@@ -1,6 +1,6 @@
 -- What a clause more brings.
 use Rattle.std.specs.Prelude.{◌≡◌, ◌≢◌, ◌+◌, ◌<◌, ℕ, Bool, true, List, Contains, MatchBool, length}
-use Rattle.watched_literals.specs.Rule.{IsMarked}
+use Rattle.unit_propagation.specs.Propagation.Rule.{IsMarked}
 use Rattle.sat_trail.specs.declared.filling.Pair.{Pair}
 
 -- what the slots of a clause watch: two of its literals, or no variable where it is short

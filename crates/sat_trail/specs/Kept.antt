@@ -1,7 +1,7 @@
 -- What a trail keeps: its clauses are watched by the rule of watched literals, and its open variables wait to be decided.
 use Rattle.std.specs.Prelude.{◌≡◌, length}
-use Rattle.assignment_trail.specs.Trail.{falses_of}
-use Rattle.watched_literals.specs.Walk.{IsReady}
+use Rattle.unit_propagation.specs.Assignments.Trail.{falses_of}
+use Rattle.unit_propagation.specs.Propagation.Walk.{IsReady}
 use Rattle.sat_trail.specs.Waiting.{IsOrderOf}
 use Rattle.sat_trail.specs.declared.trail.Trail.TheInside.{Inside}
 

@@ -4,8 +4,8 @@ use Rattle.cnf_core.specs.declared.literal.Lit.{Lit}
 use Rattle.cnf_core.specs.Literal.{negation_of}
 use Rattle.refutation_check.specs.Chain.{Reaches, Refutes}
 use Rattle.refutation_check.specs.SearchLog.{IsVarOf}
-use Rattle.assignment_trail.specs.declared.assigned.Assigned.{Assigned}
-use Rattle.assignment_trail.specs.Trail.{falses_of}
+use Rattle.unit_propagation.specs.declared.assignment_trail.assigned.Assigned.{Assigned}
+use Rattle.unit_propagation.specs.Assignments.Trail.{falses_of}
 use Rattle.sat_trail.specs.Learnt.{IsAbove, IsFlat}
 
 -- the variable is marked

@@ -3,7 +3,7 @@ use Rattle.std.specs.Prelude.{◌≡◌, ◌<◌, ◌≤◌, ◌⊎◌, ℕ, Lis
 use Rattle.cnf_core.specs.declared.literal.Lit.{Lit}
 use Rattle.cnf_core.specs.Literal.{negation_of}
 use Rattle.refutation_check.specs.Chain.{Names}
-use Rattle.assignment_trail.specs.declared.assigned.Assigned.{Assigned}
+use Rattle.unit_propagation.specs.declared.assignment_trail.assigned.Assigned.{Assigned}
 
 -- the conflict's clause has a literal above level 0
 pub record IsAbove (clauses : List (List Lit)) (assigned : List Assigned) (conflict : ℕ) : Type 0 where

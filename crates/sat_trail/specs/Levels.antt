@@ -1,7 +1,7 @@
 -- The levels of the literals of a clause.
 use Rattle.std.specs.Prelude.{◌≡◌, ◌<◌, ◌≤◌, ℕ, List, Contains, length, slice_index_or}
 use Rattle.cnf_core.specs.declared.literal.Lit.{Lit}
-use Rattle.assignment_trail.specs.declared.assigned.Assigned.{Assigned}
+use Rattle.unit_propagation.specs.declared.assignment_trail.assigned.Assigned.{Assigned}
 
 -- the highest level below this bound that a variable of the literals has, or 0
 pub record IsHighestBelow (assigned : List Assigned) (lits : List Lit) (below level : ℕ) : Type 0 where

@@ -2,9 +2,9 @@
 use Rattle.std.specs.Prelude.{◌≡◌, ◌+◌, ◌<◌, ◌⊎◌, ℕ, Bool, List, [], Contains, length, slice_index_or}
 use Rattle.cnf_core.specs.declared.literal.Lit.{Lit}
 use Rattle.refutation_check.specs.Chain.{IsFalsified, IsUnit, Refutes}
-use Rattle.assignment_trail.specs.AssignmentState.{AssignmentState}
-use Rattle.assignment_trail.specs.Trail.{falses_of}
-use Rattle.watched_literals.specs.Rule.{IsMarked}
+use Rattle.unit_propagation.specs.Assignments.AssignmentState.{AssignmentState}
+use Rattle.unit_propagation.specs.Assignments.Trail.{falses_of}
+use Rattle.unit_propagation.specs.Propagation.Rule.{IsMarked}
 use Rattle.sat_trail.specs.Closed.{IsClosed}
 use Rattle.sat_trail.specs.declared.rounds.Outcome.{Outcome}
 use Rattle.sat_trail.specs.declared.rounds.Outcome.TheVariants.{Conflict, Closed, Grown}

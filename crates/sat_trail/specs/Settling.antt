@@ -1,8 +1,8 @@
 -- When a clause needs no mark.
 use Rattle.std.specs.Prelude.{◌≡◌, ◌+◌, ◌*◌, ◌<◌, ◌≤◌, ℕ, List, length, slice_index_or}
 use Rattle.cnf_core.specs.Literal.{negation_of}
-use Rattle.clause_store.specs.Codes.{literal_of}
-use Rattle.assignment_trail.specs.declared.assigned.Assigned.{Assigned}
+use Rattle.unit_propagation.specs.Clauses.Codes.{literal_of}
+use Rattle.unit_propagation.specs.declared.assignment_trail.assigned.Assigned.{Assigned}
 
 -- where the one literal is false, the other is true, at no higher level
 abbrev pub IsHeldUp : List Assigned → ℕ → ℕ → Type 0

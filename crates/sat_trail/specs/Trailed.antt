@@ -3,7 +3,7 @@ use Rattle.std.specs.Prelude.{◌≡◌, Bool, not, Some, ◌≤◌, ℕ, List, 
 use Rattle.cnf_core.specs.declared.literal.Lit.{Lit}
 use Rattle.cnf_core.specs.Literal.{HasVarsUpTo}
 use Rattle.cnf_core.specs.Formula.{Formula}
-use Rattle.assignment_trail.specs.declared.assigned.Assigned.{Assigned}
+use Rattle.unit_propagation.specs.declared.assignment_trail.assigned.Assigned.{Assigned}
 
 -- clauses over the variables from 1 to vars, and the literals that are true, the oldest first
 pub record Trailed : Type 0 where

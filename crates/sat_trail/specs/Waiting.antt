@@ -1,8 +1,8 @@
 -- Which variables wait to be decided.
 use Rattle.std.specs.Prelude.{◌≡◌, ◌+◌, ◌-◌, ◌<◌, ◌≤◌, ℕ, List, length, slice_index_or}
 use Rattle.cnf_core.specs.declared.literal.Lit.{Lit}
-use Rattle.activity_order.specs.OrderState.{OrderState, Waits}
-use Rattle.assignment_trail.specs.declared.assigned.Assigned.{Assigned}
+use Rattle.unit_propagation.specs.Activity.OrderState.{OrderState, Waits}
+use Rattle.unit_propagation.specs.declared.assignment_trail.assigned.Assigned.{Assigned}
 use Rattle.sat_trail.specs.Deciding.{IsOpenVar}
 
 -- the order has a place for each variable, from 0 on, and each variable that is open waits there

@@ -1,15 +1,15 @@
 // Which variable is decided next.
 ghost use Rattle.std.specs.Prelude.{◌≡◌, ◌++◌, ◌∷◌, [], ◌≤◌, Bool, List, All, MatchOption, length};
 ghost use Rattle.cnf_core.specs.Literal.{HasVarsUpTo};
-ghost use Rattle.clause_store.specs.Codes.{literals_of};
-ghost use Rattle.assignment_trail.specs.declared.assigned.Assigned.{Assigned};
-ghost use Rattle.assignment_trail.specs.Trail.{IsBackTo, falses_of};
+ghost use Rattle.unit_propagation.specs.Clauses.Codes.{literals_of};
+ghost use Rattle.unit_propagation.specs.declared.assignment_trail.assigned.Assigned.{Assigned};
+ghost use Rattle.unit_propagation.specs.Assignments.Trail.{IsBackTo, falses_of};
 ghost use Rattle.sat_trail.specs.Deciding.{HasAllValues, IsOpenVar};
 ghost use Rattle.sat_trail.specs.Waiting.{IsOrderOf};
 
-use activity_order::ActivityOrder;
-use assignment_trail::Assignment;
-use clause_store::Store;
+use unit_propagation::activity_order::ActivityOrder;
+use unit_propagation::assignment_trail::Assignment;
+use unit_propagation::clause_store::Store;
 
 /// Takes waiting variables until one is open: that one, from 1, or none where each variable has a value.
 pub(crate) fn take_open(order: &mut ActivityOrder, now: &Assignment) -> Option<u32>

@@ -1,17 +1,17 @@
 // A trail made from clauses.
 ghost use Rattle.std.specs.Prelude.{◌≡◌, ◌≢◌, ◌+◌, ◌*◌, ◌/◌, ◌<◌, ◌≤◌, ◌^◌, ◌++◌, ◌∷◌, [], All, Contains, IsTrue, IfSome, MatchBool, OnOk, OnErr, false, length};
 ghost use Rattle.cnf_core.specs.Literal.{HasVarsUpTo};
-ghost use Rattle.watch_lists.specs.WatchState.{with_slot};
-ghost use Rattle.watched_literals.specs.Rule.{IsMarked};
-ghost use Rattle.watched_literals.specs.Walk.{IsReady};
+ghost use Rattle.unit_propagation.specs.Watches.WatchState.{with_slot};
+ghost use Rattle.unit_propagation.specs.Propagation.Rule.{IsMarked};
+ghost use Rattle.unit_propagation.specs.Propagation.Walk.{IsReady};
 ghost use Rattle.sat_trail.specs.Filling.{IsPair, IsFlagged};
 
-use assignment_trail::Assignment;
-use clause_store::Store;
 use cnf_core::Clause;
 use std::alloc::AllocError;
-use watch_lists::WatchLists;
-use watched_literals::Pending;
+use unit_propagation::assignment_trail::Assignment;
+use unit_propagation::clause_store::Store;
+use unit_propagation::watch_lists::WatchLists;
+use unit_propagation::watched_literals::Pending;
 
 // The numbers that the two slots of a clause watch. Those of a short clause are 0 and 1, which are no literal's.
 #[derive(Clone, Copy, Debug)]

@@ -1,20 +1,20 @@
 // What is learnt from a conflict.
 ghost use Rattle.std.specs.Prelude.{◌≡◌, false, ◌<◌, ◌+◌, [], All, length, IfOk, OnOk, MatchBool};
 ghost use Rattle.cnf_core.specs.Literal.{HasVarsUpTo};
-ghost use Rattle.clause_store.specs.Codes.{literals_of};
+ghost use Rattle.unit_propagation.specs.Clauses.Codes.{literals_of};
 ghost use Rattle.refutation_check.specs.Chain.{Refutes, IsChain, IsNovel};
 ghost use Rattle.refutation_check.specs.Marks.{IsWithin};
 ghost use Rattle.refutation_check.specs.SearchLog.{IsVarOf};
-ghost use Rattle.assignment_trail.specs.Trail.{falses_of};
+ghost use Rattle.unit_propagation.specs.Assignments.Trail.{falses_of};
 ghost use Rattle.sat_trail.specs.Closed.{IsClosedBelow};
 ghost use Rattle.sat_trail.specs.Learnt.{IsAbove, IsAsserting, IsFlat};
 ghost use Rattle.sat_trail.specs.Learning.{Learning, Marking, IsResolved, HasAnother, HasNoOther};
 
 use crate::trail::Trail;
-use assignment_trail::Assigned;
 use cnf_core::{Clause, Lit};
 use refutation_check::{Hints, Step};
 use std::alloc::{AllocError, Global};
+use unit_propagation::assignment_trail::Assigned;
 
 // Marks the variables of a clause, by the numbers of its literals.
 fn mark(seen: &mut Vec<bool>, codes: &[u32])

@@ -3,9 +3,9 @@ ghost use Rattle.std.specs.Prelude.{◌≡◌, ◌≤◌, ◌<◌, ◌⊎◌};
 ghost use Rattle.cnf_core.specs.Literal.{HasVarsUpTo};
 ghost use Rattle.sat_trail.specs.Levels.{IsHighestBelow};
 
-use assignment_trail::Assignment;
-use clause_store::code_of;
 use cnf_core::Lit;
+use unit_propagation::assignment_trail::Assignment;
+use unit_propagation::clause_store::code_of;
 
 // The higher of two levels, where the second one is below the bound.
 fn raised(highest: u32, level: u32, below: u32) -> u32

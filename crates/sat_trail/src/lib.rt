@@ -14,4 +14,4 @@ mod trail;
 pub use crate::leaning::Leaning;
 pub use crate::learning::learn;
 pub use crate::trail::{Propagated, Trail};
-pub use assignment_trail::Assigned;
+pub use unit_propagation::assignment_trail::Assigned;

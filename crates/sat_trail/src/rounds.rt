@@ -1,17 +1,17 @@
 // Propagation, in rounds over what is marked.
 ghost use Rattle.std.specs.Prelude.{◌≡◌, ◌+◌, ◌<◌, ◌≤◌, MatchBool, MatchOption, length};
 ghost use Rattle.refutation_check.specs.Chain.{Refutes};
-ghost use Rattle.assignment_trail.specs.Trail.{ForcesMore, falses_of, level_of};
-ghost use Rattle.watched_literals.specs.Walk.{IsReady};
+ghost use Rattle.unit_propagation.specs.Assignments.Trail.{ForcesMore, falses_of, level_of};
+ghost use Rattle.unit_propagation.specs.Propagation.Walk.{IsReady};
 ghost use Rattle.sat_trail.specs.Closed.{IsClosed};
 ghost use Rattle.sat_trail.specs.Rounds.{AreQuiet, IsFollowed, IsOutcome};
 
 use crate::settling::settle;
-use assignment_trail::{Assigned, Assignment};
-use clause_store::Store;
 use refutation_check::Sight;
-use watch_lists::WatchLists;
-use watched_literals::{Pending, draw_all};
+use unit_propagation::assignment_trail::{Assigned, Assignment};
+use unit_propagation::clause_store::Store;
+use unit_propagation::watch_lists::WatchLists;
+use unit_propagation::watched_literals::{Pending, draw_all};
 
 // What a round came to.
 #[derive(Clone, Copy, Debug)]

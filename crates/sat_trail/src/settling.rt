@@ -1,12 +1,12 @@
 // Marks taken away where they are no longer needed.
 ghost use Rattle.std.specs.Prelude.{◌≡◌, ◌+◌, ◌*◌, ◌/◌, ◌<◌, ◌≤◌, ◌^◌, IsTrue, length};
-ghost use Rattle.watched_literals.specs.Walk.{IsReady};
+ghost use Rattle.unit_propagation.specs.Propagation.Walk.{IsReady};
 ghost use Rattle.sat_trail.specs.Settling.{IsHeldUp, IsSettled};
 
-use assignment_trail::Assignment;
-use clause_store::Store;
-use watch_lists::WatchLists;
-use watched_literals::Pending;
+use unit_propagation::assignment_trail::Assignment;
+use unit_propagation::clause_store::Store;
+use unit_propagation::watch_lists::WatchLists;
+use unit_propagation::watched_literals::Pending;
 
 // Whether the other literal is true, at no higher level than that of the first one.
 fn is_held_by(now: &Assignment, code: u32, other: u32) -> bool

@@ -1,11 +1,11 @@
 // The trail over clauses.
 ghost use Rattle.std.specs.Prelude.{◌≡◌, ◌+◌, ◌*◌, ◌<◌, ◌≤◌, ◌^◌, ◌++◌, ◌∷◌, [], List, All, IfOk, OnOk, OnErr, MatchOption, IfSome, None, false, length, map, max};
 ghost use Rattle.cnf_core.specs.Literal.{HasVarsUpTo, IsClause};
-ghost use Rattle.clause_store.specs.Codes.{literals_of};
+ghost use Rattle.unit_propagation.specs.Clauses.Codes.{literals_of};
 ghost use Rattle.refutation_check.specs.Chain.{Names, IsChain, members_of};
 ghost use Rattle.refutation_check.specs.Assumed.{IsOpen};
-ghost use Rattle.assignment_trail.specs.declared.assigned.Assigned.{Assigned};
-ghost use Rattle.assignment_trail.specs.Trail.{IsTrail, IsVarUpTo, IsBackTo, ForcesMore, falses_of, level_of};
+ghost use Rattle.unit_propagation.specs.declared.assignment_trail.assigned.Assigned.{Assigned};
+ghost use Rattle.unit_propagation.specs.Assignments.Trail.{IsTrail, IsVarUpTo, IsBackTo, ForcesMore, falses_of, level_of};
 ghost use Rattle.sat_trail.specs.Trailed.{IsBase, IsVarLimit, IsValue};
 ghost use Rattle.sat_trail.specs.Leaned.{leans_to};
 ghost use Rattle.sat_trail.specs.Closed.{IsClosedBelow, IsPropagated};
@@ -18,15 +18,15 @@ use crate::highest::{highest_in_steps, highest_of};
 use crate::leaning::Leaning;
 use crate::levels::highest_below;
 use crate::rounds::propagate_all;
-use activity_order::ActivityOrder;
-use assignment_trail::{Assigned, Assignment};
-use clause_store::Store;
 use cnf_core::{Clause, Cnf, Lit};
 use refutation_check::{Log, Step};
 use std::alloc::{AllocError, Global};
 use std::marker::Model;
-use watch_lists::WatchLists;
-use watched_literals::{Pending, back_to};
+use unit_propagation::activity_order::ActivityOrder;
+use unit_propagation::assignment_trail::{Assigned, Assignment};
+use unit_propagation::clause_store::Store;
+use unit_propagation::watch_lists::WatchLists;
+use unit_propagation::watched_literals::{Pending, back_to};
 
 /// What propagation came to.
 #[derive(Clone, Copy, Debug, PartialEq, Eq)]

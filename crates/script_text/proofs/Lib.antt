@@ -1,6 +1,6 @@
 pub mod AnsweredTranscripts
 pub mod Cuts
-pub mod ProofLines
+pub mod ProofLineTexts
 pub mod ReplyLemmas
 pub mod SameOutputs
 pub mod SameReplies
@@ -9,3 +9,4 @@ pub mod ScenarioLineTexts
 pub mod Tables
 pub mod RelationLineTexts
 pub mod Zips
+pub mod Proofs

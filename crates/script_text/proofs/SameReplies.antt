@@ -21,7 +21,7 @@ use Rattle.script_text.specs.Printed.{Printed, shown, ended, offered, augmented,
 use Rattle.script_text.specs.Printable.{IsWritable, Answers, MayPrint, IsProper}
 use Rattle.script_text.specs.Replies.{IsScenarioText, AreNumbered, cell_line, IsReplyText, AreReplyTexts}
 use Rattle.script_text.proofs.Cuts.{head_is, tail_is, same_front, same_number, Begins, group3, group4, group5}
-use Rattle.script_text.proofs.ProofLines.{same_proof}
+use Rattle.script_text.proofs.ProofLineTexts.{same_proof}
 use Rattle.script_text.proofs.RelationLineTexts.{IsTuple, name_plain, one_relation, same_tuple}
 use Rattle.script_text.proofs.ScenarioLineTexts.{tuple_fits, same_scenario}
 

@@ -4,3 +4,4 @@ pub mod Lines
 pub mod Printable
 pub mod Printed
 pub mod Replies
+pub mod Proofs

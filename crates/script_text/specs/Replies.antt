@@ -8,7 +8,7 @@ use Rattle.rel_formula.specs.Bounds.{Bounded, relation_at, cell_of, cells_of}
 use Rattle.rel_formula.specs.Instance.{AreCells}
 use Rattle.rel_formula.specs.Tables.{AreTables}
 use Rattle.translation_rules.specs.Translation.{Translated}
-use Rattle.proof_lines.specs.Printed.{IsCheckable}
+use Rattle.script_text.specs.Proofs.Printed.{IsCheckable}
 use Rattle.session_rules.specs.Proofs.{Proves}
 use Rattle.session_rules.specs.declared.end_proof.ProofKind.TheVariants.{End}
 use Rattle.session_rules.specs.declared.answers.Reply.{Reply}

@@ -1,5 +1,5 @@
-//! Texts that the program writes: that of a session, which is its name and the lines of its replies, and the lines that refuse
-//! a script.
+//! Texts that the program writes: that of a session, which is its name and the lines of its replies, and the lines that
+//! refuse a script. The module `proof_lines` has what is printed of the proofs that sessions keep.
 #![tactic(auto)]
 
 mod answer_lines;
@@ -8,12 +8,11 @@ pub mod laws;
 mod listed_lines;
 mod numbers;
 mod offer_lines;
+pub mod proof_lines;
 mod refusal_lines;
 mod relation_lines;
 mod scenario_lines;
 mod sessions;
-#[cfg(test)]
-mod tests;
 
 pub use crate::fault_lines::{fault_line, script_line};
 pub use crate::sessions::{push_reply_at, session_text};

@@ -3,13 +3,13 @@ ghost use Rattle.std.specs.Prelude.{◌≡◌, ◌+◌, ◌++◌, ℕ, List, len
 ghost use Rattle.std.specs.List.{AllZip};
 ghost use Rattle.rel_formula.specs.Instance.{AreCells};
 ghost use Rattle.session_rules.specs.Proofs.{Proves};
-ghost use Rattle.proof_lines.specs.Printed as spec;
+ghost use Rattle.script_text.specs.Proofs.Printed as spec;
 ghost use Rattle.script_text.specs.Printed.{printed, all_printed};
 ghost use Rattle.script_text.specs.Replies.{NamesCellsOf, PrintsRightProof, PrintsCheckableProof, IsReplyText, IsSessionText};
 
 use crate::answer_lines::push_answer;
 use crate::numbers::push_number_line;
-use proof_lines::text_of_proof;
+use crate::proof_lines::text_of_proof;
 use rel_formula::Scenario;
 use session_rules::{EndProof, ProofKind, Reply, Transcript};
 use std::alloc::{AllocError, Global};

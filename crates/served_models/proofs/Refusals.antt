@@ -8,10 +8,10 @@ use Rattle.lowering_rules.specs.declared.fault.LowerFault.{LowerFault}
 use Rattle.lowering_rules.specs.declared.fault.LowerFault.TheVariants as lower
 use Rattle.lowering_rules.specs.Formula.{all_facts}
 use Rattle.lowering_rules.specs.Problem.{ProblemOf, IsRefusal}
-use Rattle.fault_words.specs.Words.{command_words}
+use Rattle.model_texts.specs.Words.Words.{command_words}
 use Rattle.script_format.specs.declared.entries.ModelEntry.{ModelEntry}
 use Rattle.script_format.specs.declared.entries.SessionEntry.{SessionEntry}
-use Rattle.typed_texts.specs.ModelText.{SaysModel, OpensOther, IsFaulty}
+use Rattle.model_texts.specs.Texts.ModelText.{SaysModel, OpensOther, IsFaulty}
 use Rattle.served_models.specs.Served.{IsProblemOf, HasProblem, IsUsable, IsToldOf, HasBadCommand, SaysBadCommand, IsRefused, AreUsable, IsFirstRefused}
 
 -- what the laws below say, as they are used here

@@ -7,7 +7,7 @@ use Rattle.std.proofs.lemmas.List.{length-take-le, take_more, take-append-drop, 
 use Rattle.std.proofs.lemmas.List.Elements.{All-nil, All-cons, All-push, All-append, All-weaker, All-contains, Contains-append_left, Contains-append_right}
 use Rattle.std.proofs.lemmas.List.Quantifiers.{all_pairs_push}
 use Rattle.named_model.specs.Model.{NamedTree}
-use Rattle.typed_texts.specs.ModelText.{SaysModel}
+use Rattle.model_texts.specs.Texts.ModelText.{SaysModel}
 use Rattle.script_format.specs.declared.entries.ModelEntry.{ModelEntry}
 use Rattle.script_format.specs.declared.entries.SessionEntry.{SessionEntry}
 use Rattle.served_models.specs.declared.commands.ServedCommand.{ServedCommand}

@@ -9,8 +9,8 @@ use Rattle.lowering_rules.specs.declared.fault.LowerFault.TheVariants as lower
 use Rattle.lowering_rules.specs.Formula.{all_facts}
 use Rattle.lowering_rules.specs.Problem.{IsRefusal}
 use Rattle.rel_lower.specs.Lowered.{IsLowered}
-use Rattle.fault_words.specs.Words.{command_words}
-use Rattle.typed_texts.specs.ModelText.{SaysModel, OpensOther, IsFaulty}
+use Rattle.model_texts.specs.Words.Words.{command_words}
+use Rattle.model_texts.specs.Texts.ModelText.{SaysModel, OpensOther, IsFaulty}
 use Rattle.script_format.specs.declared.entries.ModelEntry.{ModelEntry}
 use Rattle.script_format.specs.declared.entries.SessionEntry.{SessionEntry}
 use Rattle.served_models.specs.declared.commands.ServedCommand.{ServedCommand}

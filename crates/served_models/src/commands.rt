@@ -5,8 +5,8 @@ ghost use Rattle.rel_lower.specs.Lowered.{IsTyped};
 ghost use Rattle.served_models.specs.Served.{AreServed, IsServedFor, LacksProblem};
 
 use crate::numbers::next_asked;
-use fault_words::command_words;
 use lowering_rules::laws::problems_are_symmetric;
+use model_texts::fault_words::command_words;
 use named_model::Named;
 use rel_lower::lower;
 use script_format::SessionEntry;

@@ -7,7 +7,7 @@ ghost use Rattle.script_format.specs.declared.entries.SessionEntry.{SessionEntry
 ghost use Rattle.served_models.specs.Served.{IsProblemOf, AreUsable, IsFirstRefused};
 
 use lowering_rules::laws::{problems_are_not_refused, problems_are_one, refusals_are_one};
-use typed_texts::laws::a_text_is_one_thing;
+use model_texts::typed_texts::laws::a_text_is_one_thing;
 
 /// A command has one problem at most; entries say one list of models at most, and either can be used or have one first refusal.
 pub fn models_are_used_one_way()

@@ -3,9 +3,9 @@ ghost use Rattle.std.specs.Prelude.{◌≡◌, ◌≤◌, length, All, IfOk};
 ghost use Rattle.served_models.specs.Served.{AreFound, IsFound, model_line};
 
 use crate::commands::{Commands, ServedCommand, served};
+use model_texts::typed_texts::{ModelText, read_model};
 use script_format::{ModelEntry, SessionEntry};
 use std::alloc::{AllocError, Global};
-use typed_texts::{ModelText, read_model};
 
 /// What the models of a script are.
 #[derive(Drop)]

@@ -2,15 +2,15 @@
 ghost use Rattle.std.specs.Prelude.{◌≤◌, ◌+◌, ◌∷◌, [], IfOk, OnOk, length};
 ghost use Rattle.rel_formula.specs.Shape.{IsProper};
 ghost use Rattle.rel_formula.specs.View.{formula_tree};
-ghost use Rattle.session_search.specs.Fits.{FitsProblem};
-ghost use Rattle.session_search.specs.Proposed.{IsPlain, NeedsTranslation};
+ghost use Rattle.session_state.specs.Sessions.Fits.{FitsProblem};
+ghost use Rattle.session_state.specs.Sessions.Proposed.{IsPlain, NeedsTranslation};
 
 use refutation_check::Log;
 use rel_formula::{Expression, Formula};
 use sample_problems::{bits_of, set_of};
-use sample_translations::translation_of;
+use samples::sample_translations::translation_of;
 use session_rules::{Refusal, Reply};
-use session_search::Session;
+use session_state::session_search::Session;
 use session_words::{AtomName, AtomNames, Step};
 use std::alloc::{AllocError, Global};
 use std::test::Fail;

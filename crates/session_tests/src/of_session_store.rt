@@ -4,7 +4,7 @@ ghost use Rattle.std.specs.Prelude.{◌≡◌, []};
 use refutation_check::Log;
 use rel_formula::Scenario;
 use session_rules::{EndProof, Reply, Scenarios};
-use session_store::SessionStore;
+use session_state::session_store::SessionStore;
 use std::alloc::{AllocError, Global};
 use std::test::Fail;
 

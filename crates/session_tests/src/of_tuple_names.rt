@@ -1,11 +1,11 @@
 // That names stand for what is worked out by hand, in a problem of one set.
 use rel_formula::{Expression, Formula, Problem};
 use sample_problems::set_between;
+use session_state::tuple_names::{Named, what_is_named};
 use session_words::AtomName;
 use std::alloc::{AllocError, Global};
 use std::test::Fail;
 use tuple_core::Name;
-use tuple_names::{Named, what_is_named};
 
 // The number of the cell that these names stand for, 1000 for a tuple that is there for sure, and 2000 for none.
 fn stand_for(

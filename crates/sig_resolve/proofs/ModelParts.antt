@@ -9,10 +9,10 @@ use Rattle.named_model.specs.Declarations.{globals_of, callees_named, fact_names
 use Rattle.named_model.specs.Faults.{signature_faults, body_faults, recursive_faults, command_faults, faults_in}
 use Rattle.name_tables.specs.Told.{IsTold}
 use Rattle.name_tables.proofs.Telling.{told_first}
-use Rattle.signature_names.specs.declared.paragraphs.Declared.{Declared}
-use Rattle.signature_names.specs.Named.{AreDeclared}
-use Rattle.paragraph_bodies.specs.declared.adding.Said.{Said}
-use Rattle.paragraph_bodies.specs.Bodies.{AreBodies}
+use Rattle.name_tables.specs.declared.signature_names.paragraphs.Declared.{Declared}
+use Rattle.name_tables.specs.Signatures.Named.{AreDeclared}
+use Rattle.sig_resolve.specs.declared.paragraph_bodies.adding.Said.{Said}
+use Rattle.sig_resolve.specs.Paragraphs.Bodies.{AreBodies}
 use Rattle.sig_resolve.specs.Stages.{repeated_in, cyclic_in, declared_faults, said_faults}
 use Rattle.sig_resolve.proofs.Lines.{told_behind, none_behind, six_lists}
 

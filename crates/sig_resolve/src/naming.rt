@@ -5,22 +5,22 @@ ghost use Rattle.named_model.specs.Declarations.{globals_of, named_of};
 ghost use Rattle.named_model.specs.Faults.{faults_in};
 ghost use Rattle.named_model.specs.View.{named_view};
 ghost use Rattle.name_tables.specs.Told.{Answers};
-ghost use Rattle.signature_names.specs.Named.{AreDeclared};
-ghost use Rattle.paragraph_bodies.specs.Bodies.{AreBodies};
+ghost use Rattle.name_tables.specs.Signatures.Named.{AreDeclared};
+ghost use Rattle.sig_resolve.specs.Paragraphs.Bodies.{AreBodies};
 ghost use Rattle.sig_resolve.specs.Stages.{names_of, declared_faults, said_faults};
 
+use crate::command_names::first_fault;
 use crate::fact_names::fact_names;
+use crate::paragraph_bodies::{Said, bodies};
 use crate::parts::parts;
 use alloy_syntax::tree::{Model, Paragraph};
-use command_names::first_fault;
-use global_names::global_names;
 use name_tables::Names;
+use name_tables::global_names::global_names;
+use name_tables::parent_cycles::first_cycle;
+use name_tables::repeated_names::first_repeated;
+use name_tables::signature_names::{Declared, declarations};
 use named_model::{NameFault, Named};
-use paragraph_bodies::{Said, bodies};
-use parent_cycles::first_cycle;
-use recursive_calls::first_recursive;
-use repeated_names::first_repeated;
-use signature_names::{Declared, declarations};
+use reference_cycles::recursive_calls::first_recursive;
 use std::alloc::Global;
 
 /// The model with every name tied to its declaration. Else the first fault, in this order: names that stand for the second time,

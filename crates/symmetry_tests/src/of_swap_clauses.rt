@@ -5,8 +5,8 @@ use sample_problems::{at, atoms, scenario_of, set_between};
 use std::alloc::{AllocError, Global};
 use std::process::Abort;
 use std::test::Fail;
-use swap_clauses::{swap_clauses, swap_clauses_of};
 use swap_symmetry::is_settled;
+use translation::swap_clauses::{swap_clauses, swap_clauses_of};
 use tuple_core::{Name, TupleSet};
 
 // A set of at least one atom between these bounds.

@@ -1,7 +1,7 @@
 // The order of deciding beside a look at each variable.
-use activity_order::ActivityOrder;
 use std::alloc::Global;
 use std::test::Fail;
+use unit_propagation::activity_order::ActivityOrder;
 
 fn raise(order: &mut ActivityOrder, var: u32) {
     if var < order.vars() {

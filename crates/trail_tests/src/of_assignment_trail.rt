@@ -1,10 +1,10 @@
 // Literals on the trail, cuts and copies.
 ghost use Rattle.std.specs.Prelude.{◌≡◌, ◌≤◌};
 
-use assignment_trail::{Assigned, Assignment};
-use clause_store::code_of;
 use cnf_core::Lit;
 use std::test::Fail;
+use unit_propagation::assignment_trail::{Assigned, Assignment};
+use unit_propagation::clause_store::code_of;
 
 const A: Lit = Lit {
     var: 1,

@@ -2,10 +2,10 @@
 ghost use Rattle.std.specs.Prelude.{◌+◌, ◌<◌, ◌≡◌, ◌^◌, All, IfOk, length};
 ghost use Rattle.cnf_core.specs.Literal.{IsVariable};
 
-use clause_store::{Store, code_of, literal_of};
 use cnf_core::{Clause, Lit};
 use std::alloc::Global;
 use std::test::Fail;
+use unit_propagation::clause_store::{Store, code_of, literal_of};
 
 const A: Lit = Lit {
     var: 1,

@@ -2,7 +2,7 @@
 ghost use Rattle.std.specs.Prelude.{◌≡◌, ◌+◌, ◌≤◌, length};
 ghost use Rattle.cnf_core.specs.Literal.{HasVarsUpTo};
 ghost use Rattle.refutation_check.specs.Chain.{IsChain, Refutes};
-ghost use Rattle.assignment_trail.specs.Trail.{falses_of};
+ghost use Rattle.unit_propagation.specs.Assignments.Trail.{falses_of};
 
 use cnf_core::{Clause, Cnf, Lit, Valuation};
 use refutation_check::{Log, Step};

@@ -3,7 +3,7 @@ ghost use Rattle.std.specs.Prelude.{◌≡◌, ◌-◌, ◌<◌, ◌∷◌, [], 
 
 use std::alloc::Global;
 use std::test::Fail;
-use watch_lists::WatchLists;
+use unit_propagation::watch_lists::WatchLists;
 
 // Slots 0, 2 and 3 watch the number 2, and slot 1 the number 3.
 fn four_slots(alloc: Global) -> Result<WatchLists, Fail>

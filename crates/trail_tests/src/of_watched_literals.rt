@@ -1,6 +1,6 @@
 // Marks.
 use std::test::Fail;
-use watched_literals::Pending;
+use unit_propagation::watched_literals::Pending;
 
 #[test]
 fn marks_are_listed_once(rt: HostRuntime) -> Result<(), Fail> {

@@ -3,3 +3,4 @@ pub mod SwapsTogether
 pub mod Instances
 pub mod NeighbourCounts
 pub mod ProblemClauses
+pub mod SwapChains

@@ -3,10 +3,10 @@ ghost use Rattle.std.specs.Prelude.{◌≡◌, ◌<◌, ◌≤◌, ◌^◌, leng
 ghost use Rattle.rel_formula.specs.Bounds.{cells_of};
 ghost use Rattle.translation.specs.Numbered.{swaps_of, AreNumbered};
 
+use crate::swap_clauses::swap_clauses_of;
 use cnf_core::Cnf;
 use rel_formula::Problem;
 use std::alloc::{AllocError, Global};
-use swap_clauses::swap_clauses_of;
 use tuple_core::Atom;
 
 /// The clauses of the swap of each of these pairs, over variables of its own behind this one.

@@ -1,6 +1,6 @@
 // What a text is, in words.
+use model_texts::typed_texts::{ModelText, read_model};
 use std::alloc::{AllocError, Global};
-use typed_texts::{ModelText, read_model};
 
 /// What the text of a model is: `model`, `opening`, or what is told of its fault; `too long` where it isn't read.
 pub fn told(alloc: Global, text: &str) -> Result<String, AllocError> {

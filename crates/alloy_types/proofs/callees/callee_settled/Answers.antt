@@ -4,9 +4,9 @@ use Rattle.named_model.specs.declared.phrase.Domain.{Domain}
 use Rattle.named_model.specs.Phrase.{domains_of}
 use Rattle.named_model.specs.View.{domain_view, meaning_view, callee_view}
 use Rattle.model_types.specs.Typing.{Local, domains_settled}
-use Rattle.settling_rules.specs.Same.{Asks}
-use Rattle.typed_scopes.specs.Declaring.{declared_by}
-use Rattle.typed_scopes.proofs.Standing.{same_types}
+use Rattle.overload_resolution.specs.Settling.Same.{Asks}
+use Rattle.overload_resolution.specs.Scopes.Declaring.{declared_by}
+use Rattle.overload_resolution.proofs.Scopes.Standing.{same_types}
 use Rattle.alloy_types.specs.Meanings.{shared_in_meaning}
 use Rattle.alloy_types.proofs.NamedRelations.{callee_told, callee_is}
 use Rattle.alloy_types.proofs.callees.callee_settled.Goals.{then-is_in_domains, else-is_in_domains}

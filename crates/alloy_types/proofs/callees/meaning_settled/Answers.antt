@@ -4,8 +4,8 @@ use Rattle.named_model.specs.Phrase.{PhraseTree}
 use Rattle.named_model.specs.Model.{value}
 use Rattle.named_model.specs.View.{phrase_view, meaning_view}
 use Rattle.model_types.specs.Models.{meaning_settled}
-use Rattle.settling_rules.proofs.Reaching.{told_then}
-use Rattle.typed_scopes.specs.Declaring.{declared_by}
+use Rattle.overload_resolution.proofs.Settling.Reaching.{told_then}
+use Rattle.overload_resolution.specs.Scopes.Declaring.{declared_by}
 use Rattle.alloy_types.specs.Meanings.{value_settled}
 use Rattle.alloy_types.proofs.NamedRelations.{value_apart}
 use Rattle.alloy_types.proofs.callees.meaning_settled.Goals as goal

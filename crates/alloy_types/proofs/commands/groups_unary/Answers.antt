@@ -1,6 +1,6 @@
 use Rattle.std.proofs.Common.{sym, ◌∙◌, map}
 use Rattle.named_model.specs.View.{domain_view}
-use Rattle.known_callees.specs.Groups.{group_view}
+use Rattle.alloy_types.specs.Calls.Groups.{group_view}
 use Rattle.alloy_types.specs.Meanings.{groups_unary}
 use Rattle.alloy_types.proofs.Order.{groups_next, groups_past, groups_end}
 use Rattle.alloy_types.proofs.commands.groups_unary.Goals.{then-number-parameters+in_ok-group_unary, else-number-parameters}

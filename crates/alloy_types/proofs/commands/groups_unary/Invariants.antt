@@ -1,6 +1,6 @@
 use Rattle.std.proofs.Common.{◌≡◌, map, drop}
 use Rattle.named_model.specs.View.{domain_view}
-use Rattle.known_callees.specs.Groups.{group_view}
+use Rattle.alloy_types.specs.Calls.Groups.{group_view}
 use Rattle.alloy_types.specs.Meanings.{groups_unary}
 use Rattle.alloy_types.proofs.commands.groups_unary.Given as goal
 

@@ -2,9 +2,9 @@ use Rattle.std.proofs.Common.{List, [], map, ap, sym, ◌∙◌}
 use Rattle.named_model.specs.Phrase.{domains_of}
 use Rattle.named_model.specs.View.{domain_view}
 use Rattle.model_types.specs.Models.{domains_known, domains_unary}
-use Rattle.typed_scopes.specs.Declaring.{declared_by}
-use Rattle.known_callees.specs.declared.groups.Group.{Group}
-use Rattle.known_callees.specs.Groups.{GroupTree, group_view}
+use Rattle.overload_resolution.specs.Scopes.Declaring.{declared_by}
+use Rattle.alloy_types.specs.declared.known_callees.groups.Group.{Group}
+use Rattle.alloy_types.specs.Calls.Groups.{GroupTree, group_view}
 use Rattle.alloy_types.specs.Meanings.{groups_unary}
 use Rattle.alloy_types.proofs.NamedRelations.{groups_known, gives_same}
 use Rattle.alloy_types.proofs.commands.parameters_unary.Goals as goal

@@ -1,5 +1,5 @@
 use Rattle.named_model.specs.View.{phrase_view}
-use Rattle.typed_scopes.specs.Declaring.{declared_by}
+use Rattle.overload_resolution.specs.Scopes.Declaring.{declared_by}
 use Rattle.alloy_types.proofs.NamedRelations.{no_only_link}
 use Rattle.alloy_types.proofs.fields.both_unary.Goals as goal
 

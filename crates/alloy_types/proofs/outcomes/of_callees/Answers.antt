@@ -1,7 +1,7 @@
 use Rattle.std.proofs.Common.{map}
 use Rattle.named_model.specs.View.{callee_view}
 use Rattle.model_types.specs.Models.{callee_settled}
-use Rattle.typed_scopes.specs.Declaring.{declared_by}
+use Rattle.overload_resolution.specs.Scopes.Declaring.{declared_by}
 use Rattle.alloy_types.specs.Outcomes.{outcome_view}
 use Rattle.alloy_types.proofs.ListedOutcomes.{seen_more, outcome_is, found_all}
 use Rattle.alloy_types.proofs.outcomes.of_callees.Goals as goal

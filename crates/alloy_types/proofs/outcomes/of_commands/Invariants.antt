@@ -2,7 +2,7 @@ use Rattle.std.proofs.Common.{◌≡◌, map, take}
 use Rattle.named_model.specs.Model.{CommandTree, NamedTree}
 use Rattle.named_model.specs.View.{callee_view, target_view, command_view}
 use Rattle.model_types.specs.Models.{target_settled}
-use Rattle.typed_scopes.specs.Declaring.{declared_by}
+use Rattle.overload_resolution.specs.Scopes.Declaring.{declared_by}
 use Rattle.alloy_types.specs.Outcomes.{outcome_view}
 use Rattle.alloy_types.proofs.outcomes.of_commands.Given as goal
 

@@ -1,6 +1,6 @@
 use Rattle.named_model.specs.View.{field_view}
 use Rattle.model_types.specs.Models.{field_checked}
-use Rattle.typed_scopes.specs.Declaring.{declared_by}
+use Rattle.overload_resolution.specs.Scopes.Declaring.{declared_by}
 use Rattle.alloy_types.proofs.ListedOutcomes.{found_more, outcome_same, found_all}
 use Rattle.alloy_types.proofs.outcomes.of_fields.Goals as goal
 

@@ -1,7 +1,7 @@
 use Rattle.std.proofs.Common.{◌≡◌, [], map, take}
 use Rattle.named_model.specs.View.{formulas_view}
 use Rattle.model_types.specs.Typing.{formulas_settled}
-use Rattle.typed_scopes.specs.Declaring.{declared_by}
+use Rattle.overload_resolution.specs.Scopes.Declaring.{declared_by}
 use Rattle.alloy_types.specs.Outcomes.{outcome_view}
 use Rattle.alloy_types.proofs.outcomes.of_formulas.Given as goal
 

@@ -7,8 +7,8 @@ use Rattle.named_model.specs.Model.{CommandTree}
 use Rattle.named_model.specs.View.{field_view, callee_view, formulas_view, command_view, named_view}
 use Rattle.model_types.specs.Typing.{formulas_settled}
 use Rattle.model_types.specs.Models.{field_checked, callee_settled, target_settled, declared_in}
-use Rattle.typed_scopes.specs.Declaring.{declared_by}
-use Rattle.alloy_types.proofs.SameDeclarations.{fields_alike, callees_alike, blocks_alike, targets_alike}
+use Rattle.overload_resolution.specs.Scopes.Declaring.{declared_by}
+use Rattle.alloy_types.proofs.DeclarationLemmas.{fields_alike, callees_alike, blocks_alike, targets_alike}
 use Rattle.alloy_types.proofs.outcomes.outcomes_of.Goals as goal
 
 pub returns : goal.returns

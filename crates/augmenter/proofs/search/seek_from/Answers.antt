@@ -11,7 +11,7 @@ use Rattle.sat_core.specs.declared.search.Answer.{Answer}
 use Rattle.translation_rules.specs.Translation.{var_of}
 use Rattle.translation_rules.specs.Locals.{units_of}
 use Rattle.translation_rules.specs.Parts.{given_to}
-use Rattle.local_clauses.proofs.Cells.{few_cells}
+use Rattle.translation_rules.proofs.Locals.Cells.{few_cells}
 use Rattle.augmenter.specs.Search.{IsSearchFor}
 use Rattle.augmenter.proofs.Seeking.{Known, Told, told, variables, as_many, found_part, found_answer, spent_part, refuted_part, refuted_answer}
 use Rattle.augmenter.proofs.search.seek_from.Goals as goal

@@ -1,7 +1,7 @@
 use Rattle.std.proofs.Common.{◌≡◌, List, map, length, ◌∙◌, ap, arith}
 use Rattle.std.proofs.lemmas.List.{length-map}
-use Rattle.journal_rules.specs.declared.event.Entry.{Entry}
-use Rattle.journal_rules.specs.Noted.{Noted, entry_of}
+use Rattle.hub_state.specs.declared.journal_rules.event.Entry.{Entry}
+use Rattle.hub_state.specs.Journal.Noted.{Noted, entry_of}
 use Rattle.bench.proofs.journals.entries_of.Goals as goal
 
 same_length : (entries : List Entry) (journal : List Noted) → entries ≡ map entry_of journal → length entries ≡ length journal

@@ -2,8 +2,8 @@ use Rattle.std.proofs.Common.{◌≡◌, ◌∷◌, [], ℕ, List, sym, ◌∙�
 use Rattle.rel_formula.specs.Bounds.{Bounded}
 use Rattle.session_words.specs.declared.steps.Step.TheVariants.{Next}
 use Rattle.session_rules.specs.declared.answers.Reply.TheVariants.{Shown}
-use Rattle.journal_rules.specs.Noted.{Opened, Recorded}
-use Rattle.journal_rules.specs.Journal.{Opens, Records}
+use Rattle.hub_state.specs.Journal.Noted.{Opened, Recorded}
+use Rattle.hub_state.specs.Journal.Journal.{Opens, Records}
 use Rattle.hub_state.specs.HubView.{HubView, with_entry}
 use Rattle.bench.proofs.Recording.{may_open, may_show}
 use Rattle.bench.proofs.journals.record_session.Goals as goal

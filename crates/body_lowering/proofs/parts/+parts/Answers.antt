@@ -5,7 +5,7 @@ use Rattle.rel_formula.specs.View.{expression_tree, formula_tree}
 use Rattle.named_model.specs.declared.named.Callee.{Callee}
 use Rattle.named_model.specs.Phrase.{links_of, steps_of, domains_of}
 use Rattle.named_model.specs.View.{phrase_view, phrases_view, link_view, step_view, domain_view, meaning_view, named_view}
-use Rattle.kernel_parts.specs.View.{part_view}
+use Rattle.body_lowering.specs.Kernel.View.{part_view}
 use Rattle.lowering_rules.specs.Parts.{expression_in, formula_in, joins_all, operator_lowered, list_lowered, brackets_lowered}
 use Rattle.lowering_rules.specs.Binders as binders
 use Rattle.lowering_rules.specs.Binders.{behind_domains, variables_in}

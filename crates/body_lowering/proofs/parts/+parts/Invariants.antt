@@ -3,7 +3,7 @@ use Rattle.rel_formula.specs.Kernel.{more_formulas}
 use Rattle.rel_formula.specs.View.{expression_tree, formula_tree}
 use Rattle.named_model.specs.Phrase.{links_of, steps_of, domains_of}
 use Rattle.named_model.specs.View.{phrases_view, link_view, step_view, domain_view, named_view}
-use Rattle.kernel_parts.specs.View.{part_view}
+use Rattle.body_lowering.specs.Kernel.View.{part_view}
 use Rattle.lowering_rules.specs.Parts.{formula_in, brackets_lowered}
 use Rattle.lowering_rules.specs.Binders.{arguments, behind_domains, variables_in}
 use Rattle.lowering_rules.specs.Lowering.{base_within, formulas_lowered, expressions_lowered, links_lowered, operands_lowered, steps_lowered, domains_lowered, behind_values}

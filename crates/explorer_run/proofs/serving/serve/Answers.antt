@@ -7,7 +7,7 @@ use Rattle.script_format.specs.Limits.{asked_by}
 use Rattle.session_rules.specs.States.{Start, top_floor}
 use Rattle.session_rules.specs.Transcripts.{IsTranscript}
 use Rattle.session_rules.specs.declared.answers.Reply.{Reply}
-use Rattle.session_search.specs.Fits.{InSession}
+use Rattle.session_state.specs.Sessions.Fits.{InSession}
 use Rattle.explorer_run.specs.Serving.{IsPrintable}
 use Rattle.explorer_run.proofs.Transcribed.{IsSoFar, so_far_none, so_far_more, asked_few}
 use Rattle.explorer_run.proofs.serving.serve.Goals as goal

@@ -1,6 +1,6 @@
 use Rattle.std.proofs.Common.{sym, subst}
 use Rattle.session_rules.specs.States.{State}
-use Rattle.session_search.specs.Proposed.{IsProposal}
+use Rattle.session_state.specs.Sessions.Proposed.{IsProposal}
 use Rattle.explorer_run.proofs.Stepping.{fits_still}
 use Rattle.explorer_run.proofs.steps.take_in.Goals as goal
 

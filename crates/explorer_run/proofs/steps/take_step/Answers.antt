@@ -3,8 +3,8 @@ use Rattle.session_rules.specs.States.{after, top_floor}
 use Rattle.session_rules.specs.Evidence.{NeedsEvidence, HasEvidence}
 use Rattle.session_rules.specs.declared.answers.Reply.{Reply}
 use Rattle.session_rules.specs.declared.answers.Reply.TheVariants.{Memory}
-use Rattle.session_search.specs.Fits.{InSession, FitsProblem}
-use Rattle.session_search.specs.Proposed.{IsProposal}
+use Rattle.session_state.specs.Sessions.Fits.{InSession, FitsProblem}
+use Rattle.session_state.specs.Sessions.Proposed.{IsProposal}
 use Rattle.explorer_run.specs.Serving.{IsPrintable}
 use Rattle.explorer_run.proofs.Stepping.{printable, on_after, on_still}
 use Rattle.explorer_run.proofs.steps.take_step.Goals as goal

@@ -6,8 +6,8 @@ use Rattle.translation.specs.Kept.{IsTranslation}
 use Rattle.session_words.specs.declared.steps.Step.TheVariants.{Next}
 use Rattle.session_rules.specs.ProofOfEnd.{ProofOfEnd}
 use Rattle.session_rules.specs.declared.answers.Reply.TheVariants.{Shown, End}
-use Rattle.journal_rules.specs.Noted.{Noted, Shared}
-use Rattle.journal_rules.specs.Journal.{Opens, Records}
+use Rattle.hub_state.specs.Journal.Noted.{Noted, Shared}
+use Rattle.hub_state.specs.Journal.Journal.{Opens, Records}
 use Rattle.hub_state.specs.HubView.{HubView, IsPublishing, moved}
 use Rattle.hub_tests.proofs.Ended.{with_log, end_of, may_open, may_show, may_end}
 use Rattle.hub_tests.proofs.Sessions.{after_import, after_showing, after_ending, published_there, goes_on, last_problems, last_own, last_published}

@@ -1,7 +1,7 @@
 use Rattle.std.proofs.Common.{◌≡◌, ℕ, sym, ◌∙◌, subst}
 use Rattle.hub_lock.specs.Passes.{of_pass}
-use Rattle.journal_rules.specs.Noted.{Noted}
-use Rattle.journal_rules.specs.Journal.{Opens}
+use Rattle.hub_state.specs.Journal.Noted.{Noted}
+use Rattle.hub_state.specs.Journal.Journal.{Opens}
 use Rattle.hub_state.specs.HubView.{HubView}
 use Rattle.hub_tests.proofs.Turned.{may_open_in_turn}
 use Rattle.hub_tests.proofs.of_hub_state.open_in_turn.Goals as goal

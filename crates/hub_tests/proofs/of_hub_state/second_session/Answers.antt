@@ -1,7 +1,7 @@
 use Rattle.std.proofs.Common.{◌≡◌, List, sym, subst, All, ◌∷◌, [], ℕ, arith}
 use Rattle.rel_formula.specs.Bounds.{Bounded}
-use Rattle.journal_rules.specs.Noted.{Noted}
-use Rattle.journal_rules.specs.Journal.{Opens}
+use Rattle.hub_state.specs.Journal.Noted.{Noted}
+use Rattle.hub_state.specs.Journal.Journal.{Opens}
 use Rattle.hub_tests.proofs.Ended.{may_open, others_of}
 use Rattle.hub_tests.proofs.of_hub_state.second_session.Goals as goal
 

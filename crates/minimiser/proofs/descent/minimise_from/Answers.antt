@@ -9,7 +9,7 @@ use Rattle.sat_core.specs.declared.search.Answer.{Answer}
 use Rattle.sat_core.specs.Answers.{log_of, IsRight as IsRightAnswer}
 use Rattle.translation_rules.specs.Parts.{novel_in}
 use Rattle.translation_rules.specs.Descents.{IsSmaller, descent_locals}
-use Rattle.local_clauses.proofs.Cells.{few_cells}
+use Rattle.translation_rules.proofs.Locals.Cells.{few_cells}
 use Rattle.minimiser.specs.Down.{IsDescent}
 use Rattle.minimiser.proofs.Cells.{fewer, few_locals}
 use Rattle.minimiser.proofs.DescentStates.{Going, set_out, ended, spent_all, next, minimal}

@@ -1,5 +1,5 @@
 use Rattle.std.proofs.Common.{◌≤◌, ◌*◌, length}
-use Rattle.session_search.specs.Fits.{FitsProblem}
+use Rattle.session_state.specs.Sessions.Fits.{FitsProblem}
 use Rattle.reference_tests.proofs.of_sessions.serve.Given as goal
 
 abbrev pub invariant-loop-time : goal.invariant-loop-time

@@ -1,8 +1,8 @@
 use Rattle.std.proofs.Common.{length, sym, subst, ap, arith}
 use Rattle.session_rules.specs.States.{State}
-use Rattle.session_search.specs.Fits.{FitsProblem, InSession}
-use Rattle.session_search.specs.Proposed.{IsProposal}
-use Rattle.session_search.proofs.LaterSessions.{fits_still, one_more_shown}
+use Rattle.session_state.specs.Sessions.Fits.{FitsProblem, InSession}
+use Rattle.session_state.specs.Sessions.Proposed.{IsProposal}
+use Rattle.session_state.proofs.Sessions.LaterSessions.{fits_still, one_more_shown}
 use Rattle.reference_tests.proofs.serving.searched.Goals as goal
 
 pub returns-clause-fits : goal.returns-clause-fits

@@ -1,7 +1,7 @@
 use Rattle.std.proofs.Common.{sym, subst}
 use Rattle.rel_formula.specs.View.{formula_tree}
 use Rattle.named_model.specs.View.{command_view, named_view}
-use Rattle.field_bounds.specs.Bounds.{AreRelations}
+use Rattle.rel_lower.specs.Bounding.Bounds.{AreRelations}
 use Rattle.rel_lower.proofs.whole.bounded.Goals as goal
 
 pub relations-requires : goal.relations-requires

@@ -5,8 +5,8 @@ use Rattle.rel_formula.specs.Instance.{AreCells}
 use Rattle.session_rules.specs.ProofOfEnd.{ProofOfEnd}
 use Rattle.session_rules.specs.Proofs.{Proves}
 use Rattle.session_rules.specs.declared.end_proof.ProofKind.TheVariants.{End}
-use Rattle.search_rounds.specs.declared.next.Found.{Found}
-use Rattle.search_rounds.specs.Next.{IsAnswer, IsEndAt}
+use Rattle.session_state.specs.declared.search_rounds.next.Found.{Found}
+use Rattle.session_state.specs.Rounds.Next.{IsAnswer, IsEndAt}
 use Rattle.reply_tests.proofs.of_proof_lines.ended.Goals as goal
 
 pub next_at-requires-clause-pool : goal.next_at-requires-clause-pool

@@ -3,9 +3,9 @@ use Rattle.std.proofs.lemmas.List.Elements.{All-push, All-append, All-weaker, Co
 use Rattle.rel_formula.specs.Bounds.{Bounded}
 use Rattle.swap_symmetry.specs.Due.{IsDue}
 use Rattle.session_rules.specs.Proofs.{IsCopy, IsCovered}
-use Rattle.search_rounds.specs.declared.next.Found.{Found}
-use Rattle.search_rounds.specs.Next.{IsAnswer}
-use Rattle.search_rounds.proofs.RoundStates.{IsNewCopy, cells_of_blocked}
+use Rattle.session_state.specs.declared.search_rounds.next.Found.{Found}
+use Rattle.session_state.specs.Rounds.Next.{IsAnswer}
+use Rattle.session_state.proofs.Rounds.RoundStates.{IsNewCopy, cells_of_blocked}
 use Rattle.round_tests.proofs.of_search_rounds.ask.Goals as goal
 
 -- a copy stays one where more was shown

@@ -1,8 +1,8 @@
 use Rattle.std.proofs.Common.{◌≡◌, ◌+◌, ap, sym, ◌∙◌, subst}
 use Rattle.std.proofs.lemmas.List.Elements.{Contains-get_or}
-use Rattle.assignment_trail.specs.Trail.{ForcesMore, level_of}
-use Rattle.assignment_trail.proofs.Holding.{beq_same}
-use Rattle.assignment_trail.proofs.Trails.{level_of-push}
+use Rattle.unit_propagation.specs.Assignments.Trail.{ForcesMore, level_of}
+use Rattle.unit_propagation.proofs.Assignments.Holding.{beq_same}
+use Rattle.unit_propagation.proofs.Assignments.Trails.{level_of-push}
 use Rattle.sat_trail.specs.Trailed.{Trailed}
 use Rattle.sat_core.proofs.Stops.{beq_differ, value_true, value_false, value_open, clash_of_false, assumed_next, decided_first, decided_clash, decided_next}
 use Rattle.sat_core.proofs.descent.assume_at.Goals as goal

@@ -1,9 +1,9 @@
 use Rattle.std.proofs.Common.{◌+◌, ◌++◌, ◌∷◌, [], ◌∙◌, None, length, arith, refl, ap, subst}
 use Rattle.std.specs.Prelude.{min}
 use Rattle.cnf_core.specs.declared.literal.Lit.{Lit}
-use Rattle.assignment_trail.specs.declared.assigned.Assigned.{Assigned}
-use Rattle.assignment_trail.specs.Trail.{ForcesMore, level_of}
-use Rattle.assignment_trail.proofs.Trails.{level_of-push}
+use Rattle.unit_propagation.specs.declared.assignment_trail.assigned.Assigned.{Assigned}
+use Rattle.unit_propagation.specs.Assignments.Trail.{ForcesMore, level_of}
+use Rattle.unit_propagation.proofs.Assignments.Trails.{level_of-push}
 use Rattle.sat_trail.specs.Trailed.{Trailed}
 use Rattle.sat_core.proofs.Stops.{assumed_all, free_first, free_stuck, free_next, lowered}
 use Rattle.sat_core.proofs.descent.descend.Goals as goal

@@ -1,5 +1,5 @@
 use Rattle.std.proofs.Common.{◌≡◌, ◌≤◌, ◌+◌, ◌-◌, length}
-use Rattle.assignment_trail.specs.Trail.{level_of}
+use Rattle.unit_propagation.specs.Assignments.Trail.{level_of}
 use Rattle.sat_core.specs.Search.{IsAssumedTo}
 use Rattle.sat_core.proofs.descent.descend.Given as goal
 

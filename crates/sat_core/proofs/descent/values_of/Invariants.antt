@@ -1,5 +1,5 @@
 use Rattle.std.proofs.Common.{◌≡◌, length}
-use Rattle.assignment_trail.specs.Trail.{falses_of}
+use Rattle.unit_propagation.specs.Assignments.Trail.{falses_of}
 use Rattle.sat_core.specs.Search.{AreValues}
 use Rattle.sat_core.proofs.descent.values_of.Given as goal
 

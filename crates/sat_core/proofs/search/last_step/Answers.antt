@@ -4,7 +4,7 @@ use Rattle.cnf_core.specs.Literal.{HasVarsUpTo}
 use Rattle.refutation_check.specs.declared.log.Step.{Step}
 use Rattle.refutation_check.specs.Chain.{members_of}
 use Rattle.sat_trail.specs.Trailed.{Trailed}
-use Rattle.assignment_trail.specs.Trail.{falses_of, level_of}
+use Rattle.unit_propagation.specs.Assignments.Trail.{falses_of, level_of}
 use Rattle.sat_trail.specs.Closed.{IsClosed}
 use Rattle.sat_core.proofs.Searches.{members_none, members_taken, members_all}
 use Rattle.sat_core.proofs.Descents.{flat_at_zero}

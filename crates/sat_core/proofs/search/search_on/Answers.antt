@@ -3,7 +3,7 @@ use Rattle.cnf_core.specs.declared.literal.Lit.{Lit}
 use Rattle.cnf_core.specs.Literal.{IsVariable}
 use Rattle.refutation_check.specs.declared.log.Step.{Step}
 use Rattle.refutation_check.specs.Chain.{members_of}
-use Rattle.assignment_trail.specs.Trail.{falses_of}
+use Rattle.unit_propagation.specs.Assignments.Trail.{falses_of}
 use Rattle.sat_core.specs.Assuming.{IsClash, IsSplit, number_of}
 use Rattle.sat_core.specs.Search.{IsDeadEnd, IsStuck, IsProgress, IsVarIn}
 use Rattle.sat_core.proofs.Descents.{closed_no_chain}

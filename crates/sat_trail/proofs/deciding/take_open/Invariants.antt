@@ -1,5 +1,5 @@
 use Rattle.std.specs.List.{count_by}
-use Rattle.assignment_trail.specs.Trail.{falses_of}
+use Rattle.unit_propagation.specs.Assignments.Trail.{falses_of}
 use Rattle.sat_trail.specs.Waiting.{IsOrderOf}
 use Rattle.sat_trail.proofs.deciding.take_open.Given as goal
 

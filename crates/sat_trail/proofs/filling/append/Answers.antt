@@ -5,9 +5,9 @@ use Rattle.std.specs.Prelude.{◌||◌}
 use Rattle.std.specs.List.{slice_get}
 use Rattle.cnf_core.specs.declared.literal.Lit.{Lit}
 use Rattle.cnf_core.specs.Literal.{HasVarsUpTo}
-use Rattle.clause_store.specs.Codes.{literals_of}
-use Rattle.watched_literals.specs.Rule.{IsMarked}
-use Rattle.watched_literals.proofs.Slots.{clause_is, codes_low}
+use Rattle.unit_propagation.specs.Clauses.Codes.{literals_of}
+use Rattle.unit_propagation.specs.Propagation.Rule.{IsMarked}
+use Rattle.unit_propagation.proofs.Propagation.Slots.{clause_is, codes_low}
 use Rattle.sat_trail.proofs.Readiness.{ready_append}
 use Rattle.sat_trail.proofs.Watches.{pair_low, pair_watches, without_last, or_true, marked_or_none}
 use Rattle.sat_trail.proofs.filling.append.Goals as goal

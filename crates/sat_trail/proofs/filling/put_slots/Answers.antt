@@ -1,5 +1,5 @@
 use Rattle.std.proofs.Common.{◌≡◌, ◌++◌, ◌∷◌, [], false, length, arith, ap, length-append}
-use Rattle.watched_literals.specs.PendingState.{PendingState}
+use Rattle.unit_propagation.specs.Propagation.PendingState.{PendingState}
 use Rattle.sat_trail.proofs.Watches.{last_flag}
 use Rattle.sat_trail.proofs.filling.put_slots.Goals as goal
 

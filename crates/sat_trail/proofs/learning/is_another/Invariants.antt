@@ -1,5 +1,5 @@
 use Rattle.std.proofs.Common.{◌≡◌, ◌<◌, ◌≤◌, ℕ, length, get_or}
-use Rattle.assignment_trail.specs.declared.assigned.Assigned.{Assigned}
+use Rattle.unit_propagation.specs.declared.assignment_trail.assigned.Assigned.{Assigned}
 use Rattle.sat_trail.specs.Learning.{IsMarked}
 use Rattle.sat_trail.proofs.learning.is_another.Given as goal
 

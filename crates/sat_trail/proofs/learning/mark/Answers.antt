@@ -1,7 +1,7 @@
 use Rattle.std.proofs.Common.{◌≡◌, ◌<◌, ◌+◌, List, true, false, get_or, set, take, length, arith, ap, subst, length-set}
 use Rattle.std.proofs.lemmas.List.{get_or-map, length-map, take_all}
 use Rattle.cnf_core.specs.declared.literal.Lit.{Lit}
-use Rattle.clause_store.specs.Codes.{literal_of, literals_of}
+use Rattle.unit_propagation.specs.Clauses.Codes.{literal_of, literals_of}
 use Rattle.sat_trail.specs.Learning.{Marking}
 use Rattle.sat_trail.proofs.Learned.{Marking-more}
 use Rattle.sat_trail.proofs.learning.mark.Goals as goal

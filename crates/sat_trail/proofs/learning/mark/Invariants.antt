@@ -1,5 +1,5 @@
 use Rattle.std.proofs.Common.{◌≡◌, take, length}
-use Rattle.clause_store.specs.Codes.{literals_of}
+use Rattle.unit_propagation.specs.Clauses.Codes.{literals_of}
 use Rattle.sat_trail.specs.Learning.{Marking}
 use Rattle.sat_trail.proofs.learning.mark.Given as goal
 

@@ -1,5 +1,5 @@
 use Rattle.std.proofs.Common.{false, None, get_or, arith, false}
-use Rattle.assignment_trail.specs.declared.assigned.Assigned.{Assigned}
+use Rattle.unit_propagation.specs.declared.assignment_trail.assigned.Assigned.{Assigned}
 use Rattle.sat_trail.proofs.Learned.{learning_skip, learning_keep, learning_resolve, placed_forced, named_in, unseen_at, seen_at, resolved_why, kept_first, decided_first}
 use Rattle.sat_trail.proofs.learning.visit.Goals as goal
 use Rattle.sat_trail.proofs.learning.visit.Goals.{in_default-via-in-Some+else-is_resolved, in_default-via-in_default}

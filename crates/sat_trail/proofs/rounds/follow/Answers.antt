@@ -1,8 +1,8 @@
 use Rattle.std.proofs.Common.{length, arith, ap, ◌∙◌, sym, subst, inl, inr, refl, length-append}
-use Rattle.assignment_trail.specs.AssignmentState.{AssignmentState}
-use Rattle.assignment_trail.specs.Trail.{level_of}
-use Rattle.assignment_trail.proofs.Trails.{level_of-push}
-use Rattle.watched_literals.specs.Walk.{IsReady}
+use Rattle.unit_propagation.specs.Assignments.AssignmentState.{AssignmentState}
+use Rattle.unit_propagation.specs.Assignments.Trail.{level_of}
+use Rattle.unit_propagation.proofs.Assignments.Trails.{level_of-push}
+use Rattle.unit_propagation.specs.Propagation.Walk.{IsReady}
 use Rattle.sat_trail.proofs.Follows.{looked_clause, looked_range, looked_falsified, looked_quiet, looked_unit}
 use Rattle.sat_trail.proofs.Readiness.{ready_push}
 use Rattle.sat_trail.proofs.rounds.follow.Goals as goal

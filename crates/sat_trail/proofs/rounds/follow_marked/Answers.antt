@@ -1,7 +1,7 @@
 use Rattle.std.proofs.Common.{◌≡◌, ◌<◌, [], ℕ, length, get_or, arith, ap, refl, sym, ◌∙◌, subst}
 use Rattle.std.proofs.lemmas.List.{get_or_default}
-use Rattle.assignment_trail.specs.Trail.{falses_of}
-use Rattle.assignment_trail.proofs.Trails.{forces_trans}
+use Rattle.unit_propagation.specs.Assignments.Trail.{falses_of}
+use Rattle.unit_propagation.proofs.Assignments.Trails.{forces_trans}
 use Rattle.sat_trail.specs.Rounds.{IsQuiet}
 use Rattle.sat_trail.proofs.Follows.{listed_in, quiet_more}
 use Rattle.sat_trail.proofs.Trails.{more_long}

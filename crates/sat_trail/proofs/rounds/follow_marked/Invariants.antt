@@ -1,6 +1,6 @@
 use Rattle.std.proofs.Common.{◌≡◌, ◌<◌, [], ℕ, length, get_or}
-use Rattle.assignment_trail.specs.Trail.{ForcesMore, falses_of, level_of}
-use Rattle.watched_literals.specs.Walk.{IsReady}
+use Rattle.unit_propagation.specs.Assignments.Trail.{ForcesMore, falses_of, level_of}
+use Rattle.unit_propagation.specs.Propagation.Walk.{IsReady}
 use Rattle.sat_trail.specs.Rounds.{IsQuiet}
 use Rattle.sat_trail.proofs.rounds.follow_marked.Given as goal
 

@@ -1,5 +1,5 @@
 use Rattle.std.proofs.Common.{arith, sym, ◌∙◌}
-use Rattle.assignment_trail.proofs.Trails.{forces_trans}
+use Rattle.unit_propagation.proofs.Assignments.Trails.{forces_trans}
 use Rattle.sat_trail.proofs.rounds.propagate_all.Goals as goal
 
 pub round-requires-clause-level : goal.round-requires-clause-level

@@ -1,6 +1,6 @@
 use Rattle.std.proofs.Common.{◌≡◌, ◌+◌, ◌-◌, length}
-use Rattle.assignment_trail.specs.Trail.{ForcesMore, level_of}
-use Rattle.watched_literals.specs.Walk.{IsReady}
+use Rattle.unit_propagation.specs.Assignments.Trail.{ForcesMore, level_of}
+use Rattle.unit_propagation.specs.Propagation.Walk.{IsReady}
 use Rattle.sat_trail.proofs.rounds.propagate_all.Given as goal
 
 abbrev pub invariant-rounds : goal.invariant-rounds

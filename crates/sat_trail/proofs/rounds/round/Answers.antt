@@ -1,8 +1,8 @@
 use Rattle.std.proofs.Common.{◌≡◌, List, arith, sym, ◌∙◌, subst}
-use Rattle.assignment_trail.specs.declared.assigned.Assigned.{Assigned}
-use Rattle.assignment_trail.specs.Trail.{falses_of}
-use Rattle.assignment_trail.proofs.Trails.{forces_trans}
-use Rattle.watched_literals.specs.Closed.{IsClosedBut}
+use Rattle.unit_propagation.specs.declared.assignment_trail.assigned.Assigned.{Assigned}
+use Rattle.unit_propagation.specs.Assignments.Trail.{falses_of}
+use Rattle.unit_propagation.proofs.Assignments.Trails.{forces_trans}
+use Rattle.unit_propagation.specs.Propagation.Closed.{IsClosedBut}
 use Rattle.sat_trail.proofs.Trails.{closed_all, more_long, same_if_long}
 use Rattle.sat_trail.proofs.rounds.round.Goals as goal
 

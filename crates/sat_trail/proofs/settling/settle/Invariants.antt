@@ -1,5 +1,5 @@
 use Rattle.std.proofs.Common.{◌≤◌, length}
-use Rattle.watched_literals.specs.Walk.{IsReady}
+use Rattle.unit_propagation.specs.Propagation.Walk.{IsReady}
 use Rattle.sat_trail.proofs.settling.settle.Given as goal
 
 abbrev pub invariant-settling : goal.invariant-settling

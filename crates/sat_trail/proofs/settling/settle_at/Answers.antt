@@ -1,7 +1,7 @@
 use Rattle.std.proofs.Common.{◌≡◌, ◌∙◌, ℕ, Bool, List, false, get_or, set, arith, ap, sym, subst}
 use Rattle.std.proofs.lemmas.List.{get_or_default}
-use Rattle.watched_literals.specs.PendingState.{PendingState}
-use Rattle.watched_literals.specs.Walk.{IsReady}
+use Rattle.unit_propagation.specs.Propagation.PendingState.{PendingState}
+use Rattle.unit_propagation.specs.Propagation.Walk.{IsReady}
 use Rattle.sat_trail.specs.Settling.{IsSettled}
 use Rattle.sat_trail.proofs.Follows.{listed_in}
 use Rattle.sat_trail.proofs.Readiness.{ready_unmark}

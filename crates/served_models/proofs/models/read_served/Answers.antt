@@ -1,7 +1,7 @@
 use Rattle.std.proofs.Common.{subst}
 use Rattle.named_model.specs.View.{named_view}
-use Rattle.typed_texts.specs.declared.reading.ModelText.{ModelText}
-use Rattle.typed_texts.specs.ModelText.{IsReading}
+use Rattle.model_texts.specs.declared.typed_texts.reading.ModelText.{ModelText}
+use Rattle.model_texts.specs.Texts.ModelText.{IsReading}
 use Rattle.served_models.proofs.Usables.{found_of_served}
 use Rattle.served_models.proofs.models.read_served.Goals as goal
 

@@ -1,7 +1,7 @@
 use Rattle.std.proofs.Common.{length, sym, subst, ap, arith}
 use Rattle.session_rules.specs.States.{State}
-use Rattle.session_search.specs.Proposed.{IsPlainProposal}
-use Rattle.session_search.proofs.LaterSessions.{fits_still, one_more_shown}
+use Rattle.session_state.specs.Sessions.Proposed.{IsPlainProposal}
+use Rattle.session_state.proofs.Sessions.LaterSessions.{fits_still, one_more_shown}
 use Rattle.session_tests.proofs.of_session_search.answer.Goals as goal
 
 pub returns-clause-fits : goal.returns-clause-fits

@@ -7,7 +7,7 @@ use Rattle.named_model.specs.Faults.{body_faults, recursive_faults, command_faul
 use Rattle.named_model.specs.View.{callee_view}
 use Rattle.name_tables.specs.InForce.{InForce}
 use Rattle.name_tables.specs.Told.{IsTold}
-use Rattle.paragraph_bodies.specs.Bodies.{AreBodies}
+use Rattle.sig_resolve.specs.Paragraphs.Bodies.{AreBodies}
 use Rattle.sig_resolve.proofs.Lines.{none_found, one_found, first_told, second_told, third_told, none_of_three}
 use Rattle.sig_resolve.proofs.naming.checked_bodies.Goals as goal
 

@@ -5,7 +5,7 @@ use Rattle.named_model.specs.Declarations.{globals_of}
 use Rattle.named_model.specs.Faults.{signature_faults}
 use Rattle.name_tables.specs.InForce.{InForce}
 use Rattle.name_tables.specs.Told.{IsTold}
-use Rattle.signature_names.specs.Named.{AreDeclared}
+use Rattle.name_tables.specs.Signatures.Named.{AreDeclared}
 use Rattle.sig_resolve.specs.Stages.{repeated_in, cyclic_in}
 use Rattle.sig_resolve.proofs.Lines.{none_found, one_found, first_told, second_told, third_told, none_of_three}
 use Rattle.sig_resolve.proofs.naming.checked_declarations.Goals as goal

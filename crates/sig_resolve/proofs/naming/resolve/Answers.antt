@@ -4,8 +4,8 @@ use Rattle.alloy_syntax.specs.declared.tree.Paragraph.{Paragraph}
 use Rattle.alloy_syntax.specs.View.{model_view, paragraph_view}
 use Rattle.named_model.specs.Declarations.{globals_of, fact_names, parts_behind}
 use Rattle.name_tables.specs.Told.{IsTold}
-use Rattle.signature_names.specs.Named.{AreDeclared}
-use Rattle.paragraph_bodies.specs.Bodies.{AreBodies}
+use Rattle.name_tables.specs.Signatures.Named.{AreDeclared}
+use Rattle.sig_resolve.specs.Paragraphs.Bodies.{AreBodies}
 use Rattle.sig_resolve.specs.Stages.{declared_faults, said_faults}
 use Rattle.sig_resolve.proofs.ModelParts.{declared_told, said_told, nothing_told, named_is}
 use Rattle.sig_resolve.proofs.naming.resolve.Goals as goal

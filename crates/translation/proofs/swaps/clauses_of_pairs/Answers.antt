@@ -1,7 +1,7 @@
 use Rattle.std.proofs.Common.{◌≡◌, inl, inr, ◌+◌, ◌*◌, ◌<◌, ◌≤◌, ◌∙◌, [], ◌∷◌, ◌++◌, ℕ, suc, List, length, take, get_or, subst, sym, ap, arith}
 use Rattle.std.proofs.lemmas.List.{length-take-le}
 use Rattle.rel_formula.specs.Bounds.{cells_of}
-use Rattle.swap_clauses.proofs.Pairs.{few_times}
+use Rattle.translation.proofs.SwapChains.Pairs.{few_times}
 use Rattle.translation.proofs.Chains.{Made, made_none, made_next}
 use Rattle.translation.proofs.swaps.clauses_of_pairs.Goals as goal
 

@@ -1,6 +1,6 @@
 use Rattle.std.proofs.Common.{◌≡◌, ◌↔◌, sym, subst, length, ap, arith}
 use Rattle.std.specs.Prelude.{IfSome, IsNone}
-use Rattle.journal_rules.specs.Journal.{IsPublished}
+use Rattle.hub_state.specs.Journal.Journal.{IsPublished}
 use Rattle.hub_state.specs.HubView.{HubView, HasTranslation}
 use Rattle.hub_state.specs.Held.{journal_of}
 use Rattle.hub_state.proofs.Sharing.{none_found, one_found}

@@ -1,9 +1,9 @@
 use Rattle.std.proofs.Common.{◌≡◌, ℕ, List, length, sym, ◌∙◌, ap, subst, arith}
 use Rattle.std.proofs.lemmas.List.{take_all}
 use Rattle.refutation_check.specs.declared.log.Step.{Step as LogStep}
-use Rattle.journal_rules.specs.declared.event.Entry.{Entry}
-use Rattle.journal_rules.specs.Noted.{Imported}
-use Rattle.journal_rules.specs.Journal.{pool_of}
+use Rattle.hub_state.specs.declared.journal_rules.event.Entry.{Entry}
+use Rattle.hub_state.specs.Journal.Noted.{Imported}
+use Rattle.hub_state.specs.Journal.Journal.{pool_of}
 use Rattle.hub_state.specs.HubView.{HubView, HasTranslation, with_entry}
 use Rattle.hub_state.specs.Held.{journal_of, IsHub}
 use Rattle.hub_state.proofs.Appending.{seen, inside, pool_read, imported, imported_view}

@@ -1,6 +1,6 @@
 use Rattle.std.proofs.Common.{◌≡◌, map, sym, ◌∙◌, ap, subst}
-use Rattle.journal_rules.specs.Noted.{entry_of}
-use Rattle.journal_rules.specs.Journal.{IsLegal}
+use Rattle.hub_state.specs.Journal.Noted.{entry_of}
+use Rattle.hub_state.specs.Journal.Journal.{IsLegal}
 use Rattle.hub_state.specs.HubView.{HubView}
 use Rattle.hub_state.proofs.Journals.{entries_of}
 use Rattle.hub_state.proofs.hub.Hub.journal.Goals as goal

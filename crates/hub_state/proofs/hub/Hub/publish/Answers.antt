@@ -3,9 +3,9 @@ use Rattle.std.specs.Prelude.{slice_get, unwrap_or}
 use Rattle.translation_rules.specs.Translation.{Translated, StandsFor}
 use Rattle.translation.specs.Kept.{IsTranslation}
 use Rattle.translation_cache.specs.Published.{shown, first_of}
-use Rattle.journal_rules.specs.declared.event.Entry.{Entry}
-use Rattle.journal_rules.specs.declared.event.Event.TheVariants.{Published as WasPublished}
-use Rattle.journal_rules.specs.Journal.{IsPublished}
+use Rattle.hub_state.specs.declared.journal_rules.event.Entry.{Entry}
+use Rattle.hub_state.specs.declared.journal_rules.event.Event.TheVariants.{Published as WasPublished}
+use Rattle.hub_state.specs.Journal.Journal.{IsPublished}
 use Rattle.hub_state.specs.HubView.{HubView, IsPublishing}
 use Rattle.hub_state.specs.Held.{journal_of, IsHub}
 use Rattle.hub_state.proofs.Appending.{entry, seen, key_inside, published, published_view, published_there}

@@ -1,7 +1,7 @@
 use Rattle.std.proofs.Common.{◌≡◌, List, sym, subst}
 use Rattle.std.specs.Prelude.{IsSomeAnd, IfSome}
-use Rattle.journal_rules.specs.declared.event.Entry.{Entry}
-use Rattle.journal_rules.specs.Journal.{MayFollow}
+use Rattle.hub_state.specs.declared.journal_rules.event.Entry.{Entry}
+use Rattle.hub_state.specs.Journal.Journal.{MayFollow}
 use Rattle.hub_state.specs.HubView.{HubView, with_entry, note_to_record}
 use Rattle.hub_state.specs.Held.{journal_of, IsHub}
 use Rattle.hub_state.proofs.Appending.{seen, recorded, recorded_view}

@@ -4,10 +4,10 @@ use Rattle.refutation_check.specs.declared.log.Step.{Step as LogStep}
 use Rattle.clause_pool.specs.Limits.{IsLongestFit}
 use Rattle.translation_rules.specs.Translation.{Translated}
 use Rattle.translation_cache.specs.Published.{shown}
-use Rattle.journal_rules.specs.declared.event.Entry.{Entry}
-use Rattle.journal_rules.specs.declared.event.Event.TheVariants.{Shared as WasShared}
-use Rattle.journal_rules.specs.Noted.{Shared}
-use Rattle.journal_rules.specs.Journal.{IsPublished, pool_of}
+use Rattle.hub_state.specs.declared.journal_rules.event.Entry.{Entry}
+use Rattle.hub_state.specs.declared.journal_rules.event.Event.TheVariants.{Shared as WasShared}
+use Rattle.hub_state.specs.Journal.Noted.{Shared}
+use Rattle.hub_state.specs.Journal.Journal.{IsPublished, pool_of}
 use Rattle.hub_state.specs.HubView.{HubView, GoesOn, with_entry, moved}
 use Rattle.hub_state.specs.Held.{journal_of, IsHub}
 use Rattle.hub_state.proofs.Appending.{entry, seen, inside_kept, pool_read, shared, shared_view}

@@ -1,5 +1,5 @@
 use Rattle.std.proofs.Common.{◌<◌, arith}
-use Rattle.assignment_trail.specs.Trail.{level_of}
+use Rattle.unit_propagation.specs.Assignments.Trail.{level_of}
 use Rattle.sat_trail.specs.Learnt.{IsBackLevel}
 use Rattle.sat_trail.proofs.Backjumps.{second_highest, closed_back}
 use Rattle.sat_trail.proofs.trail.Trail.back_level.Goals as goal

@@ -1,5 +1,5 @@
 use Rattle.cnf_core.specs.Literal.{HasVarsUpTo}
-use Rattle.clause_store.specs.Codes.{literals_of}
+use Rattle.unit_propagation.specs.Clauses.Codes.{literals_of}
 use Rattle.refutation_check.proofs.Chains.{names_all}
 use Rattle.sat_trail.proofs.trail.Trail.codes.Goals as goal
 

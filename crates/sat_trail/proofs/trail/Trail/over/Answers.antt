@@ -1,6 +1,6 @@
 use Rattle.std.proofs.Common.{◌≡◌, ◌++◌, ◌∙◌, [], ℕ, List, length, max, arith, ap}
 use Rattle.cnf_core.specs.declared.literal.Lit.{Lit}
-use Rattle.assignment_trail.specs.declared.assigned.Assigned.{Assigned}
+use Rattle.unit_propagation.specs.declared.assignment_trail.assigned.Assigned.{Assigned}
 use Rattle.sat_trail.specs.Trailed.{Trailed}
 use Rattle.sat_trail.proofs.trail.Trail.over.Goals as goal
 

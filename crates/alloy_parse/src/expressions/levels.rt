@@ -1,0 +1,284 @@
+// The levels of operators, from `||` down to `<:` and `:>`, and what compares and negates between them.
+ghost use Rattle.std.specs.Prelude.{◌≡◌, ◌<◌, ◌≤◌, true, length, map, IfOk};
+ghost use Rattle.alloy_syntax.specs.Gives.{Gives};
+ghost use Rattle.alloy_parse.specs.Nodes.Reader.{ReadsWithin};
+ghost use Rattle.alloy_syntax.specs.View.{view, link_view};
+ghost use Rattle.alloy_syntax.specs.Readers.{many};
+ghost use Rattle.alloy_syntax.specs.Nodes.{within, restrict_over, begins_arrow, arrow_over, arrows_over, meet_over, override_over, size_over, sum_over, counted_over, comparison_over, negation_over, and_over, implication_over, implied_over, iff_over, node_over};
+
+use crate::expressions::chains::chain;
+use crate::expressions::rules::{Read, Rules};
+use crate::expressions::signs::{
+    begins_arrow, begins_comparison, begins_declaration, comparing, counting_of, is_counting,
+    quantifier_of,
+};
+use alloy_lex::Place;
+use alloy_syntax::Class;
+use alloy_syntax::cursor::{after, fitted, is_mark, next_is, place_at};
+use alloy_syntax::halt::{Halt, Tokens};
+use alloy_syntax::reading::{Around, Form, Inside, Level};
+use alloy_syntax::tree::{Link, Node, Operator, Prefix, Quantifier};
+use std::alloc::Global;
+
+impl<F: for<'a> Fn(Global, Tokens<'a>, u32, Around, Inside) -> Read<'a, Node>> Rules<F> {
+    // Paths with `<:` and `:>` between them.
+    #[tactic(auto, unfolding(alloy_syntax::specs::Nodes::restrict_over))]
+    pub fn restrict<'a>(&self, tokens: Tokens<'a>, around: Around) -> Read<'a, Node>
+        requires { ReadsWithin self.now.room (F.pre self.now.reader) (F.post self.now.reader) }
+        ensures value { Gives (λ x. (view x.0, x.1.left.now)) result (restrict_over (within true self.now.room) around tokens.entry.left.now) }
+        ensures shorter { IfOk result (λ x. length x.1.left.now < length tokens.entry.left.now) }
+    {
+        chain(
+            self.alloc,
+            tokens,
+            Level::Restrict,
+            |rest| self.path(rest, around),
+        )
+    }
+
+    #[tactic(auto, unfolding(alloy_syntax::specs::Nodes::arrows_over))]
+    fn arrows<'a>(&self, tokens: Tokens<'a>, around: Around) -> Read<'a, Node>
+        requires { ReadsWithin self.now.room (F.pre self.now.reader) (F.post self.now.reader) }
+        ensures value { Gives (λ x. (view x.0, x.1.left.now)) result (arrows_over (within true self.now.room) around tokens.entry.left.now) }
+        ensures shorter { IfOk result (λ x. length x.1.left.now < length tokens.entry.left.now) }
+    {
+        let (first, rest) = self.restrict(tokens, around)?;
+        if !begins_arrow(rest) {
+            return Ok((first, rest));
+        }
+        let (links, rest) = self.arrow_links(rest, around)?;
+        Ok((Node::Chain(Box::new(self.alloc, first)?, links), rest))
+    }
+
+    fn arrow_links<'a>(&self, tokens: Tokens<'a>, around: Around) -> Read<'a, Vec<Link>>
+        requires { ReadsWithin self.now.room (F.pre self.now.reader) (F.post self.now.reader) }
+        ensures value { Gives (λ x. (map link_view x.0.items, x.1.left.now)) result (many begins_arrow (arrow_over (within true self.now.room) around) tokens.entry.left.now) }
+        ensures shorter { IfOk result (λ x. length x.1.left.now ≤ length tokens.entry.left.now) }
+    {
+        let mut all = Vec::new(self.alloc);
+        let mut rest = tokens;
+        'each: while begins_arrow(rest) {
+            let (another, behind) = self.arrow_link(rest, around)?;
+            all.push(another)?;
+            rest = behind;
+        }
+        Ok((fitted(all), rest))
+    }
+
+    #[tactic(auto, unfolding(alloy_syntax::specs::Nodes::arrow_over))]
+    fn arrow_link<'a>(&self, tokens: Tokens<'a>, around: Around) -> Read<'a, Link>
+        requires { ReadsWithin self.now.room (F.pre self.now.reader) (F.post self.now.reader) }
+        ensures value { Gives (λ x. (link_view x.0, x.1.left.now)) result (arrow_over (within true self.now.room) around tokens.entry.left.now) }
+        ensures shorter { IfOk result (λ x. length x.1.left.now < length tokens.entry.left.now) }
+    {
+        if is_mark(tokens) {
+            return Err(Halt::Unsupported(Form::ArrowMultiplicity, tokens));
+        }
+        let rest = after(tokens);
+        if is_mark(rest) {
+            return Err(Halt::Unsupported(Form::ArrowMultiplicity, rest));
+        }
+        let (operand, rest) = self.restrict(rest, around)?;
+        let link = Link {
+            operator: Operator::Product,
+            place: place_at(tokens),
+            operand,
+        };
+        Ok((link, rest))
+    }
+
+    // With `&` between them.
+    #[tactic(auto, unfolding(alloy_syntax::specs::Nodes::meet_over))]
+    pub fn meet<'a>(&self, tokens: Tokens<'a>, around: Around) -> Read<'a, Node>
+        requires { ReadsWithin self.now.room (F.pre self.now.reader) (F.post self.now.reader) }
+        ensures value { Gives (λ x. (view x.0, x.1.left.now)) result (meet_over (within true self.now.room) around tokens.entry.left.now) }
+        ensures shorter { IfOk result (λ x. length x.1.left.now < length tokens.entry.left.now) }
+    {
+        chain(
+            self.alloc,
+            tokens,
+            Level::Meet,
+            |rest| self.arrows(rest, around),
+        )
+    }
+
+    // With `++` between them.
+    #[tactic(auto, unfolding(alloy_syntax::specs::Nodes::override_over))]
+    pub fn overriding<'a>(&self, tokens: Tokens<'a>, around: Around) -> Read<'a, Node>
+        requires { ReadsWithin self.now.room (F.pre self.now.reader) (F.post self.now.reader) }
+        ensures value { Gives (λ x. (view x.0, x.1.left.now)) result (override_over (within true self.now.room) around tokens.entry.left.now) }
+        ensures shorter { IfOk result (λ x. length x.1.left.now < length tokens.entry.left.now) }
+    {
+        chain(
+            self.alloc,
+            tokens,
+            Level::Override,
+            |rest| self.meet(rest, around),
+        )
+    }
+
+    #[tactic(auto, unfolding(alloy_syntax::specs::Nodes::size_over))]
+    pub fn size<'a>(&self, tokens: Tokens<'a>, around: Around) -> Read<'a, Node>
+        requires { ReadsWithin self.now.room (F.pre self.now.reader) (F.post self.now.reader) }
+        ensures value { Gives (λ x. (view x.0, x.1.left.now)) result (size_over (within true self.now.room) around tokens.entry.left.now) }
+        ensures shorter { IfOk result (λ x. length x.1.left.now < length tokens.entry.left.now) }
+    {
+        if next_is(tokens, Class::Hash) {
+            return self.prefixed(tokens, around, Prefix::Size, Inside::Size);
+        }
+        self.overriding(tokens, around)
+    }
+
+    // An expression: with `+` and `-` between them.
+    #[tactic(auto, unfolding(alloy_syntax::specs::Nodes::sum_over))]
+    pub fn sum<'a>(&self, tokens: Tokens<'a>, around: Around) -> Read<'a, Node>
+        requires { ReadsWithin self.now.room (F.pre self.now.reader) (F.post self.now.reader) }
+        ensures value { Gives (λ x. (view x.0, x.1.left.now)) result (sum_over (within true self.now.room) around tokens.entry.left.now) }
+        ensures shorter { IfOk result (λ x. length x.1.left.now < length tokens.entry.left.now) }
+    {
+        chain(
+            self.alloc,
+            tokens,
+            Level::Sum,
+            |rest| self.size(rest, around),
+        )
+    }
+
+    #[tactic(auto, unfolding(alloy_syntax::specs::Nodes::counted_over))]
+    fn counted<'a>(&self, tokens: Tokens<'a>, around: Around) -> Read<'a, Node>
+        requires { ReadsWithin self.now.room (F.pre self.now.reader) (F.post self.now.reader) }
+        ensures value { Gives (λ x. (view x.0, x.1.left.now)) result (counted_over (within true self.now.room) around tokens.entry.left.now) }
+        ensures shorter { IfOk result (λ x. length x.1.left.now < length tokens.entry.left.now) }
+    {
+        if is_counting(tokens) {
+            return self.prefixed(tokens, around, counting_of(tokens), Inside::Sum);
+        }
+        self.sum(tokens, around)
+    }
+
+    #[tactic(auto, unfolding(alloy_syntax::specs::Nodes::comparison_over))]
+    fn comparison<'a>(&self, tokens: Tokens<'a>, around: Around) -> Read<'a, Node>
+        requires { ReadsWithin self.now.room (F.pre self.now.reader) (F.post self.now.reader) }
+        ensures value { Gives (λ x. (view x.0, x.1.left.now)) result (comparison_over (within true self.now.room) around tokens.entry.left.now) }
+        ensures shorter { IfOk result (λ x. length x.1.left.now < length tokens.entry.left.now) }
+    {
+        let (left, rest) = self.counted(tokens, around)?;
+        if !begins_comparison(rest, around) {
+            return Ok((left, rest));
+        }
+        let (comparing, rest) = comparing(rest)?;
+        let (right, rest) = self.counted(rest, around)?;
+        let left = Box::new(self.alloc, left)?;
+        let right = Box::new(self.alloc, right)?;
+        Ok((Node::Compared(left, comparing, right), rest))
+    }
+
+    #[tactic(auto, unfolding(alloy_syntax::specs::Nodes::negation_over))]
+    pub fn negation<'a>(&self, tokens: Tokens<'a>, around: Around) -> Read<'a, Node>
+        requires { ReadsWithin self.now.room (F.pre self.now.reader) (F.post self.now.reader) }
+        ensures value { Gives (λ x. (view x.0, x.1.left.now)) result (negation_over (within true self.now.room) around tokens.entry.left.now) }
+        ensures shorter { IfOk result (λ x. length x.1.left.now < length tokens.entry.left.now) }
+    {
+        if next_is(tokens, Class::Not) {
+            return self.prefixed(tokens, around, Prefix::Not, Inside::Negation);
+        }
+        let place = place_at(tokens);
+        let rest = after(tokens);
+        if next_is(tokens, Class::All) {
+            return self.inside(rest, around, Inside::Quantified(Quantifier::All, place));
+        }
+        if next_is(tokens, Class::Let) {
+            return self.inside(rest, around, Inside::Let(place));
+        }
+        if is_counting(tokens) && begins_declaration(rest, around) {
+            return self.inside(
+                rest,
+                around,
+                Inside::Quantified(quantifier_of(tokens), place),
+            );
+        }
+        self.comparison(tokens, around)
+    }
+
+    // With `&&` between them.
+    #[tactic(auto, unfolding(alloy_syntax::specs::Nodes::and_over))]
+    pub fn conjunction<'a>(&self, tokens: Tokens<'a>, around: Around) -> Read<'a, Node>
+        requires { ReadsWithin self.now.room (F.pre self.now.reader) (F.post self.now.reader) }
+        ensures value { Gives (λ x. (view x.0, x.1.left.now)) result (and_over (within true self.now.room) around tokens.entry.left.now) }
+        ensures shorter { IfOk result (λ x. length x.1.left.now < length tokens.entry.left.now) }
+    {
+        chain(
+            self.alloc,
+            tokens,
+            Level::And,
+            |rest| self.negation(rest, around),
+        )
+    }
+
+    #[tactic(auto, unfolding(alloy_syntax::specs::Nodes::implication_over))]
+    pub fn implication<'a>(&self, tokens: Tokens<'a>, around: Around) -> Read<'a, Node>
+        requires { ReadsWithin self.now.room (F.pre self.now.reader) (F.post self.now.reader) }
+        ensures value { Gives (λ x. (view x.0, x.1.left.now)) result (implication_over (within true self.now.room) around tokens.entry.left.now) }
+        ensures shorter { IfOk result (λ x. length x.1.left.now < length tokens.entry.left.now) }
+    {
+        let (left, rest) = self.conjunction(tokens, around)?;
+        if !next_is(rest, Class::Implies) {
+            return Ok((left, rest));
+        }
+        self.implied(left, place_at(rest), after(rest), around)
+    }
+
+    // What stands behind `=>`, where a nearer `else` belongs to a nearer `=>`.
+    #[tactic(auto, unfolding(alloy_syntax::specs::Nodes::implied_over))]
+    fn implied<'a>(
+        &self,
+        left: Node,
+        place: Place,
+        tokens: Tokens<'a>,
+        around: Around,
+    ) -> Read<'a, Node>
+        requires { ReadsWithin self.now.room (F.pre self.now.reader) (F.post self.now.reader) }
+        ensures value { Gives (λ x. (view x.0, x.1.left.now)) result (implied_over (within true self.now.room) around (view left) place tokens.entry.left.now) }
+        ensures shorter { IfOk result (λ x. length x.1.left.now < length tokens.entry.left.now) }
+    {
+        let (then, rest) = self.inside(tokens, around, Inside::Implied)?;
+        let left = Box::new(self.alloc, left)?;
+        let then = Box::new(self.alloc, then)?;
+        if !next_is(rest, Class::Else) {
+            return Ok((Node::Implies(left, place, then), rest));
+        }
+        let (otherwise, rest) = self.inside(after(rest), around, Inside::Implied)?;
+        let otherwise = Box::new(self.alloc, otherwise)?;
+        Ok((Node::ImpliesElse(left, place, then, otherwise), rest))
+    }
+
+    // With `<=>` between them.
+    #[tactic(auto, unfolding(alloy_syntax::specs::Nodes::iff_over))]
+    pub fn equivalence<'a>(&self, tokens: Tokens<'a>, around: Around) -> Read<'a, Node>
+        requires { ReadsWithin self.now.room (F.pre self.now.reader) (F.post self.now.reader) }
+        ensures value { Gives (λ x. (view x.0, x.1.left.now)) result (iff_over (within true self.now.room) around tokens.entry.left.now) }
+        ensures shorter { IfOk result (λ x. length x.1.left.now < length tokens.entry.left.now) }
+    {
+        chain(
+            self.alloc,
+            tokens,
+            Level::Iff,
+            |rest| self.implication(rest, around),
+        )
+    }
+
+    // What the grammar calls a node: with `||` between them.
+    #[tactic(auto, unfolding(alloy_syntax::specs::Nodes::node_over))]
+    pub fn node<'a>(&self, tokens: Tokens<'a>, around: Around) -> Read<'a, Node>
+        requires { ReadsWithin self.now.room (F.pre self.now.reader) (F.post self.now.reader) }
+        ensures value { Gives (λ x. (view x.0, x.1.left.now)) result (node_over (within true self.now.room) around tokens.entry.left.now) }
+        ensures shorter { IfOk result (λ x. length x.1.left.now < length tokens.entry.left.now) }
+    {
+        chain(
+            self.alloc,
+            tokens,
+            Level::Or,
+            |rest| self.equivalence(rest, around),
+        )
+    }
+}

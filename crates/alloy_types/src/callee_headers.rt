@@ -1,0 +1,3 @@
+//! What is known of predicates and functions, by those that they call.
+
+pub mod laws;

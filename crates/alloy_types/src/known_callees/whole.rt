@@ -1,0 +1,145 @@
+// What is declared in a model.
+ghost use Rattle.std.specs.Prelude.{◌≡◌, ◌<◌, ℕ, [], map, length, false, option_map, slice_get, slice_set, replicate, Some, None, IfOk};
+ghost use Rattle.named_model.specs.Model.{CalleeTree};
+ghost use Rattle.named_model.specs.Faults.{callees_of};
+ghost use Rattle.named_model.specs.View.{phrase_view, callee_view, named_view};
+ghost use Rattle.model_types.specs.Models.{header_of, declared_in};
+ghost use Rattle.reference_cycles.specs.Cycles.Orders.{IsOrder};
+ghost use Rattle.overload_resolution.specs.Expressions.Types.{bodies_view};
+ghost use Rattle.alloy_types.specs.Headers.Bodies.{body_of};
+ghost use Rattle.alloy_types.specs.Declarations.Same.{AreSameDeclared};
+ghost use Rattle.overload_resolution.specs.Scopes.Declaring.{declared_by, AreTables};
+ghost use Rattle.alloy_types.specs.Calls.Known.{IsHeader};
+ghost use Rattle.alloy_types.specs.Calls.Ready.{HasFields, IsReady, AreKept};
+
+use crate::known_callees::callee::callee_known;
+use crate::known_callees::fields::fields_known;
+use model_types::part_sorts::Kind;
+use named_model::named::{Callee, Named};
+use named_model::phrase::Phrase;
+use overload_resolution::expression_types::Known;
+use overload_resolution::shared_names::Header;
+use overload_resolution::typed_scopes::{Scope, Setting};
+use reference_cycles::number_cycles::order_of;
+use reference_cycles::recursive_calls::rows;
+use std::alloc::{AllocError, Global};
+
+/// What is declared in a model: its signatures, its fields with their types, and what is known of its predicates and functions.
+/// Want of memory is also answered where a predicate or a function calls itself over one or more steps, or one that isn't
+/// there, and where a bounding type that a shared name asks for would have too many lists.
+pub fn declared(alloc: Global, model: &Named) -> Result<Setting, AllocError>
+    ensures tables { IfOk result (λ s. AreTables s) }
+    ensures value { IfOk result (λ s. AreSameDeclared (declared_by s) (declared_in (named_view model.now))) }
+{
+    let rows = rows(alloc, &model.callees)?;
+    let order = order_of(alloc, &rows)?;
+    let setting = fields_known(alloc, model)?;
+    let setting = with_places(alloc, model, setting)?;
+    all_known(alloc, model, &order, setting)
+}
+
+// A place for each predicate and function, of which nothing is known yet.
+fn with_places<'a>(
+    alloc: Global,
+    model: &Named,
+    setting: Setting<'a>,
+) -> Result<Setting<'a>, AllocError>
+    requires fields { HasFields (named_view model.now) setting }
+    requires headers { setting.headers.items ≡ [] }
+    requires bodies { setting.types.bodies.items ≡ [] }
+    ensures { IfOk result (λ s. IsReady (named_view model.now) (λ n. false) s) }
+{
+    let callees = model.callees.as_slice();
+    let count = callees.len();
+    let headers = no_headers(alloc, count)?;
+    let bodies = no_bodies(alloc, count)?;
+    let known = setting.types;
+    let types = Known {
+        tops: known.tops,
+        over: known.over,
+        fields: known.fields,
+        bodies,
+    };
+    Ok(Setting {
+        signatures: setting.signatures,
+        fields: setting.fields,
+        headers,
+        types,
+        calls: count,
+    })
+}
+
+fn no_headers(alloc: Global, count: usize) -> Result<Vec<Header>, AllocError>
+    ensures { IfOk result (λ headers. length headers.items ≡ count) }
+{
+    let mut headers = Vec::new(alloc);
+    for _ in 0..count {
+        headers.push(Header {
+            parameters: Vec::new(alloc),
+            kind: Kind::Formula,
+        })?;
+    }
+    Ok(headers)
+}
+
+fn no_bodies(alloc: Global, count: usize) -> Result<Vec<Option<Phrase>>, AllocError>
+    ensures { IfOk result (λ bodies. bodies.items ≡ replicate count None) }
+{
+    let mut bodies = Vec::new(alloc);
+    for _ in 0..count {
+        bodies.push(None)?;
+    }
+    Ok(bodies)
+}
+
+// With what is known of the predicates and functions, in an order in which what is called comes before its callers.
+fn all_known<'a>(
+    alloc: Global,
+    model: &Named,
+    order: &[usize],
+    setting: Setting<'a>,
+) -> Result<Setting<'a>, AllocError>
+    requires ready { IsReady (named_view model.now) (λ n. false) setting }
+    requires order { IsOrder (map callees_of (named_view model.now).callees) order.now }
+    ensures tables { IfOk result (λ s. AreTables s) }
+    ensures value { IfOk result (λ s. AreSameDeclared (declared_by s) (declared_in (named_view model.now))) }
+{
+    let mut setting = setting;
+    let mut scope = Scope::new(alloc);
+    for number in order {
+        let (header, body) = known_at(alloc, &setting, &mut scope, &model.callees, *number)?;
+        put(&mut setting, *number, header, body);
+    }
+    Ok(setting)
+}
+
+// The header of the predicate or function of a number, and its body.
+fn known_at(
+    alloc: Global,
+    setting: &Setting,
+    scope: &mut Scope,
+    callees: &[Callee],
+    number: usize,
+) -> Result<(Header, Option<Phrase>), AllocError>
+    requires { AreTables setting.now }
+    ensures there { IfOk result (λ r. number < length callees.now) }
+    ensures header { IfOk result (λ r. (c : CalleeTree) → slice_get (map callee_view callees.now) number ≡ Some c → IsHeader (Some r.0) (header_of (declared_by setting.now) c)) }
+    ensures body { IfOk result (λ r. (c : CalleeTree) → slice_get (map callee_view callees.now) number ≡ Some c → option_map phrase_view r.1 ≡ body_of (declared_by setting.now) c) }
+{
+    match callees.get(number) {
+        Some(callee) => callee_known(alloc, setting, scope, callee),
+        None => Err(AllocError),
+    }
+}
+
+// Puts a header and a body at the place of a number.
+fn put(setting: &mut Setting, number: usize, header: Header, body: Option<Phrase>)
+    requires headers { number < length setting.old.headers.items }
+    requires bodies { number < length setting.old.types.bodies.items }
+    ensures kept { AreKept setting.old setting.new }
+    ensures headers { setting.new.headers.items ≡ slice_set setting.old.headers.items number header }
+    ensures bodies { bodies_view setting.new.types.bodies.items ≡ slice_set (bodies_view setting.old.types.bodies.items) number (option_map phrase_view body) }
+{
+    setting.headers[number] = header;
+    setting.types.bodies[number] = body;
+}

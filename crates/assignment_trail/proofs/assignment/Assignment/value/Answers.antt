@@ -1,6 +1,0 @@
-use Rattle.assignment_trail.proofs.assignment.Assignment.value.Goals as goal
-
-pub returns : goal.returns
-returns c =
-    let of = rw c.as_slice.ensures.value at c.value_in.ensures in
-    rw (← c.self.view_is) (of _ c.self.invariant.marked)

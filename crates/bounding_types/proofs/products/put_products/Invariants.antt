@@ -1,7 +1,0 @@
-use Rattle.std.proofs.Common.{[], ◌∷◌, ◌++◌}
-use Rattle.bounding_types.specs.Same.{AreSame}
-use Rattle.bounding_types.proofs.SetsSoFar.{added}
-use Rattle.bounding_types.proofs.products.put_products.Given as goal
-
-abbrev pub invariant-loop-right : goal.invariant-loop-right
-invariant-loop-right l = AreSame l.all (l.fn.all ++ added (λ r. (l.left ++ r) ∷ []) l.lists l.right-index)

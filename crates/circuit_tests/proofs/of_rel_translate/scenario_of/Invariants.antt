@@ -1,5 +1,0 @@
-use Rattle.rel_formula.specs.Instance.{AreCells}
-use Rattle.circuit_tests.proofs.of_rel_translate.scenario_of.Given as goal
-
-abbrev pub invariant-loop-number : goal.invariant-loop-number
-invariant-loop-number l = AreCells l.problem l.scenario

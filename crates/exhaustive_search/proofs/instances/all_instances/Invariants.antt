@@ -1,6 +1,0 @@
-use Rattle.rel_formula.specs.Instance.{IsInstance}
-use Rattle.exhaustive_search.proofs.SiftedLists.{Sifted}
-use Rattle.exhaustive_search.proofs.instances.all_instances.Given as goal
-
-abbrev pub invariant-loop-scenario : goal.invariant-loop-scenario
-invariant-loop-scenario l = Sifted l.scenario-items (IsInstance l.fn.problem) l.scenario-index l.instances.items

@@ -1,5 +1,0 @@
-use Rattle.std.proofs.Common.{All, take, Contains}
-use Rattle.exhaustive_search.proofs.minimal.includes.Given as goal
-
-abbrev pub invariant-loop-number : goal.invariant-loop-number
-invariant-loop-number l = All (Contains l.scenario) (take l.number-index l.number-items)

@@ -1,5 +1,0 @@
-use Rattle.fault_places.proofs.ModelsAmong.{stop_among}
-use Rattle.fault_places.proofs.laws.a_fault_stands_among_the_tokens.Goals as goal
-
-pub returns : goal.returns
-returns c strict limit ts stop e = stop_among strict limit ts stop e

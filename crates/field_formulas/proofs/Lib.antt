@@ -1,2 +1,0 @@
-mod FieldByField
-mod Linking

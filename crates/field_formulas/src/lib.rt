@@ -1,6 +1,0 @@
-//! What the formula of a problem says of the fields: their bounds, and the words in these.
-#![tactic(auto)]
-
-pub mod fields;
-mod parts;
-mod words;

@@ -1,7 +1,0 @@
-use Rattle.std.proofs.Common.{◌≡◌, drop}
-use Rattle.named_model.specs.Declarations.{texts}
-use Rattle.global_names.specs.Grown.{with_signatures}
-use Rattle.global_names.proofs.declaring.enter_signatures.Given as goal
-
-abbrev pub invariant-loop-name : goal.invariant-loop-name
-invariant-loop-name l = with_signatures l.names (texts (drop l.name-index l.new)) ≡ with_signatures l.fn.names (texts l.new)

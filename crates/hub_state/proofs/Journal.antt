@@ -1,0 +1,5 @@
+pub mod Prefixes
+pub mod Pools
+pub mod Imports
+pub mod FirstEntries
+pub mod Replays

@@ -1,5 +1,0 @@
-mod Prefixes
-mod Pools
-mod Imports
-mod FirstEntries
-mod Replays

@@ -1,8 +1,0 @@
-use Rattle.std.proofs.Common.{◌≡◌, ◌++◌, map}
-use Rattle.rel_formula.specs.View.{formula_tree}
-use Rattle.kernel_parts.proofs.Levels.{said_from}
-use Rattle.kernel_parts.proofs.binders.add_differences.Given as goal
-
-abbrev pub invariant-loop-level : goal.invariant-loop-level
-invariant-loop-level l =
-    map formula_tree l.formulas.items ++ said_from l.depth l.level l.end ≡ map formula_tree l.fn.formulas.items ++ said_from l.depth l.fn.first l.end

@@ -1,6 +1,0 @@
-use Rattle.std.proofs.Common.{◌≡◌, map, take}
-use Rattle.rel_formula.specs.View.{expression_tree}
-use Rattle.kernel_parts.proofs.binders.copies.Given as goal
-
-abbrev pub invariant-loop-expression : goal.invariant-loop-expression
-invariant-loop-expression l = map expression_tree l.copies.items ≡ map expression_tree (take l.expression-index l.expressions)

@@ -1,5 +1,0 @@
-use Rattle.std.proofs.Common.{◌≡◌, ◌++◌, replicate}
-use Rattle.known_callees.proofs.callee.add.Given as goal
-
-abbrev pub invariant-loop : goal.invariant-loop
-invariant-loop l = l.arities.items ≡ l.fn.arities.items ++ replicate l.counter l.arity

@@ -1,0 +1,6 @@
+//! What the text of a model is: a model with names and types, one that opens another, or no model and why.
+
+pub mod laws;
+mod reading;
+
+pub use crate::typed_texts::reading::{ModelText, read_model};

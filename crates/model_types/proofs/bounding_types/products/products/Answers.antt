@@ -1,0 +1,16 @@
+use Rattle.std.proofs.Common.{refl, map, ◌++◌, [], arith}
+use Rattle.model_types.specs.Bounding.{products}
+use Rattle.model_types.specs.Bounds.Same.{lists_of}
+use Rattle.model_types.proofs.Bounds.SetsSoFar.{row_turn, whole}
+use Rattle.model_types.proofs.bounding_types.products.products.Goals as goal
+
+pub loop-left-preserved : goal.loop-left-preserved
+loop-left-preserved c =
+    row_turn (λ y. map (λ r. y ++ r) c.args.b.now) c.as_slice-lists.result.now c.loop-left.left-index c.left-item.result [] c.loop-left.all c.put_products.new.all
+    (map (λ r. c.deref.result.now ++ r) (lists_of c.as_slice.result.now)) c.loop-left-test.true c.left-item.is c.loop-left.invariant c.in_ok-put_products.ensures
+    (λ i. map (λ r. c.deref.ensures.value i ++ r) (c.as_slice.ensures i))
+
+pub returns : goal.returns
+returns c =
+    whole (λ y. map (λ r. y ++ r) c.args.b.now) c.as_slice-lists.result.now c.loop-left.left-index [] c.loop-left.all c.args.a.now (products c.args.a.now c.args.b.now)
+    (omega arith) c.as_slice-lists.ensures refl c.loop-left.invariant

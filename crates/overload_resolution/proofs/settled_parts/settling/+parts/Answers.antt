@@ -1,0 +1,554 @@
+use Rattle.std.proofs.Common.{◌≡◌, rules, ◌+◌, ◌||◌, Bool, Result, List, [], map, drop, ap, ◌∙◌, sym, subst, refl, Ok, Err, inr, Bor, Vec, Global}
+use denote.Param.Weighed.{at_most}
+use Rattle.std.specs.Option.{option_copied, option_map}
+use Rattle.std.proofs.lemmas.Result.{err_from_is_err_and}
+use Rattle.named_model.specs.declared.phrase.Phrase.{Phrase}
+use Rattle.named_model.specs.declared.phrase.Phrase.TheViews.{the_lemmas}
+use Rattle.named_model.specs.declared.phrase.Domain.{Domain}
+use Rattle.named_model.specs.Phrase as tree
+use Rattle.named_model.specs.Phrase.{links_of, steps_of, domains_of, no_steps}
+use Rattle.named_model.specs.View.{phrase_view, phrases_view, link_view, step_view, domain_view}
+use Rattle.model_types.specs.Typing.{Local, type_in, links_settled, steps_settled, domains_settled, values_settled, tops_behind, ends_of}
+use Rattle.model_types.specs.Parts.Kinds.{kind_view}
+use Rattle.model_types.specs.declared.fault.TypeFault.{TypeFault}
+use Rattle.overload_resolution.specs.Settling.Inside.{AreAlikeWhere}
+use Rattle.overload_resolution.specs.Settling.Told.{Gives}
+use Rattle.overload_resolution.specs.Settling.Single.{argument_first}
+use Rattle.overload_resolution.proofs.Settling.SharedDeclarations.{asks_left}
+use Rattle.overload_resolution.specs.declared.shared_names.headers.Header.{Header}
+use Rattle.overload_resolution.specs.Settling.Same.{Asks}
+use Rattle.overload_resolution.specs.Names.Shared.{shared_in, shared_among, shared_in_domains}
+use Rattle.overload_resolution.proofs.Settling.Asking.{operands_alike, members_alike}
+use Rattle.overload_resolution.proofs.Settling.Reaching.{domain_first}
+use Rattle.overload_resolution.proofs.Settling.Loops.{FormulasLeft, OperandsLeft, StepsLeft, ReachedBehind}
+use Rattle.overload_resolution.specs.Scopes.Declaring.{declared_by}
+use Rattle.overload_resolution.specs.Scopes.Given.{settled_view}
+use Rattle.overload_resolution.proofs.Scopes.Standing.{same_types}
+use Rattle.overload_resolution.specs.Scopes.Zipped.{IsInside}
+use Rattle.overload_resolution.specs.Parts.Given.{GivesBehind, IsGiven, IsGivenFirst, IsGivenBefore}
+use Rattle.overload_resolution.specs.Parts.Views.{phrases_seen, domains_seen, links_seen, steps_seen}
+use Rattle.overload_resolution.proofs.Parts.Lists.{ArgumentsFound, formula_start, formula_more, formula_fault, formula_all, given_here, argument_start, argument_more, argument_fault, argument_all}
+use Rattle.overload_resolution.proofs.Parts.Operands.{links_ask, operand_start, operand_more, operand_fault, operand_all, steps_ask, given_step, none_given, step_start, step_more, step_fault, step_all}
+use Rattle.overload_resolution.proofs.Parts.Entered.{behind_start, domains_ask, values_ask, domain_more, domain_fault, domain_all, value_more, value_fault, value_all, inside_then}
+use Rattle.overload_resolution.proofs.Parts.PathHeads.{settled_by, brackets_come, join_comes, join_seen, given_brackets}
+use Rattle.overload_resolution.proofs.Parts.Arms.{head_by, asked_brackets, asked_join, join_stepped}
+use Rattle.overload_resolution.proofs.Parts.WalkedParts.{asks_then, asks_else, entry_read, call_fault, call_is, steps_fault, steps_are, body_fault, body_is, let_body_fault, let_body_is}
+use Rattle.overload_resolution.proofs.settled_parts.settling.+parts.Goals.{part-then-is_in_domains, part-else-is_in_domains, part-then-is_among, part-else-is_among}
+use Rattle.overload_resolution.proofs.settled_parts.settling.+parts.Goals as goal
+
+pub formulas-loop-phrase-init : goal.formulas-loop-phrase-init
+formulas-loop-phrase-init t c = record {
+  same = refl;
+  left = subst (λ xs. FormulasLeft (declared_by c.args.setting.now) c.args.scope.now.locals (phrases_view c.args.phrases.now) (phrases_view c.args.phrases.now) (map phrase_view xs)) (sym c.new-all.ensures.items)
+      (formula_start (declared_by c.args.setting.now) c.args.scope.now.locals c.args.phrases.now);
+}
+
+pub formulas-loop-phrase-preserved : goal.formulas-loop-phrase-preserved
+formulas-loop-phrase-preserved t c =
+    let l = c.loop-phrase in
+    record {
+      same = c.in_ok-another.ensures.locals ∙ l.invariant.same;
+      left = formula_more (declared_by c.args.setting.now) c.args.scope.now.locals c.args.phrases.now l.scope.locals l.invariant.same l.phrase-index c.phrase-item.result c.loop-phrase-test.true c.phrase-item.is l.all.items l.invariant.left c.in_ok-another.another c.push.new.self.items c.in_ok-push.ensures.items c.in_ok-another.ensures.value;
+    }
+
+pub formulas-returns-in_err-another-clause-value : goal.formulas-returns-in_err-another-clause-value
+formulas-returns-in_err-another-clause-value t c =
+    let l = c.loop-phrase in
+    let p = err_from_is_err_and c.from_residual.result c.from_residual.ensures.1 in
+    rw (p.1, p.2) (formula_fault (declared_by c.args.setting.now) c.args.scope.now.locals c.args.phrases.now l.scope.locals l.invariant.same l.phrase-index c.phrase-item.result c.loop-phrase-test.true c.phrase-item.is l.all.items l.invariant.left c.in_err-another.field-0.0 c.in_err-another.ensures.value)
+
+pub formulas-returns-clause-value : goal.formulas-returns-clause-value
+formulas-returns-clause-value t c =
+    let l = c.loop-phrase in
+    formula_all (declared_by c.args.setting.now) c.args.scope.now.locals c.args.phrases.now l.phrase-index l.all.items c.loop-phrase-test.false l.invariant.left
+
+pub all_arguments-loop-phrase-init : goal.all_arguments-loop-phrase-init
+all_arguments-loop-phrase-init t c = record {
+  same = refl;
+  given = c.requires.given;
+  left = subst (λ xs. ArgumentsFound (declared_by c.args.setting.now) c.args.scope.now.locals c.args.phrases.now c.args.phrases.now xs c.new-arities.result.items) (sym c.new-all.ensures.items)
+      (subst (λ ns. ArgumentsFound (declared_by c.args.setting.now) c.args.scope.now.locals c.args.phrases.now c.args.phrases.now [] ns) (sym c.new-arities.ensures.items)
+      (argument_start (declared_by c.args.setting.now) c.args.scope.now.locals c.args.phrases.now));
+}
+
+pub all_arguments-loop-phrase-preserved : goal.all_arguments-loop-phrase-preserved
+all_arguments-loop-phrase-preserved t c =
+    let l = c.loop-phrase in
+    record {
+      same = c.in_ok-argument.ensures.locals ∙ l.invariant.same;
+      given = subst (λ g. IsGivenFirst (declared_by c.args.setting.now) c.args.scope.now.locals g (phrases_view (drop (l.phrase-index + 1) c.args.phrases.now))) (sym c.take.ensures.after) (λ x rest is. tt);
+      left = argument_more (declared_by c.args.setting.now) c.args.scope.now.locals c.args.phrases.now l.scope.locals l.invariant.same l.phrase-index c.phrase-item.result c.loop-phrase-test.true c.phrase-item.is l.all.items l.arities.items l.invariant.left c.in_ok-argument.argument c.in_ok-argument.arity c.first_place.result c.push.new.self.items c.push-in-loop-phrase.new.self.items c.in_ok-push.ensures.items c.in_ok-push-2.ensures.items c.first_place.ensures c.in_ok-argument.ensures.value;
+    }
+
+pub all_arguments-returns-in_err-argument-clause-value : goal.all_arguments-returns-in_err-argument-clause-value
+all_arguments-returns-in_err-argument-clause-value t c =
+    let l = c.loop-phrase in
+    let p = err_from_is_err_and c.from_residual.result c.from_residual.ensures.1 in
+    rw (p.1, p.2) (argument_fault (declared_by c.args.setting.now) c.args.scope.now.locals c.args.phrases.now l.scope.locals l.invariant.same l.phrase-index c.phrase-item.result c.loop-phrase-test.true c.phrase-item.is l.all.items l.arities.items l.invariant.left c.in_err-argument.field-0.0 c.in_err-argument.ensures.value)
+
+pub all_arguments-returns-clause-value : goal.all_arguments-returns-clause-value
+all_arguments-returns-clause-value t c =
+    let l = c.loop-phrase in
+    argument_all (declared_by c.args.setting.now) c.args.scope.now.locals c.args.phrases.now l.phrase-index l.all.items l.arities.items c.loop-phrase-test.false l.invariant.left
+
+pub behind-returns-clause-value : goal.behind-returns-clause-value
+behind-returns-clause-value t c =
+    let d = declared_by c.args.setting.now in
+    let ls = c.args.scope.now.locals in
+    let links = links_of (map link_view c.args.links.now) in
+    let k = kind_view c.args.kind in
+    subst (λ r. Gives links_seen c.operands.result r)
+    (ap (λ (m : List Local). links_settled d m c.args.left k c.in_ok-of.of links) c.type_where.ensures.locals
+    ∙ operands_alike c.asks_in_links-asked.result d ls c.args.left k c.in_ok-of.of (type_in d ls (phrase_view c.args.head.now)) links (λ e. c.asks_in_links-asked.ensures ∙ e) c.in_ok-of.ensures.value)
+    c.operands.ensures.value
+
+pub operands-loop-link-init : goal.operands-loop-link-init
+operands-loop-link-init t c = record {
+  same = refl;
+  asks = λ e. sym c.requires.asked ∙ e;
+  left =
+      let d = declared_by c.args.setting.now in
+      let ls = c.args.scope.now.locals in
+      let whole = links_settled d ls c.args.left (kind_view c.args.kind) c.args.of (links_of (map link_view c.args.links.now)) in
+      subst (λ xs. OperandsLeft d ls c.args.left whole (kind_view c.args.kind) c.args.of (links_of (map link_view c.args.links.now)) (map link_view xs)) (sym c.new-all.ensures.items)
+      (operand_start d ls c.args.left whole c.args.links.now (kind_view c.args.kind) c.args.of refl);
+}
+
+pub operands-loop-link-preserved : goal.operands-loop-link-preserved
+operands-loop-link-preserved t c =
+    let d = declared_by c.args.setting.now in
+    let ls = c.args.scope.now.locals in
+    let l = c.loop-link in
+    let whole = links_settled d ls c.args.left (kind_view c.args.kind) c.args.of (links_of (map link_view c.args.links.now)) in
+    record {
+      same = c.in_ok-of.ensures.locals ∙ c.in_ok-another.ensures.locals ∙ l.invariant.same;
+      asks = links_ask c.args.asked c.args.links.now l.link-index c.link-item.result c.loop-link-test.true c.link-item.is l.invariant.asks;
+      left = operand_more d ls c.args.left whole c.args.links.now l.scope.locals l.invariant.same l.link-index c.link-item.result c.loop-link-test.true c.link-item.is l.kind l.of l.all.items l.invariant.left
+          c.args.asked c.link_settled.new.scope.locals c.in_ok-another.another c.in_ok-another.next c.in_ok-of.of c.push.new.self.items c.in_ok-another.ensures.locals c.in_ok-push.ensures.items c.in_ok-another.ensures.value c.in_ok-of.ensures.value l.invariant.asks;
+    }
+
+pub operands-returns-in_err-another-clause-value : goal.operands-returns-in_err-another-clause-value
+operands-returns-in_err-another-clause-value t c =
+    let d = declared_by c.args.setting.now in
+    let ls = c.args.scope.now.locals in
+    let l = c.loop-link in
+    let whole = links_settled d ls c.args.left (kind_view c.args.kind) c.args.of (links_of (map link_view c.args.links.now)) in
+    let p = err_from_is_err_and c.from_residual.result c.from_residual.ensures.1 in
+    rw (p.1, p.2) (operand_fault d ls c.args.left whole c.args.links.now l.scope.locals l.invariant.same l.link-index c.link-item.result c.loop-link-test.true c.link-item.is l.kind l.of l.all.items l.invariant.left c.in_err-another.field-0.0 c.in_err-another.ensures.value)
+
+pub operands-returns-clause-value : goal.operands-returns-clause-value
+operands-returns-clause-value t c =
+    let d = declared_by c.args.setting.now in
+    let ls = c.args.scope.now.locals in
+    let l = c.loop-link in
+    let whole = links_settled d ls c.args.left (kind_view c.args.kind) c.args.of (links_of (map link_view c.args.links.now)) in
+    operand_all d ls c.args.left whole c.args.links.now l.link-index (kind_view l.kind) l.of l.all.items c.loop-link-test.false l.invariant.left
+
+pub operand-returns-clause-value : goal.operand-returns-clause-value
+operand-returns-clause-value t c =
+    let d = declared_by c.args.setting.now in
+    let ls = c.args.scope.now.locals in
+    subst (λ r. Gives settled_view c.part.result r)
+    (settled_by d ls ls c.in_ok-tops.tops (tops_behind c.args.operator c.args.of.now) (phrase_view c.args.phrase.now) refl (c.in_ok-tops.ensures c.args.of.now (λ t. refl)))
+    c.part.ensures.value
+
+pub member-returns-clause-value : goal.member-returns-clause-value
+member-returns-clause-value t c =
+    let d = declared_by c.args.setting.now in
+    let ls = c.args.scope.now.locals in
+    subst (λ r. Gives settled_view c.part.result r)
+    (settled_by d ls ls c.in_ok-tops.tops (ends_of c.args.of.now) (phrase_view c.args.phrase.now) refl (c.in_ok-tops.ensures c.args.of.now (λ t. refl)))
+    c.part.ensures.value
+
+pub after-returns-clause-value : goal.after-returns-clause-value
+after-returns-clause-value t c =
+    let d = declared_by c.args.setting.now in
+    let ls = c.args.scope.now.locals in
+    let steps = steps_of (map step_view c.args.steps.now) in
+    let k = kind_view c.args.kind in
+    subst (λ r. Gives steps_seen c.all_steps.result r)
+    (ap (λ (m : List Local). steps_settled d m c.args.left k c.in_ok-of.of steps) c.type_where.ensures.locals
+    ∙ members_alike c.asks_in_steps-asked.result d ls c.args.left k c.in_ok-of.of (type_in d ls (phrase_view c.args.head.now)) steps (λ e. c.asks_in_steps-asked.ensures ∙ e) c.in_ok-of.ensures.value)
+    c.all_steps.ensures.value
+
+pub all_steps-loop-step-init : goal.all_steps-loop-step-init
+all_steps-loop-step-init t c = record {
+  same = refl;
+  asks = λ e. sym c.requires.asked ∙ e;
+  given = c.requires.given;
+  left =
+      let d = declared_by c.args.setting.now in
+      let ls = c.args.scope.now.locals in
+      let whole = steps_settled d ls c.args.left (kind_view c.args.kind) c.args.of (steps_of (map step_view c.args.steps.now)) in
+      subst (λ xs. StepsLeft d ls c.args.left whole (kind_view c.args.kind) c.args.of (steps_of (map step_view c.args.steps.now)) (map tree.step_first (map step_view xs))) (sym c.new-all.ensures.items)
+      (step_start d ls c.args.left whole c.args.steps.now (kind_view c.args.kind) c.args.of refl);
+}
+
+pub all_steps-loop-step-preserved : goal.all_steps-loop-step-preserved
+all_steps-loop-step-preserved t c =
+    let d = declared_by c.args.setting.now in
+    let ls = c.args.scope.now.locals in
+    let l = c.loop-step in
+    let whole = steps_settled d ls c.args.left (kind_view c.args.kind) c.args.of (steps_of (map step_view c.args.steps.now)) in
+    record {
+      same = c.in_ok-of.ensures.locals ∙ c.in_ok-another.ensures.locals ∙ l.invariant.same;
+      asks = steps_ask c.args.asked c.args.steps.now l.step-index c.step-item.result c.loop-step-test.true c.step-item.is l.invariant.asks;
+      given = subst (λ g. IsGivenBefore d ls g (steps_of (map step_view (drop (l.step-index + 1) c.args.steps.now)))) (sym c.take.ensures.after) (none_given d ls (steps_of (map step_view (drop (l.step-index + 1) c.args.steps.now))));
+      left = step_more d ls c.args.left whole c.args.steps.now l.scope.locals l.invariant.same l.step-index c.step-item.result c.loop-step-test.true c.step-item.is l.kind l.of l.all.items l.invariant.left
+          c.args.asked c.step_settled.new.scope.locals c.in_ok-another.another c.in_ok-another.next c.in_ok-of.of c.push.new.self.items c.in_ok-another.ensures.locals c.in_ok-push.ensures.items c.in_ok-another.ensures.value c.in_ok-of.ensures.value l.invariant.asks;
+    }
+
+pub all_steps-returns-in_err-another-clause-value : goal.all_steps-returns-in_err-another-clause-value
+all_steps-returns-in_err-another-clause-value t c =
+    let d = declared_by c.args.setting.now in
+    let ls = c.args.scope.now.locals in
+    let l = c.loop-step in
+    let whole = steps_settled d ls c.args.left (kind_view c.args.kind) c.args.of (steps_of (map step_view c.args.steps.now)) in
+    let p = err_from_is_err_and c.from_residual.result c.from_residual.ensures.1 in
+    rw (p.1, p.2) (step_fault d ls c.args.left whole c.args.steps.now l.scope.locals l.invariant.same l.step-index c.step-item.result c.loop-step-test.true c.step-item.is l.kind l.of l.all.items l.invariant.left c.in_err-another.field-0.0 c.in_err-another.ensures.value)
+
+pub all_steps-returns-clause-value : goal.all_steps-returns-clause-value
+all_steps-returns-clause-value t c =
+    let d = declared_by c.args.setting.now in
+    let ls = c.args.scope.now.locals in
+    let l = c.loop-step in
+    let whole = steps_settled d ls c.args.left (kind_view c.args.kind) c.args.of (steps_of (map step_view c.args.steps.now)) in
+    step_all d ls c.args.left whole c.args.steps.now l.step-index (kind_view l.kind) l.of l.all.items c.loop-step-test.false l.invariant.left
+
+pub domains-loop-variable-init : goal.domains-loop-variable-init
+domains-loop-variable-init t c = record {
+  inside = ([], refl);
+  asks = c.requires.asked;
+  left =
+      let whole = domains_settled c.args.single (declared_by c.args.setting.now) c.args.scope.now.locals (domains_of (map domain_view c.args.variables.now)) in
+      subst (λ xs. ReachedBehind c.args.asked domain_first (map domain_view xs) whole whole) (sym c.new-all.ensures.items) (behind_start c.args.asked domain_first whole);
+}
+
+pub domains-loop-variable-preserved : goal.domains-loop-variable-preserved
+domains-loop-variable-preserved t c =
+    let s = c.args.setting.now in
+    let d = declared_by s in
+    let l = c.loop-variable in
+    let whole = domains_settled c.args.single d c.args.scope.now.locals (domains_of (map domain_view c.args.variables.now)) in
+    let more = c.in_ok-enter_all.ensures.inside in
+    record {
+      inside = inside_then c.enter_all.new.scope.locals c.domain_settled.new.scope.locals l.scope.locals c.args.scope.now.locals more c.in_ok-domain.ensures.locals l.invariant.inside;
+      asks = domains_ask c.args.asked c.args.variables.now l.variable-index c.variable-item.result c.loop-variable-test.true c.variable-item.is l.invariant.asks;
+      left = domain_more c.args.asked d (same_types s c.requires.tables) c.args.single whole c.args.variables.now l.scope.locals l.variable-index l.all.items l.invariant.left
+          c.variable-item.result c.loop-variable-test.true c.variable-item.is c.in_ok-domain.domain c.in_ok-domain.arity c.domain_settled.new.scope.locals c.enter_all.new.scope.locals c.push.new.self.items c.in_ok-push.ensures.items c.in_ok-domain.ensures.locals c.in_ok-domain.ensures.value c.in_ok-enter_all.ensures.alike l.invariant.asks;
+    }
+
+pub domains-returns-in_err-domain-clause-value : goal.domains-returns-in_err-domain-clause-value
+domains-returns-in_err-domain-clause-value t c =
+    let s = c.args.setting.now in
+    let d = declared_by s in
+    let l = c.loop-variable in
+    let whole = domains_settled c.args.single d c.args.scope.now.locals (domains_of (map domain_view c.args.variables.now)) in
+    let p = err_from_is_err_and c.from_residual.result c.from_residual.ensures.1 in
+    rw (p.1, p.2) (domain_fault c.args.asked d (same_types s c.requires.tables) c.args.single whole c.args.variables.now l.scope.locals l.variable-index l.all.items l.invariant.left c.variable-item.result c.loop-variable-test.true c.variable-item.is c.in_err-domain.field-0.0 c.in_err-domain.ensures.value)
+
+pub domains-returns-in_err-domain-clause-inside : goal.domains-returns-in_err-domain-clause-inside
+domains-returns-in_err-domain-clause-inside t c = subst (λ (ls : List Local). IsInside ls c.args.scope.now.locals) (sym c.in_err-domain.ensures.locals) c.loop-variable.invariant.inside
+
+pub domains-returns-in_err-enter_all-clause-inside : goal.domains-returns-in_err-enter_all-clause-inside
+domains-returns-in_err-enter_all-clause-inside t c =
+    inside_then c.enter_all.new.scope.locals c.domain_settled.new.scope.locals c.loop-variable.scope.locals c.args.scope.now.locals c.in_err-enter_all.ensures.inside c.in_ok-domain.ensures.locals c.loop-variable.invariant.inside
+
+pub domains-returns-in_err-push-clause-inside : goal.domains-returns-in_err-push-clause-inside
+domains-returns-in_err-push-clause-inside t c =
+    inside_then c.enter_all.new.scope.locals c.domain_settled.new.scope.locals c.loop-variable.scope.locals c.args.scope.now.locals c.in_ok-enter_all.ensures.inside c.in_ok-domain.ensures.locals c.loop-variable.invariant.inside
+
+pub domains-returns-clause-value : goal.domains-returns-clause-value
+domains-returns-clause-value t c =
+    let s = c.args.setting.now in
+    let d = declared_by s in
+    let l = c.loop-variable in
+    let whole = domains_settled c.args.single d c.args.scope.now.locals (domains_of (map domain_view c.args.variables.now)) in
+    domain_all c.args.asked d (same_types s c.requires.tables) c.args.single whole c.args.variables.now l.scope.locals l.variable-index l.all.items l.invariant.left c.loop-variable-test.false
+
+pub values-loop-phrase-init : goal.values-loop-phrase-init
+values-loop-phrase-init t c = record {
+  inside = ([], refl);
+  asks = c.requires.asked;
+  left =
+      let whole = values_settled (declared_by c.args.setting.now) c.args.scope.now.locals (phrases_view c.args.phrases.now) in
+      subst (λ xs. ReachedBehind c.args.asked tree.more_phrases (map phrase_view xs) whole whole) (sym c.new-all.ensures.items) (behind_start c.args.asked tree.more_phrases whole);
+}
+
+pub values-loop-phrase-preserved : goal.values-loop-phrase-preserved
+values-loop-phrase-preserved t c =
+    let s = c.args.setting.now in
+    let d = declared_by s in
+    let l = c.loop-phrase in
+    let whole = values_settled d c.args.scope.now.locals (phrases_view c.args.phrases.now) in
+    record {
+      inside = inside_then c.enter_all.new.scope.locals c.relation.new.scope.locals l.scope.locals c.args.scope.now.locals c.in_ok-enter_all.ensures.inside c.in_ok-value.ensures.locals l.invariant.inside;
+      asks = values_ask c.args.asked c.args.phrases.now l.phrase-index c.phrase-item.result c.loop-phrase-test.true c.phrase-item.is l.invariant.asks;
+      left = value_more c.args.asked d (same_types s c.requires.tables) whole c.args.phrases.now l.scope.locals l.phrase-index l.all.items l.invariant.left
+          c.phrase-item.result c.loop-phrase-test.true c.phrase-item.is c.in_ok-value.value c.in_ok-value.arity c.relation.new.scope.locals c.enter_all.new.scope.locals c.push.new.self.items c.in_ok-push.ensures.items c.in_ok-value.ensures.locals c.in_ok-value.ensures.value c.in_ok-enter_all.ensures.alike l.invariant.asks;
+    }
+
+pub values-returns-in_err-value-clause-value : goal.values-returns-in_err-value-clause-value
+values-returns-in_err-value-clause-value t c =
+    let s = c.args.setting.now in
+    let d = declared_by s in
+    let l = c.loop-phrase in
+    let whole = values_settled d c.args.scope.now.locals (phrases_view c.args.phrases.now) in
+    let p = err_from_is_err_and c.from_residual.result c.from_residual.ensures.1 in
+    rw (p.1, p.2) (value_fault c.args.asked d (same_types s c.requires.tables) whole c.args.phrases.now l.scope.locals l.phrase-index l.all.items l.invariant.left c.phrase-item.result c.loop-phrase-test.true c.phrase-item.is c.in_err-value.field-0.0 c.in_err-value.ensures.value)
+
+pub values-returns-in_err-value-clause-inside : goal.values-returns-in_err-value-clause-inside
+values-returns-in_err-value-clause-inside t c = subst (λ (ls : List Local). IsInside ls c.args.scope.now.locals) (sym c.in_err-value.ensures.locals) c.loop-phrase.invariant.inside
+
+pub values-returns-in_err-enter_all-clause-inside : goal.values-returns-in_err-enter_all-clause-inside
+values-returns-in_err-enter_all-clause-inside t c =
+    inside_then c.enter_all.new.scope.locals c.relation.new.scope.locals c.loop-phrase.scope.locals c.args.scope.now.locals c.in_err-enter_all.ensures.inside c.in_ok-value.ensures.locals c.loop-phrase.invariant.inside
+
+pub values-returns-in_err-push-clause-inside : goal.values-returns-in_err-push-clause-inside
+values-returns-in_err-push-clause-inside t c =
+    inside_then c.enter_all.new.scope.locals c.relation.new.scope.locals c.loop-phrase.scope.locals c.args.scope.now.locals c.in_ok-enter_all.ensures.inside c.in_ok-value.ensures.locals c.loop-phrase.invariant.inside
+
+pub values-returns-clause-value : goal.values-returns-clause-value
+values-returns-clause-value t c =
+    let s = c.args.setting.now in
+    let d = declared_by s in
+    let l = c.loop-phrase in
+    let whole = values_settled d c.args.scope.now.locals (phrases_view c.args.phrases.now) in
+    value_all c.args.asked d (same_types s c.requires.tables) whole c.args.phrases.now l.scope.locals l.phrase-index l.all.items l.invariant.left c.loop-phrase-test.false
+
+pub all_arguments-relation-requires : goal.all_arguments-relation-requires
+all_arguments-relation-requires t c =
+    let l = c.loop-phrase in (
+      search (rules, the_lemmas, at_most),
+      (
+        c.requires.tables,
+        subst (λ g. IsGiven (declared_by c.args.setting.now) l.scope.locals g (phrase_view c.phrase-item.result)) (sym c.take.ensures.value)
+            (subst (λ (ls : List Local). IsGiven (declared_by c.args.setting.now) ls l.given (phrase_view c.phrase-item.result)) (sym l.invariant.same)
+            (given_here (declared_by c.args.setting.now) c.args.scope.now.locals c.args.phrases.now l.given l.phrase-index c.phrase-item.result c.loop-phrase-test.true c.phrase-item.is l.invariant.given)),
+      ),
+    )
+
+pub all_steps-step_settled-requires : goal.all_steps-step_settled-requires
+all_steps-step_settled-requires t c =
+    let d = declared_by c.args.setting.now in
+    let l = c.loop-step in (
+      search (rules, the_lemmas, at_most),
+      (
+        c.requires.tables,
+        subst (λ g. IsGivenBefore d l.scope.locals g (tree.step_first (step_view c.step-item.result) no_steps)) (sym c.take.ensures.value)
+            (subst (λ (ls : List Local). IsGivenBefore d ls l.given (tree.step_first (step_view c.step-item.result) no_steps)) (sym l.invariant.same)
+            (given_step d c.args.scope.now.locals l.given c.args.steps.now l.step-index c.step-item.result c.loop-step-test.true c.step-item.is l.invariant.given)),
+      ),
+    )
+
+pub after-all_steps-requires : goal.after-all_steps-requires
+after-all_steps-requires t c = (
+  search rules,
+  (
+    c.requires.tables,
+    (
+      sym c.asks_in_steps-asked.ensures,
+      subst (λ (ls : List Local). IsGivenBefore (declared_by c.args.setting.now) ls c.args.given (steps_of (map step_view c.args.steps.now))) (sym c.type_where.ensures.locals) c.requires.given,
+    ),
+  ),
+)
+
+pub behind-operands-requires : goal.behind-operands-requires
+behind-operands-requires t c = (search rules, (c.requires, sym c.asks_in_links-asked.ensures))
+
+pub step_settled-bracketed-requires : goal.step_settled-bracketed-requires
+step_settled-bracketed-requires t c = (
+  search (rules, the_lemmas, at_most),
+  (
+    c.requires.tables,
+    subst (λ xs. IsGivenFirst (declared_by c.args.setting.now) c.args.scope.now.locals c.args.given (phrases_view xs)) (sym c.deref.ensures.value)
+        (given_brackets (declared_by c.args.setting.now) c.args.scope.now.locals c.args.given c.args.step.now c.in-Brackets.place c.in-Brackets.phrases c.in-Brackets.is c.requires.given),
+  ),
+)
+
+pub step_settled-returns-in_ok-operand-in-Join-clause-value : goal.step_settled-returns-in_ok-operand-in-Join-clause-value
+step_settled-returns-in_ok-operand-in-Join-clause-value t c =
+    join_stepped (declared_by c.args.setting.now) c.args.scope.now.locals c.args.left (kind_view c.args.kind) c.args.of.now (step_view c.args.step.now) c.in-Join.place (phrase_view c.in-Join.operand) c.in_ok-operand-in-Join.operand c.in_ok-operand-in-Join.kind
+    (ap step_view c.in-Join.is ∙ join_seen c.in-Join.place c.in-Join.operand) c.in_ok-operand-in-Join.ensures.value
+
+pub argument_asked-returns-in-Some-Brackets-clause-value : goal.argument_asked-returns-in-Some-Brackets-clause-value
+argument_asked-returns-in-Some-Brackets-clause-value t c =
+    let d = declared_by c.args.setting.now in
+    let ls = c.args.scope.now.locals in
+    let xs = c.in-Some-Brackets.arguments in
+    let there = sym (ap option_copied c.in-Some-Brackets.is) ∙ c.first.ensures.value in
+    let same = c.deref.ensures.value ∙ ap (λ (v : Vec Phrase Global). v.items) c.in-Some-Brackets.arguments-is in
+    subst (λ r. Gives (option_map settled_view) c.argument_first.result r)
+    (ap (λ (ys : List Phrase). argument_first d ls (phrases_view ys)) same
+    ∙ sym (asked_brackets d ls (phrase_view c.args.head.now) (steps_of (map step_view c.args.steps.now)) c.in-Some-Brackets.field-0-0 (phrases_view xs.items) (steps_of (map step_view (drop 1 c.args.steps.now))) (sym c.if-not-is_shared.ensures)
+    (brackets_come c.args.steps.now c.in-Some-Brackets.field-0.now c.in-Some-Brackets.field-0-0 xs there c.in-Some-Brackets.field-0-is)))
+    c.argument_first.ensures.value
+
+pub argument_asked-returns-in-Some-Join-clause-value : goal.argument_asked-returns-in-Some-Join-clause-value
+argument_asked-returns-in-Some-Join-clause-value t c =
+    let there = sym (ap option_copied c.in-Some-Join.is) ∙ c.first.ensures.value in
+    asked_join (declared_by c.args.setting.now) c.args.scope.now.locals (phrase_view c.args.head.now) (steps_of (map step_view c.args.steps.now)) c.in-Some-Join.field-0-0 (phrase_view c.in-Some-Join.field-0-1) (steps_of (map step_view (drop 1 c.args.steps.now)))
+    (join_comes c.args.steps.now c.in-Some-Join.field-0.now c.in-Some-Join.field-0-0 c.in-Some-Join.field-0-1 there c.in-Some-Join.field-0-is)
+
+pub head_settled-returns-in_ok-tops-in-Some-clause-value : goal.head_settled-returns-in_ok-tops-in-Some-clause-value
+head_settled-returns-in_ok-tops-in-Some-clause-value t c =
+    let d = declared_by c.args.setting.now in
+    let ls = c.args.scope.now.locals in
+    subst (λ r. Gives settled_view c.part.result r)
+    (head_by d ls c.type_inside.new.scope.locals c.args.given.now c.in-Some.argument c.in_ok-of-in-Some.of c.in_ok-tops-in-Some.tops (phrase_view c.args.head.now) c.in_ok-of-in-Some.ensures.locals c.in-Some.is c.in_ok-of-in-Some.ensures.value c.in_ok-tops-in-Some.ensures)
+    c.part.ensures.value
+
+-- what was entered where there was no fault
+entered_behind : {X Y : Type 0} (asked : Bool) (see : X → Y) (made : Result X TypeFault) (x : X) (new now : List Local) (whole : Result (Y × List Local) TypeFault)
+    → Ok x ≡ made → now ≡ new → GivesBehind asked see made new whole → (behind : List Local) × (whole ≡ Ok (see x, behind)) × AreAlikeWhere asked now behind
+entered_behind asked see made x new now whole is same gives =
+    let at : GivesBehind asked see (Ok x) new whole = subst (λ r. GivesBehind asked see r new whole) (sym is) gives in
+    (at.0, at.1, subst (λ (ls : List Local). AreAlikeWhere asked ls at.0) (sym same) at.2)
+
+pub part-domains-variables-requires : goal.part-domains-variables-requires
+part-domains-variables-requires t c =
+    let asked = c.if-is_in_domains.asked in
+    let test = shared_in_domains (domains_of (map domain_view c.in-Quantified.variables.items)) in
+    let other = shared_in (phrase_view c.in-Quantified.inner.value) in
+    let asks : Asks (test || other) asked = elim c.if-is_in_domains.branch [
+      | part-then-is_in_domains w ↦ asks_then test other asked (w.asked-is ∙ w.if-is_in_domains.true)
+      | part-else-is_in_domains w ↦
+          asks_else test other asked (w.asked-is ∙ w.is_in-asked.ensures ∙ ap (λ (y : Phrase). shared_in (phrase_view y)) w.deref-else-is_in_domains.ensures)
+          (w.if-is_in_domains.ensures ∙ ap (λ (vs : List Domain). shared_in_domains (domains_of (map domain_view vs))) c.deref-in-Quantified.ensures.value)
+    ] in (
+      search (rules, the_lemmas, at_most),
+      (
+        c.requires,
+        subst (λ (vs : List Domain). Asks (shared_in_domains (domains_of (map domain_view vs))) asked) (sym c.deref-in-Quantified-2.ensures.value) (asks_left test other asked asks),
+      ),
+    )
+
+pub part-values-values-requires : goal.part-values-values-requires
+part-values-values-requires t c =
+    let asked = c.if-is_among.asked in
+    let test = shared_among (phrases_view c.in-Let.phrases.items) in
+    let other = shared_in (phrase_view c.in-Let.inner.value) in
+    let asks : Asks (test || other) asked = elim c.if-is_among.branch [
+      | part-then-is_among w ↦ asks_then test other asked (w.asked-is ∙ w.if-is_among.true)
+      | part-else-is_among w ↦
+          asks_else test other asked (w.asked-is ∙ w.is_in-asked-else-is_among.ensures ∙ ap (λ (y : Phrase). shared_in (phrase_view y)) w.deref-else-is_among.ensures)
+          (w.if-is_among.ensures ∙ ap (λ (vs : List Phrase). shared_among (phrases_view vs)) c.deref-in-Let.ensures.value)
+    ] in (
+      search (rules, the_lemmas, at_most),
+      (
+        c.requires,
+        subst (λ (vs : List Phrase). Asks (shared_among (phrases_view vs)) asked) (sym c.deref-in-Let-2.ensures.value) (asks_left test other asked asks),
+      ),
+    )
+
+pub part-returns-in_err-inner-in-Quantified-clause-value : goal.part-returns-in_err-inner-in-Quantified-clause-value
+part-returns-in_err-inner-in-Quantified-clause-value t c =
+    let s = c.args.setting.now in
+    let d = declared_by s in
+    let ls = c.args.scope.now.locals in
+    let asked = c.if-is_in_domains.asked in
+    let test = shared_in_domains (domains_of (map domain_view c.in-Quantified.variables.items)) in
+    let other = shared_in (phrase_view c.in-Quantified.inner.value) in
+    let asks : Asks (test || other) asked = elim c.if-is_in_domains.branch [
+      | part-then-is_in_domains w ↦ asks_then test other asked (w.asked-is ∙ w.if-is_in_domains.true)
+      | part-else-is_in_domains w ↦
+          asks_else test other asked (w.asked-is ∙ w.is_in-asked.ensures ∙ ap (λ (y : Phrase). shared_in (phrase_view y)) w.deref-else-is_in_domains.ensures)
+          (w.if-is_in_domains.ensures ∙ ap (λ (vs : List Domain). shared_in_domains (domains_of (map domain_view vs))) c.deref-in-Quantified.ensures.value)
+    ] in
+    let p = err_from_is_err_and c.from_residual-in_err-inner-in-Quantified.result c.from_residual-in_err-inner-in-Quantified.ensures.1 in
+    rw (p.1, p.2) (body_fault d (same_types s c.requires) ls c.args.tops.now c.args.phrase.now asked _ c.in-Quantified.place c.in-Quantified.inner c.deref-in-Quantified-3.result.now c.deref-in-Quantified-3.ensures
+    c.in-Quantified.quantifier c.in-Quantified.variables c.deref-in-Quantified-2.result.now c.in-Quantified.is c.deref-in-Quantified-2.ensures.value c.in_ok-variables-in-Quantified.variables asks (entered_behind asked domains_seen c.domains-variables.result c.in_ok-variables-in-Quantified.variables c.domains-variables.new.scope.locals _ _ c.in_ok-variables-in-Quantified.ensures.made c.in_ok-variables-in-Quantified.ensures.ok c.domains-variables.ensures.value)
+    c.in_err-inner-in-Quantified.field-0.0 c.in_err-inner-in-Quantified.ensures.value)
+
+pub part-returns-in_err-inner-in-Let-clause-value : goal.part-returns-in_err-inner-in-Let-clause-value
+part-returns-in_err-inner-in-Let-clause-value t c =
+    let s = c.args.setting.now in
+    let d = declared_by s in
+    let ls = c.args.scope.now.locals in
+    let asked = c.if-is_among.asked in
+    let test = shared_among (phrases_view c.in-Let.phrases.items) in
+    let other = shared_in (phrase_view c.in-Let.inner.value) in
+    let asks : Asks (test || other) asked = elim c.if-is_among.branch [
+      | part-then-is_among w ↦ asks_then test other asked (w.asked-is ∙ w.if-is_among.true)
+      | part-else-is_among w ↦
+          asks_else test other asked (w.asked-is ∙ w.is_in-asked-else-is_among.ensures ∙ ap (λ (y : Phrase). shared_in (phrase_view y)) w.deref-else-is_among.ensures)
+          (w.if-is_among.ensures ∙ ap (λ (vs : List Phrase). shared_among (phrases_view vs)) c.deref-in-Let.ensures.value)
+    ] in
+    let p = err_from_is_err_and c.from_residual-in_err-inner-in-Let.result c.from_residual-in_err-inner-in-Let.ensures.1 in
+    rw (p.1, p.2) (let_body_fault d (same_types s c.requires) ls c.args.tops.now c.args.phrase.now asked _ c.in-Let.place c.in-Let.inner c.deref-in-Let-3.result.now c.deref-in-Let-3.ensures
+    c.in-Let.phrases c.deref-in-Let-2.result.now c.in-Let.is c.deref-in-Let-2.ensures.value c.in_ok-values-in-Let.values asks (entered_behind asked phrases_seen c.values-values.result c.in_ok-values-in-Let.values c.values-values.new.scope.locals _ _ c.in_ok-values-in-Let.ensures.made c.in_ok-values-in-Let.ensures.ok c.values-values.ensures.value)
+    c.in_err-inner-in-Let.field-0.0 c.in_err-inner-in-Let.ensures.value)
+
+pub part-returns-in_ok-inner-in-Quantified-2-clause-value : goal.part-returns-in_ok-inner-in-Quantified-2-clause-value
+part-returns-in_ok-inner-in-Quantified-2-clause-value t c =
+    let s = c.args.setting.now in
+    let d = declared_by s in
+    let ls = c.args.scope.now.locals in
+    let asked = c.if-is_in_domains.asked in
+    let test = shared_in_domains (domains_of (map domain_view c.in-Quantified.variables.items)) in
+    let other = shared_in (phrase_view c.in-Quantified.inner.value) in
+    let asks : Asks (test || other) asked = elim c.if-is_in_domains.branch [
+      | part-then-is_in_domains w ↦ asks_then test other asked (w.asked-is ∙ w.if-is_in_domains.true)
+      | part-else-is_in_domains w ↦
+          asks_else test other asked (w.asked-is ∙ w.is_in-asked.ensures ∙ ap (λ (y : Phrase). shared_in (phrase_view y)) w.deref-else-is_in_domains.ensures)
+          (w.if-is_in_domains.ensures ∙ ap (λ (vs : List Domain). shared_in_domains (domains_of (map domain_view vs))) c.deref-in-Quantified.ensures.value)
+    ] in
+    body_is d (same_types s c.requires) ls c.args.tops.now c.args.phrase.now asked _ c.in-Quantified.place c.in-Quantified.inner c.deref-in-Quantified-3.result.now c.deref-in-Quantified-3.ensures
+    c.in-Quantified.quantifier c.in-Quantified.variables c.deref-in-Quantified-2.result.now c.in-Quantified.is c.deref-in-Quantified-2.ensures.value c.in_ok-variables-in-Quantified.variables asks (entered_behind asked domains_seen c.domains-variables.result c.in_ok-variables-in-Quantified.variables c.domains-variables.new.scope.locals _ _ c.in_ok-variables-in-Quantified.ensures.made c.in_ok-variables-in-Quantified.ensures.ok c.domains-variables.ensures.value)
+    c.in_ok-inner-in-Quantified.inner c.in_ok-inner-in-Quantified-2.inner c.in_ok-inner-in-Quantified-2.ensures.ok c.in_ok-inner-in-Quantified.ensures.value
+
+pub part-returns-in_ok-inner-in-Let-2-clause-value : goal.part-returns-in_ok-inner-in-Let-2-clause-value
+part-returns-in_ok-inner-in-Let-2-clause-value t c =
+    let s = c.args.setting.now in
+    let d = declared_by s in
+    let ls = c.args.scope.now.locals in
+    let asked = c.if-is_among.asked in
+    let test = shared_among (phrases_view c.in-Let.phrases.items) in
+    let other = shared_in (phrase_view c.in-Let.inner.value) in
+    let asks : Asks (test || other) asked = elim c.if-is_among.branch [
+      | part-then-is_among w ↦ asks_then test other asked (w.asked-is ∙ w.if-is_among.true)
+      | part-else-is_among w ↦
+          asks_else test other asked (w.asked-is ∙ w.is_in-asked-else-is_among.ensures ∙ ap (λ (y : Phrase). shared_in (phrase_view y)) w.deref-else-is_among.ensures)
+          (w.if-is_among.ensures ∙ ap (λ (vs : List Phrase). shared_among (phrases_view vs)) c.deref-in-Let.ensures.value)
+    ] in
+    let_body_is d (same_types s c.requires) ls c.args.tops.now c.args.phrase.now asked _ c.in-Let.place c.in-Let.inner c.deref-in-Let-3.result.now c.deref-in-Let-3.ensures
+    c.in-Let.phrases c.deref-in-Let-2.result.now c.in-Let.is c.deref-in-Let-2.ensures.value c.in_ok-values-in-Let.values asks (entered_behind asked phrases_seen c.values-values.result c.in_ok-values-in-Let.values c.values-values.new.scope.locals _ _ c.in_ok-values-in-Let.ensures.made c.in_ok-values-in-Let.ensures.ok c.values-values.ensures.value)
+    c.in_ok-inner-in-Let.inner c.in_ok-inner-in-Let-2.inner c.in_ok-inner-in-Let-2.ensures.ok c.in_ok-inner-in-Let.ensures.value
+
+pub part-returns-in_err-kind-in-Called-clause-value : goal.part-returns-in_err-kind-in-Called-clause-value
+part-returns-in_err-kind-in-Called-clause-value t c =
+    let s = c.args.setting.now in
+    let e = c.in_err-kind-in-Called.field-0.0 in
+    let p = err_from_is_err_and c.from_residual-in_err-kind-in-Called.result c.from_residual-in_err-kind-in-Called.ensures.1 in
+    rw (p.1, p.2) (inr (call_fault s c.args.scope.now.locals c.args.tops.now c.args.phrase.now c.in-Called.place c.in-Called.number c.in-Called.phrases c.deref.result.now c.in_ok-arguments-in-Called.arguments
+    c.in-Called.is c.deref.ensures.value c.in_ok-arguments-in-Called.ensures.value c.deref-in-Called.result.now c.deref-in-Called.ensures.value (option_copied c.get.result) (entry_read (λ (x : Bor Header). x.now) c.deref-in-Called.result.now c.in-Called.number c.get.result c.get.ensures.lookup.1 c.get.ensures.lookup.3)
+    c.deref-in-Called-2.result.now c.deref-in-Called-2.ensures.value (Err e) c.in_err-kind-in-Called.ensures e refl))
+
+pub part-returns-in_ok-kind-in-Called-clause-value : goal.part-returns-in_ok-kind-in-Called-clause-value
+part-returns-in_ok-kind-in-Called-clause-value t c =
+    let s = c.args.setting.now in
+    let k = c.in_ok-kind-in-Called.kind in
+    call_is s c.args.scope.now.locals c.args.tops.now c.args.phrase.now c.in-Called.place c.in-Called.number c.in-Called.phrases c.deref.result.now c.in_ok-arguments-in-Called.arguments
+    c.in-Called.is c.deref.ensures.value c.in_ok-arguments-in-Called.ensures.value c.deref-in-Called.result.now c.deref-in-Called.ensures.value (option_copied c.get.result) (entry_read (λ (x : Bor Header). x.now) c.deref-in-Called.result.now c.in-Called.number c.get.result c.get.ensures.lookup.1 c.get.ensures.lookup.3)
+    c.deref-in-Called-2.result.now c.deref-in-Called-2.ensures.value (Ok (kind_view k)) c.in_ok-kind-in-Called.ensures k refl
+
+pub part-returns-in_err-others-in-Path-clause-value : goal.part-returns-in_err-others-in-Path-clause-value
+part-returns-in_err-others-in-Path-clause-value t c =
+    let d = declared_by c.args.setting.now in
+    let ls = c.args.scope.now.locals in
+    let p = err_from_is_err_and c.from_residual-in_err-others-in-Path.result c.from_residual-in_err-others-in-Path.ensures.1 in
+    rw (p.1, p.2) (steps_fault d ls c.args.tops.now c.args.phrase.now c.in-Path.head c.in-Path.steps c.in-Path.is c.deref-in-Path.result.now c.deref-in-Path-3.result.now c.deref-in-Path-4.result.now
+    c.deref-in-Path.ensures c.deref-in-Path-3.ensures c.deref-in-Path-4.ensures c.deref-in-Path-2.result.now c.deref-in-Path-5.result.now c.deref-in-Path-2.ensures.value c.deref-in-Path-5.ensures.value
+    c.in_ok-given-in-Path.given c.in_ok-given-in-Path.ensures.value c.argument_asked.new.scope.locals c.in_ok-given-in-Path.ensures.locals c.in_ok-head-in-Path.head c.in_ok-head-in-Path.kind c.in_ok-head-in-Path.ensures.value
+    c.head_settled.new.scope.locals c.in_ok-head-in-Path.ensures.locals c.first_place-begins-in-Path.result c.first_place-begins-in-Path.ensures
+    c.in_err-others-in-Path.field-0.0 c.in_err-others-in-Path.ensures.value)
+
+pub part-returns-in_ok-new-in-Path-clause-value : goal.part-returns-in_ok-new-in-Path-clause-value
+part-returns-in_ok-new-in-Path-clause-value t c =
+    let d = declared_by c.args.setting.now in
+    let ls = c.args.scope.now.locals in
+    steps_are d ls c.args.tops.now c.args.phrase.now c.in-Path.head c.in-Path.steps c.in-Path.is c.deref-in-Path.result.now c.deref-in-Path-3.result.now c.deref-in-Path-4.result.now
+    c.deref-in-Path.ensures c.deref-in-Path-3.ensures c.deref-in-Path-4.ensures c.deref-in-Path-2.result.now c.deref-in-Path-5.result.now c.deref-in-Path-2.ensures.value c.deref-in-Path-5.ensures.value
+    c.in_ok-given-in-Path.given c.in_ok-given-in-Path.ensures.value c.argument_asked.new.scope.locals c.in_ok-given-in-Path.ensures.locals c.in_ok-head-in-Path.head c.in_ok-head-in-Path.kind c.in_ok-head-in-Path.ensures.value
+    c.head_settled.new.scope.locals c.in_ok-head-in-Path.ensures.locals c.first_place-begins-in-Path.result c.first_place-begins-in-Path.ensures
+    c.in_ok-others-in-Path.others c.in_ok-others-in-Path.kind c.in_ok-new-in-Path.field-0 c.in_ok-new-in-Path.ensures.ok c.in_ok-others-in-Path.ensures.value

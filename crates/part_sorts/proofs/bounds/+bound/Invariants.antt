@@ -1,6 +1,0 @@
-use Rattle.std.proofs.Common.{◌≡◌, ◌+◌}
-use Rattle.part_sorts.proofs.Chains.{arrows_from}
-use Rattle.part_sorts.proofs.bounds.+bound.Given as goal
-
-abbrev pub invariant-with_arrows-loop-link : goal.invariant-with_arrows-loop-link
-invariant-with_arrows-loop-link l = l.arity + arrows_from l.link-index l.links ≡ l.columns + arrows_from 0 l.links

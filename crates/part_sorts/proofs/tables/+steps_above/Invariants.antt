@@ -1,4 +1,0 @@
-use Rattle.part_sorts.proofs.tables.+steps_above.Given as goal
-
-abbrev pub decreases-steps_above : goal.decreases-steps_above
-decreases-steps_above l = l.steps

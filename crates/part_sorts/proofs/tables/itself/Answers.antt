@@ -1,8 +1,0 @@
-use Rattle.part_sorts.proofs.Climbs.{themselves_more, themselves}
-use Rattle.part_sorts.proofs.tables.itself.Goals as goal
-
-pub loop-number-preserved : goal.loop-number-preserved
-loop-number-preserved c = rw c.in_ok-push.ensures.items (themselves_more c.loop-number.number c.loop-number.table.items c.loop-number.invariant)
-
-pub returns-clause-each : goal.returns-clause-each
-returns-clause-each c = themselves c.loop-number.number c.loop-number.table.items c.loop-number.invariant

@@ -1,0 +1,139 @@
+// Words that are right, and words that aren't.
+use command_words::{Command, command_of};
+use std::alloc::{AllocError, Global};
+use std::test::Fail;
+
+fn said(alloc: Global, words: &[&str]) -> Result<Option<Command>, AllocError> {
+    let mut owned = Vec::new(alloc);
+    for word in words {
+        owned.push(String::from_str(alloc, word)?)?;
+    }
+    command_of(alloc, &owned)
+}
+
+fn run(workers: u32, budget: u32) -> Option<Command> {
+    Some(Command::Run { workers, budget })
+}
+
+#[test]
+fn right_words_say_a_command(rt: HostRuntime) -> Result<(), Fail> {
+    let rows: [(&[&str], Option<Command>); 14] = [
+        (&["check"], Some(Command::Check)),
+        (&["run"], run(4, 20000)),
+        (&["run", "--workers", "1"], run(1, 20000)),
+        (&["run", "--workers=16"], run(16, 20000)),
+        (&["run", "--budget", "0"], run(4, 0)),
+        (&["run", "--budget=100000"], run(4, 100_000)),
+        (&["run", "--workers=4", "--budget", "007"], run(4, 7)),
+        (
+            &["run", "--budget=000000000", "--workers", "000000016"],
+            run(16, 0),
+        ),
+        (&["run", "--workers", "2", "--budget", "3"], run(2, 3)),
+        (&["run", "--budget", "3", "--workers", "2"], run(2, 3)),
+        (&["run", "--budget=3", "--workers=2"], run(2, 3)),
+        (&["run", "--budget=3", "--workers", "2"], run(2, 3)),
+        (&["run", "--workers=2", "--budget=3"], run(2, 3)),
+        (&["run", "--workers", "2", "--budget=3"], run(2, 3)),
+    ];
+    for (words, command) in rows {
+        assert_eq!(rt; said(rt.alloc(), words)?, command);
+    }
+    Ok(())
+}
+
+#[test]
+fn other_commands_are_none(rt: HostRuntime) -> Result<(), Fail> {
+    let rows: [&[&str]; 20] = [
+        &[],
+        &[""],
+        &["-"],
+        &["--"],
+        &["-h"],
+        &["--help"],
+        &["-V"],
+        &["--version"],
+        &["help"],
+        &["help", "run"],
+        &["runs"],
+        &["Run"],
+        &["ru"],
+        &["load", "1"],
+        &["--", "run"],
+        &["check", "check"],
+        &["check", "--workers", "4"],
+        &["check", "--"],
+        &["check", ""],
+        &["--workers", "4", "run"],
+    ];
+    for words in rows {
+        assert_eq!(rt; said(rt.alloc(), words)?, None);
+    }
+    Ok(())
+}
+
+#[test]
+fn other_options_are_none(rt: HostRuntime) -> Result<(), Fail> {
+    let rows: [&[&str]; 22] = [
+        &["run", "run"],
+        &["run", "check"],
+        &["run", ""],
+        &["run", "4"],
+        &["run", "-"],
+        &["run", "--"],
+        &["run", "-h"],
+        &["run", "--help"],
+        &["run", "help"],
+        &["run", "--", "--workers", "4"],
+        &["run", "--workers", "4", "--"],
+        &["run", "--workers", "--", "4"],
+        &["run", "--worker", "4"],
+        &["run", "--work", "4"],
+        &["run", "-workers", "4"],
+        &["run", "--=4"],
+        &["run", "--workers", "4", "--workers", "4"],
+        &["run", "--workers=4", "--workers=4"],
+        &["run", "--budget=1", "--workers=2", "--budget=1"],
+        &["run", "--workers", "4", "5"],
+        &["run", "--workers=4", "5"],
+        &["run", "--workers=4", "--budget=1", "x"],
+    ];
+    for words in rows {
+        assert_eq!(rt; said(rt.alloc(), words)?, None);
+    }
+    Ok(())
+}
+
+#[test]
+fn other_numbers_are_none(rt: HostRuntime) -> Result<(), Fail> {
+    let rows: [&[&str]; 24] = [
+        &["run", "--workers"],
+        &["run", "--workers="],
+        &["run", "--workers", ""],
+        &["run", "--workers", "--budget", "1"],
+        &["run", "--workers", "0"],
+        &["run", "--workers", "17"],
+        &["run", "--workers", "0000000004"],
+        &["run", "--workers=0000000004"],
+        &["run", "--workers", "+4"],
+        &["run", "--workers=+4"],
+        &["run", "--workers", "-4"],
+        &["run", "--workers=-4"],
+        &["run", "--workers", " 4"],
+        &["run", "--workers", "4a"],
+        &["run", "--workers==4"],
+        &["run", "--workers", "four"],
+        &["run", "--budget", "100001"],
+        &["run", "--budget=999999999"],
+        &["run", "--budget", "-0"],
+        &["run", "--budget=-0"],
+        &["run", "--budget", "18446744073709551617"],
+        &["run", "--workers", "17", "--budget", "1"],
+        &["run", "--workers=0", "--budget=1"],
+        &["run", "--budget=x", "--workers=4"],
+    ];
+    for words in rows {
+        assert_eq!(rt; said(rt.alloc(), words)?, None);
+    }
+    Ok(())
+}

@@ -1,0 +1,122 @@
+// What no clause says: that calls succeed with ample memory, and what the library's reader and writer do.
+use outside_io::{
+    Failed, MemSink, MemSource, ReadFault, Sink, Source, StdSink, StdSource, finish, read_all,
+    write_all,
+};
+use std::io::{self, ErrorKind, Write};
+use std::test::Fail;
+
+#[test]
+fn a_source_fails_in_its_second_call_and_goes_on(rt: HostRuntime) -> Result<(), Fail> {
+    let bytes = b"abcdefghij".to_vec(rt.alloc())?;
+    let mut source = MemSource::new(bytes, 4, vec![in rt.alloc(); 2]?);
+    let mut buffer = [0; 8];
+    assert_eq!(rt; source.read(&mut []), Ok(0));
+    let answers = [Ok(4), Err(Failed), Ok(4), Ok(2), Ok(0)];
+    let pieces = ["abcd", "", "efgh", "ij", ""];
+    for (answer, piece) in answers.iter().zip(pieces) {
+        let got = source.read(&mut buffer);
+        assert_eq!(rt; got, *answer);
+        assert_eq!(rt; &buffer[..got.unwrap_or(0).min(8)], piece.as_bytes());
+    }
+    Ok(())
+}
+
+#[test]
+fn a_sink_keeps_what_it_took_before_it_failed(rt: HostRuntime) -> Result<(), Fail> {
+    let text = b"an even longer text than that";
+    for (room, fails, written) in [
+        (99, 2, 10),
+        (99, 4, 29),
+        (29, 9, 29),
+        (28, 9, 28),
+        (0, 9, 0),
+    ] {
+        let fails = vec![in rt.alloc(); fails]?;
+        let mut sink = MemSink::new(rt.alloc(), room, 10, fails)?;
+        assert_eq!(rt; sink.write(b""), Ok(0));
+        let answer = write_all(&mut sink, text);
+        assert_eq!(rt; answer.is_ok(), written == 29, "with room for {room}");
+        assert_eq!(rt; sink.bytes(), &text[..written]);
+    }
+    Ok(())
+}
+
+#[test]
+fn a_status_goes_with_a_text_or_6_where_writing_fails(rt: HostRuntime) -> Result<(), Fail> {
+    for (room, status, written) in [(8, 3, "the text"), (7, 6, "the tex"), (0, 6, "")] {
+        let mut sink = MemSink::new(rt.alloc(), room, 5, Vec::new(rt.alloc()))?;
+        assert_eq!(rt; finish(&mut sink, 3, b"the text"), status);
+        assert_eq!(rt; sink.bytes(), written.as_bytes());
+    }
+    Ok(())
+}
+
+#[test]
+fn reading_ends_one_byte_beyond_the_limit(rt: HostRuntime) -> Result<(), Fail> {
+    for (limit, length) in [(11, 10), (10, 10), (9, 10), (5, 6), (0, 1)] {
+        let bytes = b"abcdefghij".to_vec(rt.alloc())?;
+        let mut source = MemSource::new(bytes, 3, Vec::new(rt.alloc()));
+        let read = read_all(rt.alloc(), &mut source, limit);
+        let read = read.ok().ok_or("no bytes")?;
+        assert_eq!(rt; read.as_slice(), &b"abcdefghij"[..length], "up to {limit}");
+    }
+    let bytes = b"abcdefghij".to_vec(rt.alloc())?;
+    let mut source = MemSource::new(bytes, 4, vec![in rt.alloc(); 2]?);
+    assert_eq!(rt;
+        read_all(rt.alloc(), &mut source, 99).err(),
+        Some(ReadFault::Failed)
+    );
+    assert_eq!(rt;
+        read_all(rt.alloc(), &mut source, 99)
+            .ok()
+            .map_or(0, |rest| rest.len()),
+        6
+    );
+    Ok(())
+}
+
+#[test]
+fn more_than_one_piece_is_read(rt: HostRuntime) -> Result<(), Fail> {
+    let bytes = vec![in rt.alloc(); 7u8; 10_000]?;
+    let mut source = StdSource::new(bytes.as_slice());
+    let read = read_all(rt.alloc(), &mut source, usize::MAX);
+    assert_eq!(rt; read.ok().ok_or("no bytes")?.as_slice(), bytes.as_slice());
+    Ok(())
+}
+
+#[test]
+fn a_writer_gets_all_bytes_until_it_is_full(rt: HostRuntime) -> Result<(), Fail> {
+    let mut written = Vec::new(rt.alloc());
+    let mut sink = StdSink::new(&mut written);
+    assert_eq!(rt; write_all(&mut sink, b"all of it"), Ok(()));
+    assert_eq!(rt; written.as_slice(), b"all of it".as_slice());
+    let mut room = [0; 5];
+    let mut sink = StdSink::new(&mut room[..]);
+    assert_eq!(rt; sink.write(b"too long"), Ok(5));
+    assert_eq!(rt; sink.write(b"ng"), Err(Failed));
+    assert_eq!(rt; sink.write(b""), Ok(0));
+    Ok(())
+}
+
+// A writer that takes what it is given and can't be flushed.
+#[derive(Drop)]
+struct Unflushed;
+
+impl Write for Unflushed {
+    fn write(&mut self, piece: &[u8]) -> io::Result<usize> {
+        Ok(piece.len())
+    }
+
+    fn flush(&mut self) -> io::Result<()> {
+        Err(ErrorKind::Other.into())
+    }
+}
+
+#[test]
+fn a_writer_that_can_t_be_flushed_is_at_fault(rt: HostRuntime) {
+    let mut sink = StdSink::new(Unflushed);
+    assert!(rt; sink.write(b"ab").is_err());
+    assert!(rt; write_all(&mut sink, b"ab").is_err());
+    assert!(rt; sink.write(b"").is_ok());
+}

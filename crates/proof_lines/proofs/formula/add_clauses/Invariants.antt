@@ -1,6 +1,0 @@
-use Rattle.std.proofs.Common.{◌≡◌, ◌++◌, take}
-use Rattle.cnf_core.specs.Formula.{Formula}
-use Rattle.proof_lines.proofs.formula.add_clauses.Given as goal
-
-abbrev pub invariant-loop-clause : goal.invariant-loop-clause
-invariant-loop-clause l = l.formula ≡ record { vars = l.fn.formula.vars; clauses = l.fn.formula.clauses ++ take l.clause-index l.clauses }

@@ -1,6 +1,0 @@
-use Rattle.std.proofs.Common.{◌≡◌, ◌++◌, take}
-use Rattle.cnf_core.specs.Formula.{Formula}
-use Rattle.proof_lines.proofs.formula.add_formula.Given as goal
-
-abbrev pub invariant-loop-number : goal.invariant-loop-number
-invariant-loop-number l = l.formula ≡ record { vars = l.fn.formula.vars; clauses = l.fn.formula.clauses ++ take l.number l.other.clauses }

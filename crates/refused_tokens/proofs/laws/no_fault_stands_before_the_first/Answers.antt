@@ -1,5 +1,0 @@
-use Rattle.refused_tokens.proofs.ModelsLasting.{first_of_all}
-use Rattle.refused_tokens.proofs.laws.no_fault_stands_before_the_first.Goals as goal
-
-pub returns : goal.returns
-returns c limit more ts stop other less e f = first_of_all limit more less ts stop other e f

@@ -1,0 +1,2 @@
+pub mod FieldByField
+pub mod Linking

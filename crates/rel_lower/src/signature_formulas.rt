@@ -1,0 +1,6 @@
+//! What the formula of a problem says of the signatures.
+
+mod extensions;
+mod listings;
+pub mod relations;
+pub mod signatures;

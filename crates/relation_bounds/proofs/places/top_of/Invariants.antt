@@ -1,6 +1,0 @@
-use Rattle.std.proofs.Common.{◌≡◌, ◌-◌, length}
-use Rattle.named_model.specs.Signatures.{top_within}
-use Rattle.relation_bounds.proofs.places.top_of.Given as goal
-
-abbrev pub invariant-loop-step : goal.invariant-loop-step
-invariant-loop-step l = top_within l.signatures (length l.signatures - l._step) l.top ≡ top_within l.signatures (length l.signatures) l.fn.signature

@@ -1,6 +1,0 @@
-//! The relations of signatures, with the tuples that they have at least and at most.
-#![tactic(auto)]
-
-pub mod names;
-pub mod places;
-pub mod signatures;

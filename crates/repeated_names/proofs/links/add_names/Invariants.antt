@@ -1,9 +1,0 @@
-use Rattle.std.proofs.Common.{ℕ, List, Option, map, take, ◌++◌}
-use Rattle.named_model.specs.Faults.{Child}
-use Rattle.repeated_names.specs.Numbered.{IsNumbered, AreLinks, child_of}
-use Rattle.repeated_names.proofs.links.add_names.Given as goal
-
-abbrev pub invariant-loop-name : goal.invariant-loop-name
-invariant-loop-name l =
-    (p : Option (List ℕ)) (cs : List Child) → IsNumbered l.fn.words l.parent p → AreLinks l.fn.words l.fn.links.items cs
-    → (IsNumbered l.words l.parent p) × (AreLinks l.words l.links.items (cs ++ map (child_of p) (take l.name-index l.names)))

@@ -1,8 +1,0 @@
-use Rattle.std.proofs.Common.{map, flat_map, take}
-use Rattle.alloy_syntax.specs.View.{paragraph_view}
-use Rattle.named_model.specs.Faults.{children}
-use Rattle.repeated_names.specs.Numbered.{AreLinks}
-use Rattle.repeated_names.proofs.links.links.Given as goal
-
-abbrev pub invariant-loop-paragraph : goal.invariant-loop-paragraph
-invariant-loop-paragraph l = AreLinks l.words l.links.items (flat_map children (map paragraph_view (take l.paragraph-index l.paragraphs)))

@@ -1,6 +1,0 @@
-use Rattle.std.proofs.Common.{◌≡◌, suc, ◌-◌}
-use Rattle.repeated_names.specs.Climbing.{top_in}
-use Rattle.repeated_names.proofs.tops.top.Given as goal
-
-abbrev pub invariant-loop-step : goal.invariant-loop-step
-invariant-loop-step l = top_in l.parents.table.items (suc (l.parents.count - l._step)) l.above ≡ top_in l.parents.table.items (suc l.parents.count) l.number

@@ -1,4 +1,0 @@
-//! Declarations that say the same, but for the order of the lists in their types, settle parts alike.
-#![tactic(auto)]
-
-pub mod laws;

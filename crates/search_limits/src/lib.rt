@@ -1,4 +1,0 @@
-//! How many steps a search can take: no more than there are clauses over its variables.
-#![tactic(auto)]
-
-pub mod laws;

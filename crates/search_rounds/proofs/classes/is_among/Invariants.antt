@@ -1,5 +1,0 @@
-use Rattle.std.proofs.Common.{◌≢◌, ℕ, List, All, take}
-use Rattle.search_rounds.proofs.classes.is_among.Given as goal
-
-abbrev pub invariant-loop-other : goal.invariant-loop-other
-invariant-loop-other l = All (λ (s : List ℕ). s ≢ l.scenario) (take l.other-index l.scenarios)

@@ -1,6 +1,0 @@
-use Rattle.std.proofs.Common.{◌≡◌, ◌++◌, map, take}
-use Rattle.translation_rules.specs.Locals.{absence_in}
-use Rattle.search_rounds.proofs.locals.add_absences.Given as goal
-
-abbrev pub invariant-loop-scenario : goal.invariant-loop-scenario
-invariant-loop-scenario l = l.clauses.items ≡ l.fn.clauses.items ++ map absence_in (take l.scenario-index l.blocked)

@@ -1,8 +1,0 @@
-use Rattle.search_rounds.proofs.RoundStates.{Going}
-use Rattle.search_rounds.proofs.next.next_from.Given as goal
-
-abbrev pub invariant-rounds : goal.invariant-rounds
-invariant-rounds l = Going l.translation l.pool l.floor l.shown l.copies l.budget l.blocked.items l.parts.items l.found.items l.left
-
-abbrev pub decreases-rounds : goal.decreases-rounds
-decreases-rounds l = l.left

@@ -1,6 +1,0 @@
-use Rattle.std.proofs.Common.{◌≡◌, drop}
-use Rattle.session_search.specs.Listed.{comes_first}
-use Rattle.session_search.proofs.listing.comes_first.Given as goal
-
-abbrev pub invariant-loop-place : goal.invariant-loop-place
-invariant-loop-place l = comes_first (drop l.place l.first) (drop l.place l.second) ≡ comes_first l.first l.second

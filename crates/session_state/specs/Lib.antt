@@ -1,0 +1,4 @@
+pub mod Store
+pub mod Tuples
+pub mod Rounds
+pub mod Sessions

@@ -1,0 +1,45 @@
+-- What one round comes to.
+use Rattle.std.specs.Prelude.{◌≡◌, ◌≤◌, ◌+◌, ℕ, List, [], ◌∷◌, Contains}
+use Rattle.refutation_check.specs.declared.log.Step.{Step as LogStep}
+use Rattle.refutation_check.specs.Chain.{EndsEmpty}
+use Rattle.refutation_check.specs.Part.{Parted}
+use Rattle.swap_symmetry.specs.Due.{IsDue}
+use Rattle.translation_rules.specs.Translation.{Translated}
+use Rattle.translation_rules.specs.Locals.{locals_of}
+use Rattle.translation_rules.specs.Parts.{AreSearched, novel_in}
+use Rattle.session_rules.specs.Proofs.{IsCopy}
+use Rattle.session_rules.specs.Work.{Round, IsRound, parts_of_round}
+use Rattle.session_state.specs.declared.search_rounds.descent.DescentEnd.{DescentEnd}
+use Rattle.session_state.specs.declared.search_rounds.descent.DescentEnd.TheVariants.{Minimal, Spent as NothingLeft}
+use Rattle.session_state.specs.declared.search_rounds.round.RoundEnd.{RoundEnd}
+use Rattle.session_state.specs.declared.search_rounds.round.RoundEnd.TheVariants.{Due, Copy, Refuted, Spent}
+
+abbrev pub parts_in : RoundEnd → List Parted
+parts_in (Due scenario parts) = parts.items
+parts_in (Copy scenario parts left) = parts.items
+parts_in (Refuted part) = part ∷ []
+parts_in (Spent parts) = parts.items
+
+-- the parts are those of a round with these scenarios blocked, over the translation and the pool, with at most so many novel
+-- steps
+pub record IsRoundAt (t : Translated) (pool : List LogStep) (floor : List ℕ) (blocked : List (List ℕ)) (budget : ℕ) (parts : List Parted) : Type 0 where
+  pub round : Round
+  pub is_round : IsRound t floor blocked round
+  pub all_parts : parts ≡ parts_of_round round
+  pub searched : AreSearched t pool parts
+  pub few : novel_in t pool parts ≤ budget
+
+-- the scenario of the descent isn't blocked, and the novel steps of search and descent leave so much of the budget; or they are
+-- all of it
+abbrev pub IsCounted : Translated → List LogStep → List (List ℕ) → ℕ → Parted → DescentEnd → Type 0
+IsCounted t pool blocked budget part (Minimal scenario parts left) = (¬ Contains blocked scenario) × (novel_in t pool (part ∷ parts.items) + left ≡ budget)
+IsCounted t pool blocked budget part (NothingLeft parts) = novel_in t pool (part ∷ parts.items) ≡ budget
+
+-- the scenario is due and was not shown; or it is a new copy, and with it the novel steps leave so much of the budget; or the
+-- search ends with the empty clause; or the novel steps are all of the budget
+abbrev pub IsRightRound : Translated → List LogStep → List ℕ → List (List ℕ) → List (List ℕ) → ℕ → RoundEnd → Type 0
+IsRightRound t pool floor shown blocked budget (Due scenario parts) = IsDue t.problem floor scenario × (¬ Contains shown scenario)
+IsRightRound t pool floor shown blocked budget (Copy scenario parts left) =
+    IsCopy t.problem floor shown scenario × (¬ Contains blocked scenario) × (novel_in t pool parts.items + 1 + left ≡ budget)
+IsRightRound t pool floor shown blocked budget (Refuted part) = (part.local ≡ locals_of t floor blocked) × EndsEmpty part.log
+IsRightRound t pool floor shown blocked budget (Spent parts) = novel_in t pool parts.items ≡ budget

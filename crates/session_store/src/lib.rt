@@ -1,8 +1,0 @@
-//! What a session keeps from one step to the next: the state of the session machine, and the copies of shown scenarios that its
-//! searches found.
-#![tactic(auto)]
-
-mod floors;
-mod store;
-
-pub use crate::store::SessionStore;

@@ -1,5 +1,0 @@
-use Rattle.settling_rules.proofs.OperandTurns.{domain_turn}
-use Rattle.settling_rules.proofs.laws.domains_are_settled_in_order.Goals as goal
-
-pub returns : goal.returns
-returns c = λ single d ls disjoint n mark x ds. domain_turn d ls single disjoint n mark x ds

@@ -1,5 +1,0 @@
-use Rattle.settling_rules.proofs.OperandTurns.{link_turn}
-use Rattle.settling_rules.proofs.laws.operands_are_settled_in_order.Goals as goal
-
-pub returns : goal.returns
-returns c = λ d ls left k a o p x rest. link_turn d ls left k a o p x rest

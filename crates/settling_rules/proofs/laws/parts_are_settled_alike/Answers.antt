@@ -1,5 +1,0 @@
-use Rattle.settling_rules.proofs.SettledAlike.{settled_alike}
-use Rattle.settling_rules.proofs.laws.parts_are_settled_alike.Goals as goal
-
-pub returns : goal.returns
-returns c = λ asked d ls ms tops ts x s h k a. settled_alike asked d s ls ms h tops ts k x a

@@ -1,5 +1,0 @@
-use Rattle.settling_rules.proofs.OperandTurns.{value_turn}
-use Rattle.settling_rules.proofs.laws.values_are_settled_in_order.Goals as goal
-
-pub returns : goal.returns
-returns c = λ d ls x xs. value_turn d ls x xs

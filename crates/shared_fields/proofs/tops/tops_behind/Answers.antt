@@ -1,6 +1,0 @@
-use Rattle.std.proofs.Common.{◌∙◌}
-use Rattle.shared_fields.proofs.Unions.{same_behind}
-use Rattle.shared_fields.proofs.tops.tops_behind.Goals as goal
-
-pub returns : goal.returns
-returns c = λ x h t. c.in_ok-tops.ensures t ∙ same_behind c.args.operator c.args.a.now x h t

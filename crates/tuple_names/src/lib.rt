@@ -1,7 +1,0 @@
-//! What the names of a relation and of atoms stand for: a tuple that the relation may have, and its cell.
-#![tactic(auto)]
-
-mod names;
-mod naming;
-
-pub use crate::naming::{Named, what_is_named};

@@ -1,7 +1,0 @@
-//! What the text of a model is: a model with names and types, one that opens another, or no model and why.
-#![tactic(auto)]
-
-pub mod laws;
-mod reading;
-
-pub use crate::reading::{ModelText, read_model};

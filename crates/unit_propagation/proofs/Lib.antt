@@ -1,0 +1,5 @@
+pub mod Clauses
+pub mod Watches
+pub mod Activity
+pub mod Assignments
+pub mod Propagation

@@ -1,4 +1,0 @@
-//! What stands before a fault goes on to a text: laws over the definition of reading and the grammar.
-#![tactic(auto)]
-
-pub mod laws;
