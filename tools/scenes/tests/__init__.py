@@ -1,0 +1,1 @@
+"""Tests of the shell and of what it is made of."""
