@@ -1,4 +1,6 @@
-"""What the gate looks at beside `rt ci`: that the examples are the ones that are run, and that no must-fail edit is dead.
+"""What the gate looks at beside `rt ci`: that the examples are the ones that are run, that no edit is dead, that the documents show
+what the program prints, that DEFINITIONS has what the promises lead to, that the program in prebuilt/ is the one that was built
+here, and that the script ./explore and the shell tools/scenes do what they say.
 
 Called with the log of `rt ci` and its status. Prints a line for each check that fails, and last `N passed, M failed`, in
 which what `rt ci` counted is added to these checks.
@@ -7,6 +9,13 @@ which what `rt ci` counted is added to these checks.
 import re
 import sys
 from pathlib import Path
+
+sys.dont_write_bytecode = True
+
+from definitions import definitions, wrong_bodies  # noqa: E402
+from documents import documents  # noqa: E402
+from prebuilt import prebuilt, script  # noqa: E402
+from scenes import scenes  # noqa: E402
 
 RUNNER = Path("crates/run_examples")
 
@@ -44,19 +53,40 @@ def pairs(edit):
             yield file, old, text
 
 
+# How many edits a crate has at most; how many the gate tries, and of how many crates.
+MOST_OF_A_CRATE = 8
+MOST_TRIED = 40
+MOST_CRATES_TRIED = 10
+
+
+def applies(edit):
+    """Each old text of an edit stands exactly once in its file, and doesn't hang on indentation."""
+    texts = {}
+    alive = True
+    for file, old, new in pairs(edit):
+        path = edit.parent.parent / file
+        if path not in texts:
+            texts[path] = path.read_text(encoding="utf-8") if path.is_file() else ""
+        text = texts[path]
+        alive = alive and text.count(old) == 1 and not old.startswith(" ")
+        texts[path] = text.replace(old, new)
+    return bool(texts) and alive
+
+
 def edits(log):
-    """Each must-fail edit applies: its old text stands exactly once, and doesn't hang on indentation."""
-    for edit in sorted(Path("crates").glob("*/must-fail/*.edit")):
-        texts = {}
-        alive = True
-        for file, old, new in pairs(edit):
-            path = edit.parent.parent / file
-            if path not in texts:
-                texts[path] = path.read_text(encoding="utf-8") if path.is_file() else ""
-            text = texts[path]
-            alive = alive and text.count(old) == 1 and not old.startswith(" ")
-            texts[path] = text.replace(old, new)
-        yield f"the edit {edit} applies", bool(texts) and alive
+    """The edits that the gate tries (must-fail/) and those that `.ci/edits` tries (edits/) apply, and none is one too many."""
+    tried = sorted(Path("crates").glob("*/must-fail/*.edit"))
+    kept = sorted(Path("crates").glob("*/edits/*.edit"))
+    for edit in tried + kept:
+        yield f"the edit {edit} applies", applies(edit)
+    crates = [edit.parent.parent for edit in tried + kept]
+    for crate in sorted(set(crates)):
+        yield f"{crate} has at most {MOST_OF_A_CRATE} edits", crates.count(crate) <= MOST_OF_A_CRATE
+    yield f"the gate tries at most {MOST_TRIED} edits", len(tried) <= MOST_TRIED
+    of_crates = {edit.parent.parent for edit in tried}
+    yield f"the gate tries edits of at most {MOST_CRATES_TRIED} crates", len(of_crates) <= MOST_CRATES_TRIED
+    strays = [str(path) for path in sorted(Path("crates").glob("*/edits/*")) if path.suffix not in (".edit", ".md")]
+    yield f"what stands among the edits is one {strays or ''}".strip(), not strays
     bad = [line.strip() for line in log.splitlines() if "BAD EDIT" in line]
     yield f"no edit is a bad one {bad or ''}".strip(), not bad
 
@@ -70,8 +100,10 @@ def main():
             passed, failed = int(counted[1]), int(counted[2])
     if sys.argv[2] != "0":
         failed = max(failed, 1)
+    checks = [*examples(), *edits(log), *documents(), *definitions(), *wrong_bodies()]
+    checks += [*prebuilt(sys.argv[2]), *script(), *scenes()]
     own = 0
-    for what, holds in [*examples(), *edits(log)]:
+    for what, holds in checks:
         if holds:
             passed += 1
         else:
