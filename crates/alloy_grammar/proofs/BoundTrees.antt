@@ -4,8 +4,8 @@ use Rattle.std.specs.List.{list_any}
 use Rattle.alloy_lex.specs.declared.token.Place.{Place}
 use Rattle.alloy_syntax.specs.declared.class.Class.TheVariants as class
 use Rattle.alloy_syntax.specs.declared.tree.Name.{Name}
-use Rattle.alloy_syntax.specs.declared.tree.Mark.{Mark}
-use Rattle.alloy_syntax.specs.declared.seen.Seen.{Seen}
+use Rattle.alloy_syntax.specs.declared.tree.MultiplicityWord.{MultiplicityWord}
+use Rattle.alloy_syntax.specs.declared.parser_token.ParserToken.{ParserToken}
 use Rattle.alloy_syntax.specs.Class.{is_class}
 use Rattle.alloy_syntax.specs.Tree.{BoundTree, bound_named, bound_bracketed, bound_union, bound_arrows, BoundArrowTree, BoundUnions, no_unions, more_unions, BoundArrows, no_arrows, more_arrows, unions_of, arrows_of}
 use Rattle.alloy_syntax.specs.Readers.{Parser, next_is, after, is_mark}
@@ -20,10 +20,10 @@ use Rattle.alloy_grammar.proofs.Spelled.{both_false}
 use Rattle.alloy_grammar.proofs.Nodes.{word_full, multiplicity_full, or_true}
 use Rattle.alloy_grammar.proofs.Bounds.{bounds_read, arrow_read, operand_read}
 
-abbrev no_word : Option (List Seen)
+abbrev no_word : Option (List ParserToken)
 no_word = None
 
-abbrev no_mark : Option Mark
+abbrev no_mark : Option MultiplicityWord
 no_mark = None
 
 -- where the bound may stand so
@@ -33,7 +33,7 @@ Fits part b = has_word b ≡ false
 Fits (beside word) b = (has_word b ≡ false) × (has_arrow b ≡ false)
 
 -- the bound is read there
-record Back (s : Standing) (b : BoundTree) (p : Parser Bounded) (ts rest : List Seen) : Type 0 where
+record Back (s : Standing) (b : BoundTree) (p : Parser Bounded) (ts rest : List ParserToken) : Type 0 where
   read : Bounded
   bound : read.bound ≡ b
   arrows : read.has_arrow ≡ has_arrow b
@@ -45,22 +45,22 @@ bound_reader strict j zero = bound_over strict j
 bound_reader strict j (suc zero) = bound_arrows_over strict j
 bound_reader strict j (suc (suc n)) = side_over j
 
-record BoundEnds (l : ℕ) (ts : List Seen) : Type 0 where
+record BoundEnds (l : ℕ) (ts : List ParserToken) : Type 0 where
   plus : l ≤ 0 → next_is class.Plus ts ≡ false
   arrow : l ≤ 1 → begins_bound_arrow ts ≡ false
 
 -- ---- where nothing goes on
 
-side_alone : (strict : Bool) (j : BoundReader) (s : Standing) (x : Bounded) (ts rest : List Seen) → side_over j s ts ≡ Ok (x, rest) → begins_bound_arrow rest ≡ false → bound_arrows_over strict j s ts ≡ Ok (x, rest)
+side_alone : (strict : Bool) (j : BoundReader) (s : Standing) (x : Bounded) (ts rest : List ParserToken) → side_over j s ts ≡ Ok (x, rest) → begins_bound_arrow rest ≡ false → bound_arrows_over strict j s ts ≡ Ok (x, rest)
 unfolding bound_arrows_over
 side_alone strict j s x ts rest e none = rw (e, none) refl
 
-arrows_alone : (strict : Bool) (j : BoundReader) (s : Standing) (x : Bounded) (ts rest : List Seen) → bound_arrows_over strict j s ts ≡ Ok (x, rest) → next_is class.Plus rest ≡ false → bound_over strict j s ts ≡ Ok (x, rest)
+arrows_alone : (strict : Bool) (j : BoundReader) (s : Standing) (x : Bounded) (ts rest : List ParserToken) → bound_arrows_over strict j s ts ≡ Ok (x, rest) → next_is class.Plus rest ≡ false → bound_over strict j s ts ≡ Ok (x, rest)
 unfolding bound_over
 arrows_alone strict j s x ts rest e none = rw (e, none) refl
 
 -- what is read of a side is read where a looser part may stand
-from_side : (strict : Bool) (j : BoundReader) (s : Standing) (b : BoundTree) (l : ℕ) (ts rest : List Seen) → BoundEnds l rest → Back s b (side_over j s) ts rest → Back s b (bound_reader strict j l s) ts rest
+from_side : (strict : Bool) (j : BoundReader) (s : Standing) (b : BoundTree) (l : ℕ) (ts rest : List ParserToken) → BoundEnds l rest → Back s b (side_over j s) ts rest → Back s b (bound_reader strict j l s) ts rest
 from_side strict j s b zero ts rest e k = record {
   read = k.read;
   bound = k.bound;
@@ -71,18 +71,18 @@ from_side strict j s b zero ts rest e k = record {
 from_side strict j s b (suc zero) ts rest e k = record { read = k.read; bound = k.bound; arrows = k.arrows; marked = k.marked; reads = side_alone strict j s k.read ts rest k.reads (e.arrow (omega arith)) }
 from_side strict j s b (suc (suc n)) ts rest e k = k
 
-from_arrows : (strict : Bool) (j : BoundReader) (s : Standing) (b : BoundTree) (l : ℕ) (ts rest : List Seen) → l ≤ 1 → BoundEnds l rest → Back s b (bound_arrows_over strict j s) ts rest → Back s b (bound_reader strict j l s) ts rest
+from_arrows : (strict : Bool) (j : BoundReader) (s : Standing) (b : BoundTree) (l : ℕ) (ts rest : List ParserToken) → l ≤ 1 → BoundEnds l rest → Back s b (bound_arrows_over strict j s) ts rest → Back s b (bound_reader strict j l s) ts rest
 from_arrows strict j s b zero ts rest less e k = record { read = k.read; bound = k.bound; arrows = k.arrows; marked = k.marked; reads = arrows_alone strict j s k.read ts rest k.reads (e.plus (omega arith)) }
 from_arrows strict j s b (suc zero) ts rest less e k = k
 from_arrows strict j s b (suc (suc n)) ts rest less e k = absurd (omega (arith, less))
 
-from_union : (strict : Bool) (j : BoundReader) (s : Standing) (b : BoundTree) (l : ℕ) (ts rest : List Seen) → l ≤ 0 → Back s b (bound_over strict j s) ts rest → Back s b (bound_reader strict j l s) ts rest
+from_union : (strict : Bool) (j : BoundReader) (s : Standing) (b : BoundTree) (l : ℕ) (ts rest : List ParserToken) → l ≤ 0 → Back s b (bound_over strict j s) ts rest → Back s b (bound_reader strict j l s) ts rest
 from_union strict j s b zero ts rest less k = k
 from_union strict j s b (suc n) ts rest less k = absurd (omega (arith, less))
 
 -- ---- sides
 
-named_back : (j : BoundReader) (s : Standing) (n : Name) (ts rest : List Seen) → name n ts rest → Back s (bound_named n) (side_over j s) ts rest
+named_back : (j : BoundReader) (s : Standing) (n : Name) (ts rest : List ParserToken) → name n ts rest → Back s (bound_named n) (side_over j s) ts rest
 unfolding side_over has_arrow is_class
 named_back j s n ts rest m = record {
   read = record { bound = bound_named n; marked = None; has_arrow = false };
@@ -92,7 +92,7 @@ named_back j s n ts rest m = record {
   reads = rw (differs class.Name class.LeftParen ts rest (m.0, m.1, m.2) refl, spelled_full class.Name n ts rest m) refl;
 }
 
-bracketed_back : (j : BoundReader) (s : Standing) (p : Place) (b : BoundTree) (ts us vs rest : List Seen) → sign class.LeftParen p ts us → Back s b (j s) us vs → mark_of class.RightParen vs rest → Back s (bound_bracketed p b) (side_over j s) ts rest
+bracketed_back : (j : BoundReader) (s : Standing) (p : Place) (b : BoundTree) (ts us vs rest : List ParserToken) → sign class.LeftParen p ts us → Back s b (j s) us vs → mark_of class.RightParen vs rest → Back s (bound_bracketed p b) (side_over j s) ts rest
 unfolding side_over has_arrow has_word
 bracketed_back j s p b ts us vs rest o k c =
     let m = marks class.LeftParen p ts us o in
@@ -107,10 +107,10 @@ bracketed_back j s p b ts us vs rest o k c =
 
 -- ---- words
 
-some_not_none : {P : Type 0} (word : List Seen) → Some word ≡ no_word → P
+some_not_none : {P : Type 0} (word : List ParserToken) → Some word ≡ no_word → P
 some_not_none word e = absurd cc
 
-mark_not_none : (w : Mark) → Some w ≡ no_mark → ⊥
+mark_not_none : (w : MultiplicityWord) → Some w ≡ no_mark → ⊥
 mark_not_none w e = cc
 
 or_two : (a b : Bool) → a ≡ false → b ≡ false → (a || b) ≡ false
@@ -120,17 +120,17 @@ is_not : (b : Bool) → not b ≡ true → b ≡ false
 is_not true e = absurd cc
 is_not false e = refl
 
-refuse_none : (strict : Bool) (w : Option (List Seen)) → (strict ≡ true → w ≡ no_word) → refuse_word strict w ≡ Ok tt
+refuse_none : (strict : Bool) (w : Option (List ParserToken)) → (strict ≡ true → w ≡ no_word) → refuse_word strict w ≡ Ok tt
 refuse_none strict None none = refl
 refuse_none false (Some word) none = refl
 refuse_none true (Some word) none = some_not_none word (none refl)
 
-is_word_none : (m : Option Mark) → is_word m ≡ false → m ≡ no_mark
+is_word_none : (m : Option MultiplicityWord) → is_word m ≡ false → m ≡ no_mark
 is_word_none None e = refl
 is_word_none (Some w) e = true_not_false e
 
 -- no word stands there, where the tree has none
-no_word_beside : (l r : Option Mark) (p : Place) (ts us vs ws : List Seen) → mark l ts us → sign class.Arrow p us vs → mark r vs ws → is_mark ws ≡ false → l ≡ no_mark → r ≡ no_mark → word_beside ts ≡ no_word
+no_word_beside : (l r : Option MultiplicityWord) (p : Place) (ts us vs ws : List ParserToken) → mark l ts us → sign class.Arrow p us vs → mark r vs ws → is_mark ws ≡ false → l ≡ no_mark → r ≡ no_mark → word_beside ts ≡ no_word
 unfolding word_beside is_mark is_class
 no_word_beside None None p ts us vs ws f s g none e1 e2 =
     let m = marks class.Arrow p us vs s in
@@ -171,24 +171,24 @@ fits_arrows whole b rs (inr one) = (refl, inr (refl, one))
 fits_arrows part b rs f = (refl, inl f)
 fits_arrows (beside word) b rs f = true_not_false f.1
 
-one_parts : (b c : BoundTree) (l r : Option Mark) (p : Place) → is_one_arrow (bound_arrows b (more_arrows l p r c no_arrows)) ≡ true → (has_arrow b ≡ false) × (has_arrow c ≡ false)
+one_parts : (b c : BoundTree) (l r : Option MultiplicityWord) (p : Place) → is_one_arrow (bound_arrows b (more_arrows l p r c no_arrows)) ≡ true → (has_arrow b ≡ false) × (has_arrow c ≡ false)
 unfolding is_one_arrow
 one_parts b c l r p e = (is_not (has_arrow b) (and_left (not (has_arrow b)) (not (has_arrow c)) e), is_not (has_arrow c) (and_right (not (has_arrow b)) (not (has_arrow c)) e))
 
-one_alone : (b c : BoundTree) (l r : Option Mark) (p : Place) (rs : BoundArrows) → is_one_arrow (bound_arrows b (more_arrows l p r c rs)) ≡ true → rs ≡ no_arrows
+one_alone : (b c : BoundTree) (l r : Option MultiplicityWord) (p : Place) (rs : BoundArrows) → is_one_arrow (bound_arrows b (more_arrows l p r c rs)) ≡ true → rs ≡ no_arrows
 unfolding is_one_arrow
 one_alone b c l r p no_arrows e = refl
 one_alone b c l r p (more_arrows m q s d rs) e = true_not_false (sym e)
 
 -- the parts of a bound of arrows without words
-record Wordless (b : BoundTree) (l r : Option Mark) (c : BoundTree) (rs : BoundArrows) : Type 0 where
+record Wordless (b : BoundTree) (l r : Option MultiplicityWord) (c : BoundTree) (rs : BoundArrows) : Type 0 where
   first : has_word b ≡ false
   left : l ≡ no_mark
   right : r ≡ no_mark
   side : has_word c ≡ false
   others : arrows_have_word rs ≡ false
 
-arrow_wordless : (l r : Option Mark) (p : Place) (c : BoundTree) (rs : BoundArrows) → arrows_have_word (more_arrows l p r c rs) ≡ false → (l ≡ no_mark) × (r ≡ no_mark) × (has_word c ≡ false) × (arrows_have_word rs ≡ false)
+arrow_wordless : (l r : Option MultiplicityWord) (p : Place) (c : BoundTree) (rs : BoundArrows) → arrows_have_word (more_arrows l p r c rs) ≡ false → (l ≡ no_mark) × (r ≡ no_mark) × (has_word c ≡ false) × (arrows_have_word rs ≡ false)
 unfolding arrows_have_word
 arrow_wordless l r p c rs e =
     let k1 = both_false (is_word l) (is_word r || (has_word c || arrows_have_word rs)) e in
@@ -196,7 +196,7 @@ arrow_wordless l r p c rs e =
     let k3 = both_false (has_word c) (arrows_have_word rs) k2.1 in
     (is_word_none l k1.0, is_word_none r k2.0, k3.0, k3.1)
 
-wordless : (b : BoundTree) (l r : Option Mark) (p : Place) (c : BoundTree) (rs : BoundArrows) → has_word (bound_arrows b (more_arrows l p r c rs)) ≡ false → Wordless b l r c rs
+wordless : (b : BoundTree) (l r : Option MultiplicityWord) (p : Place) (c : BoundTree) (rs : BoundArrows) → has_word (bound_arrows b (more_arrows l p r c rs)) ≡ false → Wordless b l r c rs
 unfolding has_word
 wordless b l r p c rs e =
     let k = both_false (has_word b) (arrows_have_word (more_arrows l p r c rs)) e in
@@ -204,7 +204,7 @@ wordless b l r p c rs e =
     record { first = k.0; left = m.0; right = m.1; side = m.2; others = m.3 }
 
 -- the word beside an arrow passes
-here_passes : (strict : Bool) (s : Standing) (h : Bool) (ts : List Seen) → (strict ≡ true → (word_beside ts ≡ no_word) ⊎ ((is_whole s ≡ true) × (h ≡ false))) → (if is_whole s && not h then Ok tt else refuse_word strict (word_beside ts)) ≡ Ok tt
+here_passes : (strict : Bool) (s : Standing) (h : Bool) (ts : List ParserToken) → (strict ≡ true → (word_beside ts ≡ no_word) ⊎ ((is_whole s ≡ true) × (h ≡ false))) → (if is_whole s && not h then Ok tt else refuse_word strict (word_beside ts)) ≡ Ok tt
 here_passes false s h ts may = elim (either (is_whole s && not h)) [ inl is ↦ rw is refl | inr none ↦ rw none (refuse_none false (word_beside ts) (λ is. true_not_false (sym is))) ]
 here_passes true s h ts may =
     elim (may refl) [
@@ -213,7 +213,7 @@ here_passes true s h ts may =
     ]
 
 -- an arrow is read behind a side that is marked so and may have arrows
-arrow_back : (strict : Bool) (j : BoundReader) (s : Standing) (marked : Option (List Seen)) (h : Bool) (l r : Option Mark) (p : Place) (c : BoundTree) (ts us vs ws rest : List Seen)
+arrow_back : (strict : Bool) (j : BoundReader) (s : Standing) (marked : Option (List ParserToken)) (h : Bool) (l r : Option MultiplicityWord) (p : Place) (c : BoundTree) (ts us vs ws rest : List ParserToken)
     → mark l ts us → sign class.Arrow p us vs → mark r vs ws → is_mark ws ≡ false → (strict ≡ true → word_round s ≡ no_word) → (strict ≡ true → marked ≡ no_word) → (strict ≡ true → (word_beside ts ≡ no_word) ⊎ ((is_whole s ≡ true) × (h ≡ false)))
     → Back (standing_beside (word_beside ts)) c (side_over j (standing_beside (word_beside ts))) ws rest
     → bound_arrow_over strict j s marked h ts ≡ Ok (record { left = l; place = p; right = r; side = c }, rest)
@@ -257,7 +257,7 @@ operand_fits (beside word) p b us f =
     let m = both_false (has_arrow b) (unions_have_arrow us) f.1 in
     ((k.0, m.0), (k.1, m.1))
 
-operand_back : (strict : Bool) (j : BoundReader) (s : Standing) (p : Place) (b : BoundTree) (ts us rest : List Seen) → sign class.Plus p ts us → (k : Back (operand_in s) b (bound_arrows_over strict j (operand_in s)) us rest) → operand_over strict j s ts ≡ Ok ((p, k.read), rest)
+operand_back : (strict : Bool) (j : BoundReader) (s : Standing) (p : Place) (b : BoundTree) (ts us rest : List ParserToken) → sign class.Plus p ts us → (k : Back (operand_in s) b (bound_arrows_over strict j (operand_in s)) us rest) → operand_over strict j s ts ≡ Ok ((p, k.read), rest)
 unfolding operand_over
 operand_back strict j s p b ts us rest o k =
     let m = marks class.Plus p ts us o in
@@ -265,13 +265,13 @@ operand_back strict j s p b ts us rest o k =
     rw (after_is class.Plus ts us m, e, place_is class.Plus p ts us o) refl
 
 -- the operands that are read, with their trees
-record Operands (strict : Bool) (j : BoundReader) (s : Standing) (us : BoundUnions) (ts rest : List Seen) : Type 0 where
+record Operands (strict : Bool) (j : BoundReader) (s : Standing) (us : BoundUnions) (ts rest : List ParserToken) : Type 0 where
   read : List (Place × Bounded)
   trees : unions_of (map (λ x. (x.0, x.1.bound)) read) ≡ us
   arrows : list_any (λ x. x.1.has_arrow) read ≡ unions_have_arrow us
   goes : each (Goes (next_is class.Plus) (operand_over strict j s)) read ts rest
 
-union_back : (strict : Bool) (j : BoundReader) (s : Standing) (b : BoundTree) (us : BoundUnions) (ts vs rest : List Seen) → (strict ≡ true → has_word b ≡ false) → (k : Back s b (bound_arrows_over strict j s) ts vs) → next_is class.Plus vs ≡ true → (o : Operands strict j s us vs rest) → next_is class.Plus rest ≡ false
+union_back : (strict : Bool) (j : BoundReader) (s : Standing) (b : BoundTree) (us : BoundUnions) (ts vs rest : List ParserToken) → (strict ≡ true → has_word b ≡ false) → (k : Back s b (bound_arrows_over strict j s) ts vs) → next_is class.Plus vs ≡ true → (o : Operands strict j s us vs rest) → next_is class.Plus rest ≡ false
     → Back s (bound_union b us) (bound_over strict j s) ts rest
 unfolding bound_over has_arrow
 union_back strict j s b us ts vs rest none k goes o ends =
@@ -286,12 +286,12 @@ union_back strict j s b us ts vs rest none k goes o ends =
     }
 
 -- the arrows that are read behind the first, with their trees
-record Arrows (strict : Bool) (j : BoundReader) (s : Standing) (w : Option (List Seen)) (rs : BoundArrows) (ts rest : List Seen) : Type 0 where
+record Arrows (strict : Bool) (j : BoundReader) (s : Standing) (w : Option (List ParserToken)) (rs : BoundArrows) (ts rest : List ParserToken) : Type 0 where
   read : List BoundArrowTree
   trees : arrows_of read ≡ rs
   goes : each (Goes begins_bound_arrow (bound_arrow_over strict j s w true)) read ts rest
 
-arrows_back : (strict : Bool) (j : BoundReader) (s : Standing) (b : BoundTree) (a : BoundArrowTree) (rs : BoundArrows) (ts us vs rest : List Seen) → (k : Back s b (side_over j s) ts us) → begins_bound_arrow us ≡ true
+arrows_back : (strict : Bool) (j : BoundReader) (s : Standing) (b : BoundTree) (a : BoundArrowTree) (rs : BoundArrows) (ts us vs rest : List ParserToken) → (k : Back s b (side_over j s) ts us) → begins_bound_arrow us ≡ true
     → bound_arrow_over strict j s k.read.marked k.read.has_arrow us ≡ Ok (a, vs) → (o : Arrows strict j s (word_beside us) rs vs rest) → begins_bound_arrow rest ≡ false
     → (has_word (bound_arrows b (more_arrows a.left a.place a.right a.side rs)) ≡ false → word_beside us ≡ no_word) → Back s (bound_arrows b (more_arrows a.left a.place a.right a.side rs)) (bound_arrows_over strict j s) ts rest
 unfolding bound_arrows_over more_bound_arrows has_arrow
@@ -327,26 +327,26 @@ arrows_first whole b rs (inr one) = inl (no_arrow_no_word b (one_first b rs one)
 arrows_first part b rs f = (both_false (has_word b) (arrows_have_word rs) f).0
 arrows_first (beside word) b rs f = true_not_false f.1
 
-beside_fits : (w : Option (List Seen)) (c : BoundTree) → has_word c ≡ false → has_arrow c ≡ false → Fits (standing_beside w) c
+beside_fits : (w : Option (List ParserToken)) (c : BoundTree) → has_word c ≡ false → has_arrow c ≡ false → Fits (standing_beside w) c
 unfolding standing_beside
 beside_fits None c e f = e
 beside_fits (Some word) c e f = (e, f)
 
-part_fits : (w : Option (List Seen)) (c : BoundTree) → w ≡ no_word → has_word c ≡ false → Fits (standing_beside w) c
+part_fits : (w : Option (List ParserToken)) (c : BoundTree) → w ≡ no_word → has_word c ≡ false → Fits (standing_beside w) c
 unfolding standing_beside
 part_fits None c none e = e
 part_fits (Some word) c none e = some_not_none word none
 
 -- ---- tokens
 
-bound_closed : (l : ℕ) (ts rest : List Seen) → mark_of class.RightParen ts rest → BoundEnds l ts
+bound_closed : (l : ℕ) (ts rest : List ParserToken) → mark_of class.RightParen ts rest → BoundEnds l ts
 unfolding begins_bound_arrow is_mark is_class
 bound_closed l ts rest m = record {
   plus = λ _. differs class.RightParen class.Plus ts rest m refl;
   arrow = λ _. rw (differs class.RightParen class.Arrow ts rest m refl, differs class.RightParen class.Set ts rest m refl, differs class.RightParen class.One ts rest m refl, differs class.RightParen class.Lone ts rest m refl, differs class.RightParen class.Some ts rest m refl) refl;
 }
 
-plus_ends : (p : Place) (ts rest : List Seen) → sign class.Plus p ts rest → BoundEnds 1 ts
+plus_ends : (p : Place) (ts rest : List ParserToken) → sign class.Plus p ts rest → BoundEnds 1 ts
 unfolding begins_bound_arrow is_mark is_class
 plus_ends p ts rest s =
     let m = marks class.Plus p ts rest s in
@@ -355,20 +355,20 @@ plus_ends p ts rest s =
       arrow = λ _. rw (differs class.Plus class.Arrow ts rest m refl, differs class.Plus class.Set ts rest m refl, differs class.Plus class.One ts rest m refl, differs class.Plus class.Lone ts rest m refl, differs class.Plus class.Some ts rest m refl) refl;
     }
 
-side_ends : (ts : List Seen) → BoundEnds 2 ts
+side_ends : (ts : List ParserToken) → BoundEnds 2 ts
 side_ends ts = record { plus = λ h. absurd (omega (arith, h)); arrow = λ h. absurd (omega (arith, h)) }
 
-unions_start : (us : BoundUnions) (ts rest : List Seen) → IsTrue (has_unions us) → spells_unions us ts rest → (next_is class.Plus ts ≡ true) × BoundEnds 1 ts
+unions_start : (us : BoundUnions) (ts rest : List ParserToken) → IsTrue (has_unions us) → spells_unions us ts rest → (next_is class.Plus ts ≡ true) × BoundEnds 1 ts
 unfolding spells_unions
 unions_start no_unions ts rest is s = true_not_false (sym is)
 unions_start (more_unions p b us) ts rest is s = (is_next class.Plus ts s.0 (marks class.Plus p ts s.0 s.1), plus_ends p ts s.0 s.1)
 
-unions_end : (us : BoundUnions) (ts rest : List Seen) → spells_unions us ts rest → BoundEnds 1 rest → BoundEnds 1 ts
+unions_end : (us : BoundUnions) (ts rest : List ParserToken) → spells_unions us ts rest → BoundEnds 1 rest → BoundEnds 1 ts
 unfolding spells_unions
 unions_end no_unions ts rest s e = subst (λ us. BoundEnds 1 us) (sym s) e
 unions_end (more_unions p b us) ts rest s e = plus_ends p ts s.0 s.1
 
-side_first : (c : BoundTree) (ts rest : List Seen) → spells_bound c ts rest → 2 ≤ level_of_bound c → is_mark ts ≡ false
+side_first : (c : BoundTree) (ts rest : List ParserToken) → spells_bound c ts rest → 2 ≤ level_of_bound c → is_mark ts ≡ false
 unfolding spells_bound is_mark is_class
 side_first (bound_named n) ts rest s h =
     let m : mark_of class.Name ts rest = (s.0, s.1, s.2) in
@@ -379,7 +379,7 @@ side_first (bound_bracketed p b) ts rest s h =
 side_first (bound_union b us) ts rest s h = absurd (omega (arith, h))
 side_first (bound_arrows b rs) ts rest s h = absurd (omega (arith, h))
 
-arrow_begins : (l : Option Mark) (p : Place) (ts us vs : List Seen) → mark l ts us → sign class.Arrow p us vs → begins_bound_arrow ts ≡ true
+arrow_begins : (l : Option MultiplicityWord) (p : Place) (ts us vs : List ParserToken) → mark l ts us → sign class.Arrow p us vs → begins_bound_arrow ts ≡ true
 unfolding begins_bound_arrow
 arrow_begins None p ts us vs f s = rw (ap (next_is class.Arrow) f, is_next class.Arrow us vs (marks class.Arrow p us vs s)) refl
 arrow_begins (Some w) p ts us vs f s = rw (multiplicity_full w.multiplicity ts us (f.0, f.1, f.2)).0 (or_true (next_is class.Arrow ts))
@@ -387,14 +387,14 @@ arrow_begins (Some w) p ts us vs f s = rw (multiplicity_full w.multiplicity ts u
 -- ---- the whole bound
 
 module _ (strict : Bool) where
-  arrow_short : (room : ℕ) (s : Standing) (w : Option (List Seen)) (ts : List Seen) (a : BoundArrowTree) (rest : List Seen) → bound_arrow_over strict (bound_within strict room) s w true ts ≡ Ok (a, rest) → length rest < length ts
+  arrow_short : (room : ℕ) (s : Standing) (w : Option (List ParserToken)) (ts : List ParserToken) (a : BoundArrowTree) (rest : List ParserToken) → bound_arrow_over strict (bound_within strict room) s w true ts ≡ Ok (a, rest) → length rest < length ts
   arrow_short room s w ts a rest e = (arrow_read strict room (bound_within strict room) (bounds_read strict room) s w true ts a rest e).shorter
 
-  operand_short : (room : ℕ) (s : Standing) (ts : List Seen) (u : Place × Bounded) (rest : List Seen) → next_is class.Plus ts ≡ true → operand_over strict (bound_within strict room) s ts ≡ Ok (u, rest) → length rest < length ts
+  operand_short : (room : ℕ) (s : Standing) (ts : List ParserToken) (u : Place × Bounded) (rest : List ParserToken) → next_is class.Plus ts ≡ true → operand_over strict (bound_within strict room) s ts ≡ Ok (u, rest) → length rest < length ts
   operand_short room s ts u rest goes e = let f = operand_read strict room (bound_within strict room) (bounds_read strict room) s ts u rest goes e in omega (arith, ap length f.plus.1, f.found.shorter)
 
   -- the first arrow behind a side, where the others are read
-  first_arrow : (room : ℕ) (s : Standing) (b : BoundTree) (l r : Option Mark) (p : Place) (c : BoundTree) (rs : BoundArrows) (os ts us vs ws xs rest : List Seen)
+  first_arrow : (room : ℕ) (s : Standing) (b : BoundTree) (l r : Option MultiplicityWord) (p : Place) (c : BoundTree) (rs : BoundArrows) (os ts us vs ws xs rest : List ParserToken)
       → (k : Back s b (side_over (bound_within strict room) s) os ts) → (strict ≡ true → Fits s (bound_arrows b (more_arrows l p r c rs))) → mark l ts us → sign class.Arrow p us vs → mark r vs ws → is_mark ws ≡ false
       → ((strict ≡ true → Fits (standing_beside (word_beside ts)) c) → Back (standing_beside (word_beside ts)) c (side_over (bound_within strict room) (standing_beside (word_beside ts))) ws xs)
       → ((strict ≡ true → has_arrows rs ≡ true → word_beside ts ≡ no_word) → (strict ≡ true → arrows_have_word rs ≡ false) → (strict ≡ true → word_round s ≡ no_word) → Arrows strict (bound_within strict room) s (word_beside ts) rs xs rest)
@@ -431,7 +431,7 @@ module _ (strict : Bool) where
   mutual
     unfolding spells_bound spells_unions spells_arrows depth_of_bound depth_of_unions depth_of_arrows bound_within unions_have_arrow arrows_have_word
 
-    back : (b : BoundTree) (room : ℕ) (s : Standing) (l : ℕ) (ts rest : List Seen) → spells_bound b ts rest → depth_of_bound b < suc room → (strict ≡ true → Fits s b) → l ≤ level_of_bound b → BoundEnds l rest
+    back : (b : BoundTree) (room : ℕ) (s : Standing) (l : ℕ) (ts rest : List ParserToken) → spells_bound b ts rest → depth_of_bound b < suc room → (strict ≡ true → Fits s b) → l ≤ level_of_bound b → BoundEnds l rest
         → Back s b (bound_reader strict (bound_within strict room) l s) ts rest
     back (bound_named n) room s l ts rest m d f less e = from_side strict (bound_within strict room) s (bound_named n) l ts rest e (named_back (bound_within strict room) s n ts rest m)
     back (bound_bracketed p b) zero s l ts rest m d f less e = absurd (omega (arith, d))
@@ -450,7 +450,7 @@ module _ (strict : Bool) where
         let k = back b room s 2 ts t.0 t.1.1 (omega (arith, d)) (λ is. arrows_first s b rs (f is)) t.1.0 (side_ends t.0) in
         from_arrows strict (bound_within strict room) s (bound_arrows b rs) l ts rest less e ((back_arrows rs room s t.0 rest t.2 (omega (arith, d))).1 b ts m.0 k f (e.arrow less))
 
-    back_unions : (us : BoundUnions) (room : ℕ) (s : Standing) (ts rest : List Seen) → spells_unions us ts rest → depth_of_unions us < suc room → (strict ≡ true → OperandsFit s us) → BoundEnds 1 rest → Operands strict (bound_within strict room) s us ts rest
+    back_unions : (us : BoundUnions) (room : ℕ) (s : Standing) (ts rest : List ParserToken) → spells_unions us ts rest → depth_of_unions us < suc room → (strict ≡ true → OperandsFit s us) → BoundEnds 1 rest → Operands strict (bound_within strict room) s us ts rest
     back_unions no_unions room s ts rest m d f e = record { read = []; trees = refl; arrows = refl; goes = m }
     back_unions (more_unions p b us) room s ts rest m d f e =
         let t = m.2 in
@@ -465,9 +465,9 @@ module _ (strict : Bool) where
           goes = (t.0, (goes, read, operand_short room s ts (p, k.read) t.0 goes read), o.goes);
         }
 
-    back_arrows : (rs : BoundArrows) (room : ℕ) (s : Standing) (ts rest : List Seen) → spells_arrows rs ts rest → depth_of_arrows rs < suc room
-        → ((w : Option (List Seen)) → (strict ≡ true → has_arrows rs ≡ true → w ≡ no_word) → (strict ≡ true → arrows_have_word rs ≡ false) → (strict ≡ true → word_round s ≡ no_word) → Arrows strict (bound_within strict room) s w rs ts rest)
-        × ((b : BoundTree) (os : List Seen) → IsTrue (has_arrows rs) → Back s b (side_over (bound_within strict room) s) os ts → (strict ≡ true → Fits s (bound_arrows b rs)) → begins_bound_arrow rest ≡ false
+    back_arrows : (rs : BoundArrows) (room : ℕ) (s : Standing) (ts rest : List ParserToken) → spells_arrows rs ts rest → depth_of_arrows rs < suc room
+        → ((w : Option (List ParserToken)) → (strict ≡ true → has_arrows rs ≡ true → w ≡ no_word) → (strict ≡ true → arrows_have_word rs ≡ false) → (strict ≡ true → word_round s ≡ no_word) → Arrows strict (bound_within strict room) s w rs ts rest)
+        × ((b : BoundTree) (os : List ParserToken) → IsTrue (has_arrows rs) → Back s b (side_over (bound_within strict room) s) os ts → (strict ≡ true → Fits s (bound_arrows b rs)) → begins_bound_arrow rest ≡ false
         → Back s (bound_arrows b rs) (bound_arrows_over strict (bound_within strict room) s) os rest)
     back_arrows no_arrows room s ts rest m d = (λ w none silent round. record { read = []; trees = refl; goes = m }, λ b os is k f e. true_not_false (sym is))
     back_arrows (more_arrows l p r c rs) room s ts rest m d =
@@ -499,7 +499,7 @@ fits_whole b e =
     ]
 
 -- a field's bound is read, where it has words only as the language takes them, and no arrow and no `+` follows
-pub whole_back : (strict : Bool) (room : ℕ) (b : BoundTree) (ts rest : List Seen) → spells_bound b ts rest → depth_of_bound b < room → (strict ≡ true → is_plain_bound b ≡ true) → next_is class.Plus rest ≡ false → begins_bound_arrow rest ≡ false
+pub whole_back : (strict : Bool) (room : ℕ) (b : BoundTree) (ts rest : List ParserToken) → spells_bound b ts rest → depth_of_bound b < room → (strict ≡ true → is_plain_bound b ≡ true) → next_is class.Plus rest ≡ false → begins_bound_arrow rest ≡ false
     → (x : Bounded) × (x.bound ≡ b) × (bound_within strict room whole ts ≡ Ok (x, rest))
 unfolding bound_within
 whole_back strict zero b ts rest s d plain plus arrow = absurd (omega (arith, d))

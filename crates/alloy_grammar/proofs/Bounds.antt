@@ -4,8 +4,8 @@ use Rattle.std.specs.List.{list_any}
 use Rattle.alloy_lex.specs.declared.token.Place.{Place}
 use Rattle.alloy_syntax.specs.declared.class.Class.TheVariants as class
 use Rattle.alloy_syntax.specs.declared.tree.Name.{Name}
-use Rattle.alloy_syntax.specs.declared.tree.Mark.{Mark}
-use Rattle.alloy_syntax.specs.declared.seen.Seen.{Seen}
+use Rattle.alloy_syntax.specs.declared.tree.MultiplicityWord.{MultiplicityWord}
+use Rattle.alloy_syntax.specs.declared.parser_token.ParserToken.{ParserToken}
 use Rattle.alloy_syntax.specs.Tree.{BoundTree, bound_named, bound_bracketed, bound_union, bound_arrows, BoundArrowTree, BoundUnions, BoundArrows, unions_of, arrows_of}
 use Rattle.alloy_syntax.specs.Readers.{next_is, after, place_at, expect, name_at, is_mark, mark_at, after_mark, many}
 use Rattle.alloy_syntax.specs.Bounds.{Bounded, Standing, whole, part, beside, BoundReader, is_whole, word_round, operand_in, standing_beside, word_beside, refuse_word, side_over, begins_bound_arrow, bound_arrow_over, more_bound_arrows, bound_arrows_over, operand_over, bound_over, begins_bound, bound_within}
@@ -17,16 +17,16 @@ use Rattle.alloy_grammar.proofs.Lists.{Taken, Shortens, many_read, many_stops, e
 
 -- ---- what may stand where
 
-abbrev no_word : Option (List Seen)
+abbrev no_word : Option (List ParserToken)
 no_word = None
 
 -- a bound that is a side of an arrow with a word has no arrow, a part has no word, and a whole one may be one arrow with words
-abbrev pub Allowed : Standing → Option (List Seen) → BoundTree → Type 0
+abbrev pub Allowed : Standing → Option (List ParserToken) → BoundTree → Type 0
 Allowed whole w b = (w ≡ no_word → has_word b ≡ false) × ((has_word b ≡ false) ⊎ (is_one_arrow b ≡ true))
 Allowed part w b = has_word b ≡ false
 Allowed (beside word) w b = (has_word b ≡ false) × (has_arrow b ≡ false)
 
-pub record FoundBound (strict : Bool) (room l : ℕ) (s : Standing) (x : Bounded) (ts rest : List Seen) : Type 0 where
+pub record FoundBound (strict : Bool) (room l : ℕ) (s : Standing) (x : Bounded) (ts rest : List ParserToken) : Type 0 where
   pub spelled : spells_bound x.bound ts rest
   pub level : l ≤ level_of_bound x.bound
   pub shallow : depth_of_bound x.bound < room
@@ -35,24 +35,24 @@ pub record FoundBound (strict : Bool) (room l : ℕ) (s : Standing) (x : Bounded
   pub shorter : length rest < length ts
 
 -- the same without what was marked
-pub record FoundSide (strict : Bool) (room l : ℕ) (b : BoundTree) (ts rest : List Seen) : Type 0 where
+pub record FoundSide (strict : Bool) (room l : ℕ) (b : BoundTree) (ts rest : List ParserToken) : Type 0 where
   pub spelled : spells_bound b ts rest
   pub level : l ≤ level_of_bound b
   pub shallow : depth_of_bound b < room
   pub shorter : length rest < length ts
 
-side_of : {strict : Bool} {room l : ℕ} {s : Standing} {x : Bounded} {ts rest : List Seen} → FoundBound strict room l s x ts rest → FoundSide strict room l x.bound ts rest
+side_of : {strict : Bool} {room l : ℕ} {s : Standing} {x : Bounded} {ts rest : List ParserToken} → FoundBound strict room l s x ts rest → FoundSide strict room l x.bound ts rest
 side_of f = record { spelled = f.spelled; level = f.level; shallow = f.shallow; shorter = f.shorter }
 
-bound_land : {strict : Bool} {room l : ℕ} {s : Standing} {x y : Bounded} {ts us rest : List Seen} → got x us ≡ got y rest → FoundBound strict room l s x ts us → FoundBound strict room l s y ts rest
+bound_land : {strict : Bool} {room l : ℕ} {s : Standing} {x y : Bounded} {ts us rest : List ParserToken} → got x us ≡ got y rest → FoundBound strict room l s x ts us → FoundBound strict room l s y ts rest
 bound_land {strict} {room} {l} {s} {x} {y} {ts} {us} {rest} e f =
-    subst (λ (vs : List Seen). FoundBound strict room l s y ts vs) (rest_is x y us rest e) (subst (λ (z : Bounded). FoundBound strict room l s z ts us) (value_is x y us rest e) f)
+    subst (λ (vs : List ParserToken). FoundBound strict room l s y ts vs) (rest_is x y us rest e) (subst (λ (z : Bounded). FoundBound strict room l s z ts us) (value_is x y us rest e) f)
 
-bound_lowered : {strict : Bool} {room l : ℕ} {s : Standing} {x : Bounded} {ts rest : List Seen} → (m : ℕ) → m ≤ l → FoundBound strict room l s x ts rest → FoundBound strict room m s x ts rest
+bound_lowered : {strict : Bool} {room l : ℕ} {s : Standing} {x : Bounded} {ts rest : List ParserToken} → (m : ℕ) → m ≤ l → FoundBound strict room l s x ts rest → FoundBound strict room m s x ts rest
 bound_lowered m less f = record { spelled = f.spelled; level = omega arith; shallow = f.shallow; arrows = f.arrows; allowed = f.allowed; shorter = f.shorter }
 
 abbrev pub BoundBelow : Bool → ℕ → BoundReader → Type 0
-BoundBelow strict room j = (s : Standing) (ts : List Seen) (x : Bounded) (rest : List Seen) → j s ts ≡ Ok (x, rest) → FoundBound strict room 0 s x ts rest
+BoundBelow strict room j = (s : Standing) (ts : List ParserToken) (x : Bounded) (rest : List ParserToken) → j s ts ≡ Ok (x, rest) → FoundBound strict room 0 s x ts rest
 
 -- ---- sides
 
@@ -62,13 +62,13 @@ named_allowed whole n = (λ _. refl, inl refl)
 named_allowed part n = refl
 named_allowed (beside word) n = (refl, refl)
 
-bracketed_allowed : (s : Standing) (w : Option (List Seen)) (p : Place) (b : BoundTree) → Allowed s w b → Allowed s w (bound_bracketed p b)
+bracketed_allowed : (s : Standing) (w : Option (List ParserToken)) (p : Place) (b : BoundTree) → Allowed s w b → Allowed s w (bound_bracketed p b)
 unfolding has_word has_arrow is_one_arrow
 bracketed_allowed whole w p b a = a
 bracketed_allowed part w p b a = a
 bracketed_allowed (beside word) w p b a = a
 
-named_bound : (strict : Bool) (room : ℕ) (s : Standing) (n : Name) (ts rest : List Seen) → name n ts rest → FoundBound strict (suc room) 2 s (record { bound = bound_named n; marked = no_word; has_arrow = false }) ts rest
+named_bound : (strict : Bool) (room : ℕ) (s : Standing) (n : Name) (ts rest : List ParserToken) → name n ts rest → FoundBound strict (suc room) 2 s (record { bound = bound_named n; marked = no_word; has_arrow = false }) ts rest
 unfolding spells_bound depth_of_bound has_arrow
 named_bound strict room s n ts rest f = record {
   spelled = f;
@@ -79,7 +79,7 @@ named_bound strict room s n ts rest f = record {
   shorter = omega (arith, ap length f.1);
 }
 
-bracketed_bound : (strict : Bool) (room : ℕ) (s : Standing) (p : Place) (x : Bounded) (ts us vs rest : List Seen) → sign class.LeftParen p ts us → FoundBound strict room 0 s x us vs → mark_of class.RightParen vs rest
+bracketed_bound : (strict : Bool) (room : ℕ) (s : Standing) (p : Place) (x : Bounded) (ts us vs rest : List ParserToken) → sign class.LeftParen p ts us → FoundBound strict room 0 s x us vs → mark_of class.RightParen vs rest
     → FoundBound strict (suc room) 2 s (record { bound = bound_bracketed p x.bound; marked = x.marked; has_arrow = x.has_arrow }) ts rest
 unfolding spells_bound depth_of_bound has_arrow
 bracketed_bound strict room s p x ts us vs rest o f c = record {
@@ -93,23 +93,23 @@ bracketed_bound strict room s p x ts us vs rest o f c = record {
 
 -- ---- words
 
-refused_word : (strict : Bool) (w : Option (List Seen)) (u : Unit {0}) → refuse_word strict w ≡ Ok u → strict ≡ true → w ≡ no_word
+refused_word : (strict : Bool) (w : Option (List ParserToken)) (u : Unit {0}) → refuse_word strict w ≡ Ok u → strict ≡ true → w ≡ no_word
 refused_word strict None u e is = refl
 refused_word true (Some word) u e is = no_success _ _ e
 refused_word false (Some word) u e is = true_not_false (sym is)
 
-some_not_none : {P : Type 0} (word : List Seen) → Some word ≡ no_word → P
+some_not_none : {P : Type 0} (word : List ParserToken) → Some word ≡ no_word → P
 some_not_none word e = absurd cc
 
-abbrev no_mark : Option Mark
+abbrev no_mark : Option MultiplicityWord
 no_mark = None
 
 -- where no word stands beside the arrow, there is none in the tree
-no_left : (ts : List Seen) → word_beside ts ≡ no_word → mark_at ts ≡ no_mark
+no_left : (ts : List ParserToken) → word_beside ts ≡ no_word → mark_at ts ≡ no_mark
 unfolding word_beside mark_at
 no_left ts e = elim (either (is_mark ts)) [ inl is ↦ some_not_none ts (rw is at e) | inr other ↦ rw other refl ]
 
-no_right : (ts : List Seen) (p : Place) (rest : List Seen) → word_beside ts ≡ no_word → sign class.Arrow p (after_mark ts) rest → mark_at rest ≡ no_mark
+no_right : (ts : List ParserToken) (p : Place) (rest : List ParserToken) → word_beside ts ≡ no_word → sign class.Arrow p (after_mark ts) rest → mark_at rest ≡ no_mark
 unfolding word_beside mark_at after_mark
 no_right ts p rest e s =
     elim (either (is_mark ts)) [
@@ -124,25 +124,25 @@ no_right ts p rest e s =
     ]
 
 -- what an arrow may have, where it stands so behind a side that is marked so and may have arrows
-pub record ArrowAllowed (s : Standing) (marked : Option (List Seen)) (h : Bool) (w : Option (List Seen)) (a : BoundArrowTree) : Type 0 where
+pub record ArrowAllowed (s : Standing) (marked : Option (List ParserToken)) (h : Bool) (w : Option (List ParserToken)) (a : BoundArrowTree) : Type 0 where
   pub round : word_round s ≡ no_word
   pub front : marked ≡ no_word
   pub side : has_word a.side ≡ false
   pub none : w ≡ no_word → (a.left ≡ no_mark) × (a.right ≡ no_mark)
   pub some : (w ≡ no_word) ⊎ ((is_whole s ≡ true) × (h ≡ false) × (has_arrow a.side ≡ false))
 
-pub record FoundArrow (strict : Bool) (room : ℕ) (s : Standing) (marked : Option (List Seen)) (h : Bool) (a : BoundArrowTree) (ts rest : List Seen) : Type 0 where
-  pub behind_left : List Seen
+pub record FoundArrow (strict : Bool) (room : ℕ) (s : Standing) (marked : Option (List ParserToken)) (h : Bool) (a : BoundArrowTree) (ts rest : List ParserToken) : Type 0 where
+  pub behind_left : List ParserToken
   pub left : mark a.left ts behind_left
-  pub behind_arrow : List Seen
+  pub behind_arrow : List ParserToken
   pub arrow : sign class.Arrow a.place behind_left behind_arrow
-  pub behind_right : List Seen
+  pub behind_right : List ParserToken
   pub right : mark a.right behind_arrow behind_right
   pub side : FoundSide strict room 2 a.side behind_right rest
   pub allowed : strict ≡ true → ArrowAllowed s marked h (word_beside ts) a
   pub shorter : length rest < length ts
 
-side_allowed : (w m : Option (List Seen)) (b : BoundTree) → Allowed (standing_beside w) m b → (has_word b ≡ false) × ((w ≡ no_word) ⊎ (has_arrow b ≡ false))
+side_allowed : (w m : Option (List ParserToken)) (b : BoundTree) → Allowed (standing_beside w) m b → (has_word b ≡ false) × ((w ≡ no_word) ⊎ (has_arrow b ≡ false))
 unfolding standing_beside
 side_allowed None m b a = (a, inl refl)
 side_allowed (Some word) m b a = (a.0, inr a.1)
@@ -153,7 +153,7 @@ and_not true false e = (refl, refl)
 and_not false b e = absurd cc
 
 -- the word that isn't refused beside an arrow
-here_allowed : (strict : Bool) (s : Standing) (h : Bool) (ts : List Seen) (u : Unit {0}) → (if is_whole s && not h then Ok tt else refuse_word strict (word_beside ts)) ≡ Ok u → strict ≡ true
+here_allowed : (strict : Bool) (s : Standing) (h : Bool) (ts : List ParserToken) (u : Unit {0}) → (if is_whole s && not h then Ok tt else refuse_word strict (word_beside ts)) ≡ Ok u → strict ≡ true
     → (word_beside ts ≡ no_word) ⊎ ((is_whole s ≡ true) × (h ≡ false))
 here_allowed strict s h ts u e is =
     elim (either (is_whole s && not h)) [
@@ -161,14 +161,14 @@ here_allowed strict s h ts u e is =
       | inr other ↦ inl (refused_word strict (word_beside ts) u (rw other at e) is)
     ]
 
-some_of : (w : Option (List Seen)) (s : Standing) (h : Bool) (b : BoundTree) → (w ≡ no_word) ⊎ ((is_whole s ≡ true) × (h ≡ false)) → (w ≡ no_word) ⊎ (has_arrow b ≡ false)
+some_of : (w : Option (List ParserToken)) (s : Standing) (h : Bool) (b : BoundTree) → (w ≡ no_word) ⊎ ((is_whole s ≡ true) × (h ≡ false)) → (w ≡ no_word) ⊎ (has_arrow b ≡ false)
     → (w ≡ no_word) ⊎ ((is_whole s ≡ true) × (h ≡ false) × (has_arrow b ≡ false))
 some_of w s h b (inl none) q = inl none
 some_of w s h b (inr p) (inl none) = inl none
 some_of w s h b (inr p) (inr q) = inr (p.0, p.1, q)
 
 module _ (strict : Bool) (room : ℕ) (j : BoundReader) (below : BoundBelow strict room j) where
-  side_read : (s : Standing) (ts : List Seen) (x : Bounded) (rest : List Seen) → side_over j s ts ≡ Ok (x, rest) → FoundBound strict (suc room) 2 s x ts rest
+  side_read : (s : Standing) (ts : List ParserToken) (x : Bounded) (rest : List ParserToken) → side_over j s ts ≡ Ok (x, rest) → FoundBound strict (suc room) 2 s x ts rest
   unfolding side_over
   side_read s ts x rest e =
       elim (either (next_is class.LeftParen ts)) [
@@ -193,7 +193,7 @@ module _ (strict : Bool) (room : ℕ) (j : BoundReader) (below : BoundBelow stri
             ])
       ]
 
-  pub arrow_read : (s : Standing) (marked : Option (List Seen)) (h : Bool) (ts : List Seen) (a : BoundArrowTree) (rest : List Seen) → bound_arrow_over strict j s marked h ts ≡ Ok (a, rest) → FoundArrow strict (suc room) s marked h a ts rest
+  pub arrow_read : (s : Standing) (marked : Option (List ParserToken)) (h : Bool) (ts : List ParserToken) (a : BoundArrowTree) (rest : List ParserToken) → bound_arrow_over strict j s marked h ts ≡ Ok (a, rest) → FoundArrow strict (suc room) s marked h a ts rest
   unfolding bound_arrow_over
   arrow_read s marked h ts a rest e =
       elim (known (expect class.Arrow (after_mark ts))) [
@@ -248,12 +248,12 @@ module _ (strict : Bool) (room : ℕ) (j : BoundReader) (below : BoundBelow stri
 
 -- ---- arrows
 
-pub record FoundArrows (room : ℕ) (as' : BoundArrows) (ts rest : List Seen) : Type 0 where
+pub record FoundArrows (room : ℕ) (as' : BoundArrows) (ts rest : List ParserToken) : Type 0 where
   spelled : spells_arrows as' ts rest
   shallow : depth_of_arrows as' < room
   shorter : length rest ≤ length ts
 
-arrows_found : (strict : Bool) (room : ℕ) (s : Standing) (marked : Option (List Seen)) (h : Bool) (as' : List BoundArrowTree) (ts rest : List Seen) → each (FoundArrow strict (suc room) s marked h) as' ts rest
+arrows_found : (strict : Bool) (room : ℕ) (s : Standing) (marked : Option (List ParserToken)) (h : Bool) (as' : List BoundArrowTree) (ts rest : List ParserToken) → each (FoundArrow strict (suc room) s marked h) as' ts rest
     → FoundArrows (suc room) (arrows_of as') ts rest
 unfolding spells_arrows depth_of_arrows
 arrows_found strict room s marked h [] ts rest p = record { spelled = p; shallow = omega arith; shorter = omega (arith, ap length p) }
@@ -267,10 +267,10 @@ arrows_found strict room s marked h (a ∷ as') ts rest p =
     }
 
 -- the first arrow and the others, where no word stands beside any
-words_of_one : (l r : Option Mark) (b others : Bool) → l ≡ no_mark → r ≡ no_mark → b ≡ false → others ≡ false → (is_word l || (is_word r || (b || others))) ≡ false
+words_of_one : (l r : Option MultiplicityWord) (b others : Bool) → l ≡ no_mark → r ≡ no_mark → b ≡ false → others ≡ false → (is_word l || (is_word r || (b || others))) ≡ false
 words_of_one l r b others e1 e2 e3 e4 = rw (e1, e2, e3, e4) refl
 
-no_words : (strict : Bool) (room : ℕ) (s : Standing) (marked : Option (List Seen)) (as' : List BoundArrowTree) (ts rest : List Seen) → each (FoundArrow strict (suc room) s marked true) as' ts rest → strict ≡ true
+no_words : (strict : Bool) (room : ℕ) (s : Standing) (marked : Option (List ParserToken)) (as' : List BoundArrowTree) (ts rest : List ParserToken) → each (FoundArrow strict (suc room) s marked true) as' ts rest → strict ≡ true
     → arrows_have_word (arrows_of as') ≡ false
 unfolding arrows_have_word
 no_words strict room s marked [] ts rest p is = refl
@@ -280,7 +280,7 @@ no_words strict room s marked (a ∷ as') ts rest p is =
     let marks_none = may.none none in
     words_of_one a.left a.right (has_word a.side) (arrows_have_word (arrows_of as')) marks_none.0 marks_none.1 may.side (no_words strict room s marked as' p.0 rest p.2 is)
 
-first_no_word : (s : Standing) (m : Option (List Seen)) (b : BoundTree) → Allowed s m b → m ≡ no_word → has_word b ≡ false
+first_no_word : (s : Standing) (m : Option (List ParserToken)) (b : BoundTree) → Allowed s m b → m ≡ no_word → has_word b ≡ false
 first_no_word whole m b a none = a.0 none
 first_no_word part m b a none = a
 first_no_word (beside word) m b a none = a.0
@@ -289,7 +289,7 @@ or_false : (a b : Bool) → a ≡ false → b ≡ false → (a || b) ≡ false
 or_false a b e f = rw (e, f) refl
 
 -- no word stands in the bound that an arrow and others make
-without_words : (strict : Bool) (room : ℕ) (s : Standing) (x : Bounded) (a : BoundArrowTree) (as' : List BoundArrowTree) (us vs rest : List Seen) → Allowed s x.marked x.bound → ArrowAllowed s x.marked x.has_arrow (word_beside us) a
+without_words : (strict : Bool) (room : ℕ) (s : Standing) (x : Bounded) (a : BoundArrowTree) (as' : List BoundArrowTree) (us vs rest : List ParserToken) → Allowed s x.marked x.bound → ArrowAllowed s x.marked x.has_arrow (word_beside us) a
     → each (FoundArrow strict (suc room) s (word_beside us) true) as' vs rest → strict ≡ true → word_beside us ≡ no_word → has_word (bound_arrows x.bound (arrows_of (a ∷ as'))) ≡ false
 unfolding has_word arrows_have_word
 without_words strict room s x a as' us vs rest first may p is none =
@@ -301,7 +301,7 @@ one_arrow : (b : BoundTree) (a : BoundArrowTree) → has_arrow b ≡ false → h
 unfolding is_one_arrow
 one_arrow b a e f = rw (e, f) refl
 
-whole_arrows : (strict : Bool) (room : ℕ) (x : Bounded) (a : BoundArrowTree) (as' : List BoundArrowTree) (us vs rest : List Seen) → Allowed whole x.marked x.bound → x.has_arrow ≡ has_arrow x.bound
+whole_arrows : (strict : Bool) (room : ℕ) (x : Bounded) (a : BoundArrowTree) (as' : List BoundArrowTree) (us vs rest : List ParserToken) → Allowed whole x.marked x.bound → x.has_arrow ≡ has_arrow x.bound
     → ArrowAllowed whole x.marked x.has_arrow (word_beside us) a → each (FoundArrow strict (suc room) whole (word_beside us) true) as' vs rest → strict ≡ true → Allowed whole (word_beside us) (bound_arrows x.bound (arrows_of (a ∷ as')))
 whole_arrows strict room x a [] us vs rest first same may p is =
     let without = without_words strict room whole x a [] us vs rest first may p is in
@@ -310,7 +310,7 @@ whole_arrows strict room x a (c ∷ as') us vs rest first same may p is =
     let without = without_words strict room whole x a (c ∷ as') us vs rest first may p is in
     (without, inl (without (p.1.allowed is).front))
 
-arrows_allowed : (strict : Bool) (room : ℕ) (s : Standing) (x : Bounded) (a : BoundArrowTree) (as' : List BoundArrowTree) (us vs rest : List Seen) → Allowed s x.marked x.bound → x.has_arrow ≡ has_arrow x.bound
+arrows_allowed : (strict : Bool) (room : ℕ) (s : Standing) (x : Bounded) (a : BoundArrowTree) (as' : List BoundArrowTree) (us vs rest : List ParserToken) → Allowed s x.marked x.bound → x.has_arrow ≡ has_arrow x.bound
     → ArrowAllowed s x.marked x.has_arrow (word_beside us) a → each (FoundArrow strict (suc room) s (word_beside us) true) as' vs rest → strict ≡ true → Allowed s (word_beside us) (bound_arrows x.bound (arrows_of (a ∷ as')))
 unfolding is_whole word_round
 arrows_allowed strict room whole x a as' us vs rest first same may p is = whole_arrows strict room x a as' us vs rest first same may p is
@@ -318,7 +318,7 @@ arrows_allowed strict room part x a as' us vs rest first same may p is =
     without_words strict room part x a as' us vs rest first may p is (elim may.some [ inl none ↦ none | inr q ↦ true_not_false (sym q.0) ])
 arrows_allowed strict room (beside word) x a as' us vs rest first same may p is = some_not_none word may.round
 
-arrows_bound : (strict : Bool) (room : ℕ) (s : Standing) (x : Bounded) (a : BoundArrowTree) (as' : List BoundArrowTree) (ts us vs rest : List Seen) → FoundBound strict (suc room) 2 s x ts us
+arrows_bound : (strict : Bool) (room : ℕ) (s : Standing) (x : Bounded) (a : BoundArrowTree) (as' : List BoundArrowTree) (ts us vs rest : List ParserToken) → FoundBound strict (suc room) 2 s x ts us
     → FoundArrow strict (suc room) s x.marked x.has_arrow a us vs → each (FoundArrow strict (suc room) s (word_beside us) true) as' vs rest
     → FoundBound strict (suc room) 1 s (record { bound = bound_arrows x.bound (arrows_of (a ∷ as')); marked = word_beside us; has_arrow = true }) ts rest
 unfolding spells_bound spells_arrows depth_of_bound depth_of_arrows has_arrow
@@ -336,28 +336,28 @@ arrows_bound strict room s x a as' ts us vs rest f g p =
 
 -- ---- unions
 
-operand_no_word : (s : Standing) (m : Option (List Seen)) (b : BoundTree) → Allowed (operand_in s) m b → has_word b ≡ false
+operand_no_word : (s : Standing) (m : Option (List ParserToken)) (b : BoundTree) → Allowed (operand_in s) m b → has_word b ≡ false
 unfolding operand_in
 operand_no_word whole m b a = a
 operand_no_word part m b a = a
 operand_no_word (beside word) m b a = a.0
 
-pub record FoundOperand (strict : Bool) (room : ℕ) (s : Standing) (u : Place × Bounded) (ts rest : List Seen) : Type 0 where
-  pub behind : List Seen
+pub record FoundOperand (strict : Bool) (room : ℕ) (s : Standing) (u : Place × Bounded) (ts rest : List ParserToken) : Type 0 where
+  pub behind : List ParserToken
   pub plus : sign class.Plus u.0 ts behind
   pub found : FoundBound strict room 1 (operand_in s) u.1 behind rest
 
 abbrev trees_in : List (Place × Bounded) → BoundUnions
 trees_in us = unions_of (map (λ x. (x.0, x.1.bound)) us)
 
-pub record FoundUnions (strict : Bool) (room : ℕ) (s : Standing) (us : List (Place × Bounded)) (ts rest : List Seen) : Type 0 where
+pub record FoundUnions (strict : Bool) (room : ℕ) (s : Standing) (us : List (Place × Bounded)) (ts rest : List ParserToken) : Type 0 where
   spelled : spells_unions (trees_in us) ts rest
   shallow : depth_of_unions (trees_in us) < room
   arrows : list_any (λ x. x.1.has_arrow) us ≡ unions_have_arrow (trees_in us)
   words : strict ≡ true → unions_have_word (trees_in us) ≡ false
   shorter : length rest ≤ length ts
 
-unions_found : (strict : Bool) (room : ℕ) (s : Standing) (us : List (Place × Bounded)) (ts rest : List Seen) → each (FoundOperand strict (suc room) s) us ts rest → FoundUnions strict (suc room) s us ts rest
+unions_found : (strict : Bool) (room : ℕ) (s : Standing) (us : List (Place × Bounded)) (ts rest : List ParserToken) → each (FoundOperand strict (suc room) s) us ts rest → FoundUnions strict (suc room) s us ts rest
 unfolding spells_unions depth_of_unions unions_have_arrow unions_have_word
 unions_found strict room s [] ts rest p = record { spelled = p; shallow = omega arith; arrows = refl; words = λ _. refl; shorter = omega (arith, ap length p) }
 unions_found strict room s (u ∷ us) ts rest p =
@@ -372,13 +372,13 @@ unions_found strict room s (u ∷ us) ts rest p =
     }
 
 -- beside a word no operand has an arrow
-no_arrows_beside : (strict : Bool) (room : ℕ) (word : List Seen) (us : List (Place × Bounded)) (ts rest : List Seen) → each (FoundOperand strict (suc room) (beside word)) us ts rest → strict ≡ true → unions_have_arrow (trees_in us) ≡ false
+no_arrows_beside : (strict : Bool) (room : ℕ) (word : List ParserToken) (us : List (Place × Bounded)) (ts rest : List ParserToken) → each (FoundOperand strict (suc room) (beside word)) us ts rest → strict ≡ true → unions_have_arrow (trees_in us) ≡ false
 unfolding unions_have_arrow operand_in
 no_arrows_beside strict room word [] ts rest p is = refl
 no_arrows_beside strict room word (u ∷ us) ts rest p is =
     or_false (has_arrow u.1.bound) (unions_have_arrow (trees_in us)) (p.1.found.allowed is).1 (no_arrows_beside strict room word us p.0 rest p.2 is)
 
-union_allowed : (strict : Bool) (room : ℕ) (s : Standing) (x : Bounded) (us : List (Place × Bounded)) (ts rest : List Seen) → Allowed s x.marked x.bound → x.marked ≡ no_word → each (FoundOperand strict (suc room) s) us ts rest → strict ≡ true
+union_allowed : (strict : Bool) (room : ℕ) (s : Standing) (x : Bounded) (us : List (Place × Bounded)) (ts rest : List ParserToken) → Allowed s x.marked x.bound → x.marked ≡ no_word → each (FoundOperand strict (suc room) s) us ts rest → strict ≡ true
     → Allowed s no_word (bound_union x.bound (trees_in us))
 unfolding has_word has_arrow
 union_allowed strict room whole x us ts rest first none p is =
@@ -391,7 +391,7 @@ union_allowed strict room (beside word) x us ts rest first none p is = (
   or_false (has_arrow x.bound) (unions_have_arrow (trees_in us)) first.1 (no_arrows_beside strict room word us ts rest p is),
 )
 
-union_bound : (strict : Bool) (room : ℕ) (s : Standing) (x : Bounded) (u : Place × Bounded) (us : List (Place × Bounded)) (ts vs rest : List Seen) → FoundBound strict (suc room) 1 s x ts vs → (strict ≡ true → x.marked ≡ no_word)
+union_bound : (strict : Bool) (room : ℕ) (s : Standing) (x : Bounded) (u : Place × Bounded) (us : List (Place × Bounded)) (ts vs rest : List ParserToken) → FoundBound strict (suc room) 1 s x ts vs → (strict ≡ true → x.marked ≡ no_word)
     → each (FoundOperand strict (suc room) s) (u ∷ us) vs rest
     → FoundBound strict (suc room) 0 s (record { bound = bound_union x.bound (trees_in (u ∷ us)); marked = no_word; has_arrow = x.has_arrow || list_any (λ y. y.1.has_arrow) (u ∷ us) }) ts rest
 unfolding spells_bound depth_of_bound has_arrow
@@ -407,7 +407,7 @@ union_bound strict room s x u us ts vs rest f none p =
     }
 
 module _ (strict : Bool) (room : ℕ) (j : BoundReader) (below : BoundBelow strict room j) where
-  bound_arrows_read : (s : Standing) (ts : List Seen) (x : Bounded) (rest : List Seen) → bound_arrows_over strict j s ts ≡ Ok (x, rest) → FoundBound strict (suc room) 1 s x ts rest
+  bound_arrows_read : (s : Standing) (ts : List ParserToken) (x : Bounded) (rest : List ParserToken) → bound_arrows_over strict j s ts ≡ Ok (x, rest) → FoundBound strict (suc room) 1 s x ts rest
   unfolding bound_arrows_over more_bound_arrows
   bound_arrows_read s ts x rest e =
       elim (known (side_over j s ts)) [
@@ -435,7 +435,7 @@ module _ (strict : Bool) (room : ℕ) (j : BoundReader) (below : BoundBelow stri
             ])
       ]
 
-  pub operand_read : (s : Standing) (ts : List Seen) (u : Place × Bounded) (rest : List Seen) → next_is class.Plus ts ≡ true → operand_over strict j s ts ≡ Ok (u, rest) → FoundOperand strict (suc room) s u ts rest
+  pub operand_read : (s : Standing) (ts : List ParserToken) (u : Place × Bounded) (rest : List ParserToken) → next_is class.Plus ts ≡ true → operand_over strict j s ts ≡ Ok (u, rest) → FoundOperand strict (suc room) s u ts rest
   unfolding operand_over
   operand_read s ts u rest goes e =
       elim (known (bound_arrows_over strict j (operand_in s) (after ts))) [
@@ -450,14 +450,14 @@ module _ (strict : Bool) (room : ℕ) (j : BoundReader) (below : BoundBelow stri
   operands_shorten : (s : Standing) → Shortens (next_is class.Plus) (operand_over strict j s)
   operands_shorten s ts u rest goes e = let f = operand_read s ts u rest goes e in omega (arith, ap length f.plus.1, f.found.shorter)
 
-  unions_of_operands : (s : Standing) (x : Bounded) (us : List (Place × Bounded)) (ts vs rest : List Seen) → FoundBound strict (suc room) 1 s x ts vs → (strict ≡ true → x.marked ≡ no_word) → next_is class.Plus vs ≡ true
+  unions_of_operands : (s : Standing) (x : Bounded) (us : List (Place × Bounded)) (ts vs rest : List ParserToken) → FoundBound strict (suc room) 1 s x ts vs → (strict ≡ true → x.marked ≡ no_word) → next_is class.Plus vs ≡ true
       → each (Taken (next_is class.Plus) (operand_over strict j s)) us vs rest → next_is class.Plus rest ≡ false
       → FoundBound strict (suc room) 0 s (record { bound = bound_union x.bound (trees_in us); marked = no_word; has_arrow = x.has_arrow || list_any (λ y. y.1.has_arrow) us }) ts rest
   unions_of_operands s x [] ts vs rest f none goes p ends = true_not_false (sym goes ∙ (ap (next_is class.Plus) p ∙ ends))
   unions_of_operands s x (u ∷ us) ts vs rest f none goes p ends =
       union_bound strict room s x u us ts vs rest f none (each_of (Taken (next_is class.Plus) (operand_over strict j s)) (FoundOperand strict (suc room) s) (λ v ws os t. operand_read s ws v os t.0 t.1) (u ∷ us) vs rest p)
 
-  bound_read : (s : Standing) (ts : List Seen) (x : Bounded) (rest : List Seen) → bound_over strict j s ts ≡ Ok (x, rest) → FoundBound strict (suc room) 0 s x ts rest
+  bound_read : (s : Standing) (ts : List ParserToken) (x : Bounded) (rest : List ParserToken) → bound_over strict j s ts ≡ Ok (x, rest) → FoundBound strict (suc room) 0 s x ts rest
   unfolding bound_over
   bound_read s ts x rest e =
       elim (known (bound_arrows_over strict j s ts)) [
@@ -491,7 +491,7 @@ bounds_read strict zero s ts x rest e =
 bounds_read strict (suc room) s ts x rest e = bound_read strict room (bound_within strict room) (bounds_read strict room) s ts x rest e
 
 -- what is found of a field's bound
-pub record FoundWhole (strict : Bool) (room : ℕ) (b : BoundTree) (ts rest : List Seen) : Type 0 where
+pub record FoundWhole (strict : Bool) (room : ℕ) (b : BoundTree) (ts rest : List ParserToken) : Type 0 where
   pub spelled : spells_bound b ts rest
   pub shallow : depth_of_bound b < room
   pub plain : strict ≡ true → is_plain_bound b ≡ true
@@ -501,7 +501,7 @@ plain_of : (b : BoundTree) → (has_word b ≡ false) ⊎ (is_one_arrow b ≡ tr
 plain_of b (inl none) = rw none refl
 plain_of b (inr one) = elim (either (has_word b)) [ inl is ↦ rw (is, one) refl | inr none ↦ rw none refl ]
 
-pub whole_read : (strict : Bool) (room : ℕ) (ts : List Seen) (x : Bounded) (rest : List Seen) → bound_within strict room whole ts ≡ Ok (x, rest) → FoundWhole strict room x.bound ts rest
+pub whole_read : (strict : Bool) (room : ℕ) (ts : List ParserToken) (x : Bounded) (rest : List ParserToken) → bound_within strict room whole ts ≡ Ok (x, rest) → FoundWhole strict room x.bound ts rest
 whole_read strict room ts x rest e =
     let f = bounds_read strict room whole ts x rest e in
     record { spelled = f.spelled; shallow = f.shallow; plain = λ is. plain_of x.bound (f.allowed is).1; shorter = f.shorter }

@@ -10,7 +10,7 @@ use Rattle.alloy_syntax.specs.declared.tree.Constant.TheVariants as constants
 use Rattle.alloy_syntax.specs.declared.tree.Constant.{Constant}
 use Rattle.alloy_syntax.specs.declared.tree.Prefix.{Prefix}
 use Rattle.alloy_syntax.specs.declared.tree.Prefix.TheVariants as prefix
-use Rattle.alloy_syntax.specs.declared.seen.Seen.{Seen}
+use Rattle.alloy_syntax.specs.declared.parser_token.ParserToken.{ParserToken}
 use Rattle.alloy_syntax.specs.Tree.{Tree, named, numbered, constant, bracketed, block, prefixed, chain, path, compared, implies, implies_else, quantified, bound_by_let}
 use Rattle.alloy_syntax.specs.Readers.{next_is}
 use Rattle.alloy_grammar.specs.Fronts.{sign, spelled_as}
@@ -43,20 +43,20 @@ rank class.Let = 4
 rank _ = 0
 
 -- the tokens begin with one that may begin what binds so tightly
-pub record First (level : ℕ) (ts : List Seen) : Type 0 where
-  pub token : Seen
-  pub behind : List Seen
+pub record First (level : ℕ) (ts : List ParserToken) : Type 0 where
+  pub token : ParserToken
+  pub behind : List ParserToken
   pub parts : ts ≡ token ∷ behind
   pub begins : 0 < rank token.class
   pub tight : level ≤ rank token.class
 
-abbrev pub looser : {m : ℕ} {ts : List Seen} → (l : ℕ) → l ≤ m → First m ts → First l ts
+abbrev pub looser : {m : ℕ} {ts : List ParserToken} → (l : ℕ) → l ≤ m → First m ts → First l ts
 looser l less f = record { token = f.token; behind = f.behind; parts = f.parts; begins = f.begins; tight = omega arith }
 
-first_sign : (c : Class) (p : Place) (ts rest : List Seen) → sign c p ts rest → 0 < rank c → First (rank c) ts
+first_sign : (c : Class) (p : Place) (ts rest : List ParserToken) → sign c p ts rest → 0 < rank c → First (rank c) ts
 first_sign c p ts rest s some = record { token = s.0; behind = rest; parts = s.1; begins = subst (λ k. 0 < rank k) (sym s.2) some; tight = subst (λ k. rank c ≤ rank k) (sym s.2) (omega arith) }
 
-first_spelled : (c : Class) (n : Name) (ts rest : List Seen) → spelled_as c n ts rest → 0 < rank c → First (rank c) ts
+first_spelled : (c : Class) (n : Name) (ts rest : List ParserToken) → spelled_as c n ts rest → 0 < rank c → First (rank c) ts
 first_spelled c n ts rest s some = record { token = s.0; behind = rest; parts = s.1; begins = subst (λ k. 0 < rank k) (sym s.2) some; tight = subst (λ k. rank c ≤ rank k) (sym s.2) (omega arith) }
 
 prefix_rank : (f : Prefix) → (0 < rank (class_of_prefix f)) × (level_of_prefix f ≤ rank (class_of_prefix f))
@@ -85,7 +85,7 @@ constant_rank constants.None = omega arith
 constant_rank constants.Univ = omega arith
 constant_rank constants.Iden = omega arith
 
-pub first : (x : Tree) (ts rest : List Seen) → spells x ts rest → First (level_of x) ts
+pub first : (x : Tree) (ts rest : List ParserToken) → spells x ts rest → First (level_of x) ts
 unfolding spells rank
 first (named n) ts rest s = elim s [ inl m ↦ first_spelled class.Name n ts rest m (omega arith) | inr m ↦ first_spelled class.Path n ts rest m (omega arith) ]
 first (numbered n) ts rest s = first_sign class.Number n.place ts rest (s.0, s.1, s.2, s.4) (omega arith)
@@ -103,15 +103,15 @@ first (bound_by_let p bs x) ts rest s = first_sign class.Let p ts s.0 s.1 (omega
 
 -- ---- which terminals a text doesn't begin with
 
-abbrev class_at : List Seen → Class
+abbrev class_at : List ParserToken → Class
 class_at [] = class.Refused
 class_at (t ∷ ts) = t.class
 
-token_of : (d : Class) (ts : List Seen) → next_is d ts ≡ true → class_at ts ≡ d
+token_of : (d : Class) (ts : List ParserToken) → next_is d ts ≡ true → class_at ts ≡ d
 token_of d ts is = let t = token d ts is in ap class_at t.1 ∙ t.2
 
 -- no tree's text begins with that terminal
-pub never_first : (d : Class) → rank d ≡ 0 → (l : ℕ) (ts : List Seen) → First l ts → next_is d ts ≡ false
+pub never_first : (d : Class) → rank d ≡ 0 → (l : ℕ) (ts : List ParserToken) → First l ts → next_is d ts ≡ false
 never_first d none l ts f =
     elim (either (next_is d ts)) [
       | inr other ↦ other
@@ -122,7 +122,7 @@ never_first d none l ts f =
     ]
 
 -- nor with one that is of a looser level
-pub too_loose : (d : Class) (l : ℕ) → rank d < l → (ts : List Seen) → First l ts → next_is d ts ≡ false
+pub too_loose : (d : Class) (l : ℕ) → rank d < l → (ts : List ParserToken) → First l ts → next_is d ts ≡ false
 too_loose d l less ts f =
     elim (either (next_is d ts)) [
       | inr other ↦ other

@@ -1,20 +1,20 @@
 -- Reading one after the other.
 use Rattle.std.proofs.Common.{◌≡◌, ℕ, zero, suc, ◌<◌, inl, inr, Bool, true, false, List, [], ◌∷◌, length, Ok, subst, arith}
 use Rattle.alloy_syntax.specs.declared.class.Class.TheVariants as class
-use Rattle.alloy_syntax.specs.declared.seen.Seen.{Seen}
+use Rattle.alloy_syntax.specs.declared.parser_token.ParserToken.{ParserToken}
 use Rattle.alloy_syntax.specs.Readers.{Parser, next_is, repeated, many, behind, others}
 use Rattle.alloy_grammar.specs.Fronts.{Front, each}
 use Rattle.alloy_grammar.proofs.Results.{success, stop, known, either, no_success, value_is, rest_is}
 
 -- the test holds, and the item is read
-abbrev pub Taken : {A : Type 0} → (List Seen → Bool) → Parser A → A → Front
+abbrev pub Taken : {A : Type 0} → (List ParserToken → Bool) → Parser A → A → Front
 Taken test item x ts rest = (test ts ≡ true) × (item ts ≡ Ok (x, rest))
 
 -- an item takes a token
-abbrev pub Shortens : {A : Type 0} → (List Seen → Bool) → Parser A → Type 0
-Shortens {A} test item = (ts : List Seen) (x : A) (rest : List Seen) → test ts ≡ true → item ts ≡ Ok (x, rest) → length rest < length ts
+abbrev pub Shortens : {A : Type 0} → (List ParserToken → Bool) → Parser A → Type 0
+Shortens {A} test item = (ts : List ParserToken) (x : A) (rest : List ParserToken) → test ts ≡ true → item ts ≡ Ok (x, rest) → length rest < length ts
 
-repeated_read : {A : Type 0} (test : List Seen → Bool) (item : Parser A) (n : ℕ) (ts : List Seen) (xs : List A) (rest : List Seen)
+repeated_read : {A : Type 0} (test : List ParserToken → Bool) (item : Parser A) (n : ℕ) (ts : List ParserToken) (xs : List A) (rest : List ParserToken)
     → repeated test item n ts ≡ Ok (xs, rest) → each (Taken test item) xs ts rest
 unfolding repeated
 repeated_read {A} test item zero ts xs rest e =
@@ -40,7 +40,7 @@ repeated_read {A} test item (suc n) ts xs rest e =
           ])
     ]
 
-repeated_stops : {A : Type 0} (test : List Seen → Bool) (item : Parser A) → Shortens test item → (n : ℕ) (ts : List Seen) (xs : List A) (rest : List Seen)
+repeated_stops : {A : Type 0} (test : List ParserToken → Bool) (item : Parser A) → Shortens test item → (n : ℕ) (ts : List ParserToken) (xs : List A) (rest : List ParserToken)
     → length ts < n → repeated test item n ts ≡ Ok (xs, rest) → test rest ≡ false
 unfolding repeated
 repeated_stops test item short zero ts xs rest enough e = absurd (omega arith)
@@ -63,20 +63,20 @@ repeated_stops {A} test item short (suc n) ts xs rest enough e =
           ])
     ]
 
-pub many_read : {A : Type 0} (test : List Seen → Bool) (item : Parser A) (ts : List Seen) (xs : List A) (rest : List Seen)
+pub many_read : {A : Type 0} (test : List ParserToken → Bool) (item : Parser A) (ts : List ParserToken) (xs : List A) (rest : List ParserToken)
     → many test item ts ≡ Ok (xs, rest) → each (Taken test item) xs ts rest
 many_read test item ts xs rest e = repeated_read test item (suc (length ts)) ts xs rest e
 
-pub many_stops : {A : Type 0} (test : List Seen → Bool) (item : Parser A) → Shortens test item → (ts : List Seen) (xs : List A) (rest : List Seen)
+pub many_stops : {A : Type 0} (test : List ParserToken → Bool) (item : Parser A) → Shortens test item → (ts : List ParserToken) (xs : List A) (rest : List ParserToken)
     → many test item ts ≡ Ok (xs, rest) → test rest ≡ false
 many_stops test item short ts xs rest e = repeated_stops test item short (suc (length ts)) ts xs rest (omega arith) e
 
-pub each_of : {A : Type 0} (P Q : A → Front) → ((x : A) (ts rest : List Seen) → P x ts rest → Q x ts rest) → (xs : List A) (ts rest : List Seen) → each P xs ts rest → each Q xs ts rest
+pub each_of : {A : Type 0} (P Q : A → Front) → ((x : A) (ts rest : List ParserToken) → P x ts rest → Q x ts rest) → (xs : List A) (ts rest : List ParserToken) → each P xs ts rest → each Q xs ts rest
 each_of P Q to [] ts rest p = p
 each_of P Q to (x ∷ xs) ts rest p = (p.0, to x ts p.0 p.1, each_of P Q to xs p.0 rest p.2)
 
 -- the first, and one more behind each comma
-pub others_read : {A : Type 0} (item : Parser A) (first : A) (ts : List Seen) (xs : List A) (rest : List Seen)
+pub others_read : {A : Type 0} (item : Parser A) (first : A) (ts : List ParserToken) (xs : List A) (rest : List ParserToken)
     → others item first ts ≡ Ok (xs, rest) → (ys : List A) × (first ∷ ys ≡ xs) × each (Taken (next_is class.Comma) (behind item)) ys ts rest
 unfolding others
 others_read item first ts xs rest e =

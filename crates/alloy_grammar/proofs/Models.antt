@@ -9,7 +9,7 @@ use Rattle.alloy_syntax.specs.declared.tree.Entry.{Entry}
 use Rattle.alloy_syntax.specs.declared.tree.CommandKind.{CommandKind}
 use Rattle.alloy_syntax.specs.declared.tree.CommandKind.TheVariants as kind
 use Rattle.alloy_syntax.specs.declared.tree.Open.{Open}
-use Rattle.alloy_syntax.specs.declared.seen.Seen.{Seen}
+use Rattle.alloy_syntax.specs.declared.parser_token.ParserToken.{ParserToken}
 use Rattle.alloy_syntax.specs.Tree.{TargetTree, ScopeTree, ParagraphTree, ModelTree}
 use Rattle.alloy_syntax.specs.Readers.{next_is, after, place_at, expect, name_at, path_at, number_at, many}
 use Rattle.alloy_syntax.specs.Paragraphs.{own_block, entry_at, entries_at, exceptions_at, has_default, scope_at, expected_at, label_at, target_at, command_at, paragraph_at, is_left, heading_at, ordering_at, open_at, model_at}
@@ -25,13 +25,13 @@ use Rattle.alloy_grammar.proofs.Paragraphs.{after_comma, listed_read, FoundOptio
 unfoldable pub Short : {A : Type 0} → (A → Front) → A → Front
 Short P x ts rest = P x ts rest × (length rest < length ts)
 
-abbrev after_exactly : List Seen → List Seen
+abbrev after_exactly : List ParserToken → List ParserToken
 after_exactly ts = if next_is class.Exactly ts then after ts else ts
 
-after_exactly_is_short : (ts : List Seen) → length (after_exactly ts) ≤ length ts
+after_exactly_is_short : (ts : List ParserToken) → length (after_exactly ts) ≤ length ts
 after_exactly_is_short ts = elim (either (next_is class.Exactly ts)) [ inl is ↦ rw is (after_is_short ts) | inr other ↦ rw other (omega arith) ]
 
-pub entry_read : (ts : List Seen) (x : Entry) (rest : List Seen) → entry_at ts ≡ Ok (x, rest) → Short entry x ts rest
+pub entry_read : (ts : List ParserToken) (x : Entry) (rest : List ParserToken) → entry_at ts ≡ Ok (x, rest) → Short entry x ts rest
 unfolding entry_at Short
 entry_read ts x rest e =
     elim (known (number_at (after_exactly ts))) [
@@ -50,27 +50,27 @@ entry_read ts x rest e =
           ])
     ]
 
-commas_shorten : {A : Type 0} (P : A → Front) (xs : List A) (ts rest : List Seen) → each (after_comma (Short P)) xs ts rest → each (λ x. mark_of class.Comma before P x) xs ts rest × (length rest ≤ length ts)
+commas_shorten : {A : Type 0} (P : A → Front) (xs : List A) (ts rest : List ParserToken) → each (after_comma (Short P)) xs ts rest → each (λ x. mark_of class.Comma before P x) xs ts rest × (length rest ≤ length ts)
 unfolding Short
 commas_shorten P [] ts rest p = (p, omega (arith, ap length p))
 commas_shorten P (x ∷ xs) ts rest p = let more = commas_shorten P xs p.0 rest p.2 in ((p.0, (p.1.0, p.1.1, p.1.2.0), more.0), omega (arith, ap length p.1.1.1, p.1.2.1, more.1))
 
-listed_short : {A : Type 0} (P : A → Front) (x : A) (xs : List A) (ts us rest : List Seen) → Short P x ts us → each (after_comma (Short P)) xs us rest → Short (listed P) (x ∷ xs) ts rest
+listed_short : {A : Type 0} (P : A → Front) (x : A) (xs : List A) (ts us rest : List ParserToken) → Short P x ts us → each (after_comma (Short P)) xs us rest → Short (listed P) (x ∷ xs) ts rest
 unfolding Short
 listed_short P x xs ts us rest f p = let more = commas_shorten P xs us rest p in ((us, f.0, more.0), omega (arith, f.1, more.1))
 
-entries_read : (ts : List Seen) (es : List Entry) (rest : List Seen) → entries_at ts ≡ Ok (es, rest) → Short (listed entry) es ts rest
+entries_read : (ts : List ParserToken) (es : List Entry) (rest : List ParserToken) → entries_at ts ≡ Ok (es, rest) → Short (listed entry) es ts rest
 unfolding entries_at
 entries_read ts es rest e =
     let l = listed_read entry_at (Short entry) entry_read ts es rest e in
     subst (λ fs. Short (listed entry) fs ts rest) l.3 (listed_short entry l.0 l.1 ts l.2 rest l.4 l.5)
 
-but_found : (es : List Entry) (ts us rest : List Seen) → mark_of class.But ts us → Short (listed entry) es us rest → exceptions es ts rest × (length rest ≤ length ts)
+but_found : (es : List Entry) (ts us rest : List ParserToken) → mark_of class.But ts us → Short (listed entry) es us rest → exceptions es ts rest × (length rest ≤ length ts)
 unfolding Short
 but_found [] ts us rest m f = absurd f.0
 but_found (x ∷ es) ts us rest m f = ((us, m, f.0), omega (arith, mark_is_one class.But ts us m, f.1))
 
-exceptions_read : (ts : List Seen) (es : List Entry) (rest : List Seen) → exceptions_at ts ≡ Ok (es, rest) → exceptions es ts rest × (length rest ≤ length ts)
+exceptions_read : (ts : List ParserToken) (es : List Entry) (rest : List ParserToken) → exceptions_at ts ≡ Ok (es, rest) → exceptions es ts rest × (length rest ≤ length ts)
 unfolding exceptions_at
 exceptions_read ts es rest e =
     elim (either (next_is class.But ts)) [
@@ -81,11 +81,11 @@ exceptions_read ts es rest e =
           subst (λ us. exceptions es ts us × (length us ≤ length ts)) (rest_is [] es ts rest e1) (subst (λ fs. exceptions fs ts ts × (length ts ≤ length ts)) (value_is [] es ts rest e1) f))
     ]
 
-sizes_listed : (es : List Entry) (ts us rest : List Seen) → mark_of class.For ts us → Short (listed entry) es us rest → FoundOptional scope (Some (record { default = None; entries = es })) ts rest
+sizes_listed : (es : List Entry) (ts us rest : List ParserToken) → mark_of class.For ts us → Short (listed entry) es us rest → FoundOptional scope (Some (record { default = None; entries = es })) ts rest
 unfolding Short
 sizes_listed es ts us rest m f = ((us, m, f.0), omega (arith, mark_is_one class.For ts us m, f.1))
 
-scope_read : (ts : List Seen) (s : Option ScopeTree) (rest : List Seen) → scope_at ts ≡ Ok (s, rest) → FoundOptional scope s ts rest
+scope_read : (ts : List ParserToken) (s : Option ScopeTree) (rest : List ParserToken) → scope_at ts ≡ Ok (s, rest) → FoundOptional scope s ts rest
 unfolding scope_at
 scope_read ts s rest e =
     elim (either (next_is class.For ts)) [
@@ -121,7 +121,7 @@ scope_read ts s rest e =
           ])
     ]
 
-expected_read : (ts : List Seen) (n : Option Number) (rest : List Seen) → expected_at ts ≡ Ok (n, rest) → FoundOptional expected n ts rest
+expected_read : (ts : List ParserToken) (n : Option Number) (rest : List ParserToken) → expected_at ts ≡ Ok (n, rest) → FoundOptional expected n ts rest
 unfolding expected_at
 expected_read ts n rest e =
     elim (either (next_is class.Expect ts)) [
@@ -140,17 +140,17 @@ expected_read ts n rest e =
 
 -- ---- commands
 
-record FoundTarget (strict : Bool) (limit : ℕ) (t : TargetTree) (ts rest : List Seen) : Type 0 where
+record FoundTarget (strict : Bool) (limit : ℕ) (t : TargetTree) (ts rest : List ParserToken) : Type 0 where
   spelled : target t ts rest
   shallow : depth_of_target t ≤ limit
   plain : strict ≡ true → IsPlainTarget t
   shorter : length rest ≤ length ts
 
-target_land : {strict : Bool} {limit : ℕ} {t u : TargetTree} {ts us rest : List Seen} → got t us ≡ got u rest → FoundTarget strict limit t ts us → FoundTarget strict limit u ts rest
+target_land : {strict : Bool} {limit : ℕ} {t u : TargetTree} {ts us rest : List ParserToken} → got t us ≡ got u rest → FoundTarget strict limit t ts us → FoundTarget strict limit u ts rest
 target_land {strict} {limit} {t} {u} {ts} {us} {rest} e f =
     subst (λ vs. FoundTarget strict limit u ts vs) (rest_is t u us rest e) (subst (λ (v : TargetTree). FoundTarget strict limit v ts us) (value_is t u us rest e) f)
 
-target_read : (strict : Bool) (limit : ℕ) (ts : List Seen) (t : TargetTree) (rest : List Seen) → target_at strict limit ts ≡ Ok (t, rest) → FoundTarget strict limit t ts rest
+target_read : (strict : Bool) (limit : ℕ) (ts : List ParserToken) (t : TargetTree) (rest : List ParserToken) → target_at strict limit ts ≡ Ok (t, rest) → FoundTarget strict limit t ts rest
 unfolding target_at
 target_read strict limit ts t rest e =
     elim (either (next_is class.Name ts && not (next_is class.LeftBrace (after ts)))) [
@@ -180,7 +180,7 @@ target_read strict limit ts t rest e =
           ])
     ]
 
-command_read : (strict : Bool) (limit : ℕ) (k : CommandKind) (p : Place) (ts : List Seen) (x : ParagraphTree) (rest : List Seen) → command_at strict limit k p ts ≡ Ok (x, rest) → (ws : List Seen) → sign (class_of_kind k) p ws ts → FoundParagraph strict limit x ws rest
+command_read : (strict : Bool) (limit : ℕ) (k : CommandKind) (p : Place) (ts : List ParserToken) (x : ParagraphTree) (rest : List ParserToken) → command_at strict limit k p ts ≡ Ok (x, rest) → (ws : List ParserToken) → sign (class_of_kind k) p ws ts → FoundParagraph strict limit x ws rest
 unfolding command_at
 command_read strict limit k p ts x rest e ws m =
     elim (known (target_at strict limit ts)) [
@@ -208,7 +208,7 @@ command_read strict limit k p ts x rest e ws m =
           ])
     ]
 
-pub paragraph_read : (strict : Bool) (limit : ℕ) → 0 < limit → (ts : List Seen) (x : ParagraphTree) (rest : List Seen) → paragraph_at strict limit ts ≡ Ok (x, rest) → FoundParagraph strict limit x ts rest
+pub paragraph_read : (strict : Bool) (limit : ℕ) → 0 < limit → (ts : List ParserToken) (x : ParagraphTree) (rest : List ParserToken) → paragraph_at strict limit ts ≡ Ok (x, rest) → FoundParagraph strict limit x ts rest
 unfolding paragraph_at
 paragraph_read strict limit some ts x rest e =
     elim (either (next_is class.Fact ts)) [
@@ -233,7 +233,7 @@ paragraph_read strict limit some ts x rest e =
 
 -- ---- models
 
-heading_read : (ts : List Seen) (n : Option Name) (rest : List Seen) → heading_at ts ≡ Ok (n, rest) → optional heading n ts rest
+heading_read : (ts : List ParserToken) (n : Option Name) (rest : List ParserToken) → heading_at ts ≡ Ok (n, rest) → optional heading n ts rest
 unfolding heading_at
 heading_read ts n rest e =
     elim (either (next_is class.Module ts)) [
@@ -250,7 +250,7 @@ heading_read ts n rest e =
           ])
     ]
 
-ordering_read : (ts : List Seen) (n : Name) (rest : List Seen) → ordering_at ts ≡ Ok (n, rest) → ordering_path ts rest
+ordering_read : (ts : List ParserToken) (n : Name) (rest : List ParserToken) → ordering_at ts ≡ Ok (n, rest) → ordering_path ts rest
 unfolding ordering_at
 ordering_read ts n rest e =
     elim (known (path_at ts)) [
@@ -266,7 +266,7 @@ ordering_read ts n rest e =
           ])
     ]
 
-open_read : (ts : List Seen) (o : Open) (rest : List Seen) → next_is class.Open ts ≡ true → open_at ts ≡ Ok (o, rest) → opened o ts rest
+open_read : (ts : List ParserToken) (o : Open) (rest : List ParserToken) → next_is class.Open ts ≡ true → open_at ts ≡ Ok (o, rest) → opened o ts rest
 unfolding open_at
 open_read ts o rest is e =
     elim (known (ordering_at (after ts))) [
@@ -319,29 +319,29 @@ open_read ts o rest is e =
           ])
     ]
 
-record Paragraphs (strict : Bool) (limit : ℕ) (ps : List ParagraphTree) (ts rest : List Seen) : Type 0 where
+record Paragraphs (strict : Bool) (limit : ℕ) (ps : List ParagraphTree) (ts rest : List ParserToken) : Type 0 where
   spelled : each paragraph ps ts rest
   shallow : depth_of_paragraphs ps ≤ limit
   plain : strict ≡ true → AllByRecursion IsPlainParagraph ps
 
-paragraphs_found : (strict : Bool) (limit : ℕ) (ps : List ParagraphTree) (ts rest : List Seen) → each (FoundParagraph strict limit) ps ts rest → Paragraphs strict limit ps ts rest
+paragraphs_found : (strict : Bool) (limit : ℕ) (ps : List ParagraphTree) (ts rest : List ParserToken) → each (FoundParagraph strict limit) ps ts rest → Paragraphs strict limit ps ts rest
 paragraphs_found strict limit [] ts rest p = record { spelled = p; shallow = omega arith; plain = λ _. tt }
 paragraphs_found strict limit (x ∷ xs) ts rest p =
     let f = p.1 in
     let more = paragraphs_found strict limit xs p.0 rest p.2 in
     record { spelled = (p.0, f.spelled, more.spelled); shallow = omega (arith, f.shallow, more.shallow); plain = λ h. (f.plain h, more.plain h) }
 
-nothing_left : (ts : List Seen) → is_left ts ≡ false → ts ≡ []
+nothing_left : (ts : List ParserToken) → is_left ts ≡ false → ts ≡ []
 unfolding is_left
 nothing_left [] e = refl
 nothing_left (t ∷ ts) e = true_not_false e
 
-pub record FoundModel (strict : Bool) (limit : ℕ) (m : ModelTree) (ts : List Seen) : Type 0 where
+pub record FoundModel (strict : Bool) (limit : ℕ) (m : ModelTree) (ts : List ParserToken) : Type 0 where
   pub spelled : IsTextOf ts m
   pub shallow : depth_of_model m ≤ limit
   pub plain : strict ≡ true → IsPlainModel m
 
-pub model_read : (strict : Bool) (limit : ℕ) → 0 < limit → (ts : List Seen) (m : ModelTree) → model_at strict limit ts ≡ Ok m → FoundModel strict limit m ts
+pub model_read : (strict : Bool) (limit : ℕ) → 0 < limit → (ts : List ParserToken) (m : ModelTree) → model_at strict limit ts ≡ Ok m → FoundModel strict limit m ts
 unfolding model_at
 model_read strict limit some ts m e =
     elim (known (heading_at ts)) [

@@ -22,7 +22,7 @@ use Rattle.alloy_syntax.specs.declared.tree.Operator.TheVariants as operator
 use Rattle.alloy_syntax.specs.declared.tree.Comparison.{Comparison}
 use Rattle.alloy_syntax.specs.declared.tree.Comparison.TheVariants as comparison
 use Rattle.alloy_syntax.specs.declared.tree.Comparing.{Comparing}
-use Rattle.alloy_syntax.specs.declared.seen.Seen.{Seen}
+use Rattle.alloy_syntax.specs.declared.parser_token.ParserToken.{ParserToken}
 use Rattle.alloy_syntax.specs.Class.{is_class}
 use Rattle.alloy_syntax.specs.Tree.{Tree, named, numbered, constant, bracketed, prefixed, chain, compared, LinkTree, links_of}
 use Rattle.alloy_syntax.specs.Readers.{Parser, next_is, after, place_at, expect, spelled_at, number_at, value_from, is_mark, many, repeated}
@@ -37,44 +37,44 @@ use Rattle.alloy_grammar.proofs.TextEnds.{same_class, is_next, after_is, differs
 
 -- ---- one token
 
-class_true : (c : Class) (ts rest : List Seen) (m : mark_of c ts rest) → is_class m.0.class c ≡ true
+class_true : (c : Class) (ts rest : List ParserToken) (m : mark_of c ts rest) → is_class m.0.class c ≡ true
 class_true c ts rest m = subst (λ k. is_class k c ≡ true) (sym m.2) (same_class c)
 
-pub mark_full : (c : Class) (ts rest : List Seen) (m : mark_of c ts rest) → expect c ts ≡ Ok (m.0.place, rest)
+pub mark_full : (c : Class) (ts rest : List ParserToken) (m : mark_of c ts rest) → expect c ts ≡ Ok (m.0.place, rest)
 unfolding expect
 mark_full c ts rest m = subst (λ us. expect c us ≡ Ok (m.0.place, rest)) (sym m.1) (rw (class_true c ts rest m) refl)
 
-pub expect_full : (c : Class) (p : Place) (ts rest : List Seen) → sign c p ts rest → expect c ts ≡ Ok (p, rest)
+pub expect_full : (c : Class) (p : Place) (ts rest : List ParserToken) → sign c p ts rest → expect c ts ≡ Ok (p, rest)
 expect_full c p ts rest s = mark_full c ts rest (s.0, s.1, s.2) ∙ ap (λ q. got q rest) s.3
 
-pub spelled_full : (c : Class) (n : Name) (ts rest : List Seen) → spelled_as c n ts rest → spelled_at c ts ≡ Ok (n, rest)
+pub spelled_full : (c : Class) (n : Name) (ts rest : List ParserToken) → spelled_as c n ts rest → spelled_at c ts ≡ Ok (n, rest)
 unfolding spelled_at
 spelled_full c n ts rest s =
     let same : record { text = s.0.text; place = s.0.place } ≡ n = λ i. record { text = s.3 i; place = s.4 i } in
     subst (λ us. spelled_at c us ≡ Ok (n, rest)) (sym s.1) (rw (class_true c ts rest (s.0, s.1, s.2)) (ap (λ (m : Name). got m rest) same))
 
-pub number_full : (n : Number) (ts rest : List Seen) → number n ts rest → number_at ts ≡ Ok (n, rest)
+pub number_full : (n : Number) (ts rest : List ParserToken) → number n ts rest → number_at ts ≡ Ok (n, rest)
 unfolding number_at
 number_full n ts rest s =
     let same : record { value = value_from 0 s.0.text; place = s.0.place } ≡ n = λ i. record { value = s.3 i; place = s.4 i } in
     subst (λ us. number_at us ≡ Ok (n, rest)) (sym s.1) (rw (class_true class.Number ts rest (s.0, s.1, s.2)) (ap (λ (m : Number). got m rest) same))
 
-pub place_is : (c : Class) (p : Place) (ts rest : List Seen) → sign c p ts rest → place_at ts ≡ p
+pub place_is : (c : Class) (p : Place) (ts rest : List ParserToken) → sign c p ts rest → place_at ts ≡ p
 place_is c p ts rest s = ap place_at s.1 ∙ s.3
 
 -- ---- one after the other
 
 -- the item is read, and takes a token
-abbrev pub Goes : {A : Type 0} → (List Seen → Bool) → Parser A → A → Front
+abbrev pub Goes : {A : Type 0} → (List ParserToken → Bool) → Parser A → A → Front
 Goes test item x ts rest = (test ts ≡ true) × (item ts ≡ Ok (x, rest)) × (length rest < length ts)
 
-repeated_full : {A : Type 0} (test : List Seen → Bool) (item : Parser A) (n : ℕ) (xs : List A) (ts rest : List Seen) → length ts < n → each (Goes test item) xs ts rest → test rest ≡ false → repeated test item n ts ≡ Ok (xs, rest)
+repeated_full : {A : Type 0} (test : List ParserToken → Bool) (item : Parser A) (n : ℕ) (xs : List A) (ts rest : List ParserToken) → length ts < n → each (Goes test item) xs ts rest → test rest ≡ false → repeated test item n ts ≡ Ok (xs, rest)
 unfolding repeated
 repeated_full test item zero xs ts rest enough p ends = absurd (omega arith)
 repeated_full {A} test item (suc n) [] ts rest enough p ends = subst (λ us. repeated test item (suc n) us ≡ Ok ([], rest)) (sym p) (rw ends refl)
 repeated_full {A} test item (suc n) (x ∷ xs) ts rest enough p ends = let more = repeated_full test item n xs p.0 rest (omega (arith, p.1.2)) p.2 ends in rw (p.1.0, p.1.1, more) refl
 
-pub many_full : {A : Type 0} (test : List Seen → Bool) (item : Parser A) (xs : List A) (ts rest : List Seen) → each (Goes test item) xs ts rest → test rest ≡ false → many test item ts ≡ Ok (xs, rest)
+pub many_full : {A : Type 0} (test : List ParserToken → Bool) (item : Parser A) (xs : List A) (ts rest : List ParserToken) → each (Goes test item) xs ts rest → test rest ≡ false → many test item ts ≡ Ok (xs, rest)
 many_full test item xs ts rest p ends = repeated_full test item (suc (length ts)) xs ts rest (omega arith) p ends
 
 -- ---- readers by level
@@ -98,23 +98,23 @@ reader i a (suc (suc (suc (suc (suc (suc (suc (suc (suc (suc (suc (suc (suc (suc
 reader i a (suc (suc (suc (suc (suc (suc (suc (suc (suc (suc (suc (suc (suc (suc (suc n))))))))))))))) = primary_over i
 
 -- what begins the tokens of a part that is read from level l on
-pub record Fronts (a : Around) (l m : ℕ) (ts : List Seen) : Type 0 where
+pub record Fronts (a : Around) (l m : ℕ) (ts : List ParserToken) : Type 0 where
   pub first : First m ts
   pub counted : l ≤ 4 → 5 ≤ m → (is_counting ts && begins_declaration a (after ts)) ≡ false
 
-chained_one : (lv : Level) (item : Parser Tree) (ts : List Seen) (x : Tree) (rest : List Seen) → item ts ≡ Ok (x, rest) → begins_link lv rest ≡ false → chained lv item ts ≡ Ok (x, rest)
+chained_one : (lv : Level) (item : Parser Tree) (ts : List ParserToken) (x : Tree) (rest : List ParserToken) → item ts ≡ Ok (x, rest) → begins_link lv rest ≡ false → chained lv item ts ≡ Ok (x, rest)
 unfolding chained
 chained_one lv item ts x rest e ends = rw (e, ends) refl
 
-pub not_counting : (ts : List Seen) → First 7 ts → is_counting ts ≡ false
+pub not_counting : (ts : List ParserToken) → First 7 ts → is_counting ts ≡ false
 unfolding is_counting rank
 not_counting ts f = rw (too_loose class.Some 7 (omega arith) ts f, too_loose class.No 7 (omega arith) ts f, too_loose class.Lone 7 (omega arith) ts f, too_loose class.One 7 (omega arith) ts f) refl
 
-not_tightening : (ts : List Seen) → First 15 ts → is_tightening ts ≡ false
+not_tightening : (ts : List ParserToken) → First 15 ts → is_tightening ts ≡ false
 unfolding is_tightening rank
 not_tightening ts f = rw (too_loose class.Tilde 15 (omega arith) ts f, too_loose class.Caret 15 (omega arith) ts f, too_loose class.Star 15 (omega arith) ts f) refl
 
-step : (i : Reader) (a : Around) (l : ℕ) (x : Tree) (ts rest : List Seen) (k : ℕ) → l ≤ k → Fronts a l (suc k) ts → Ends a l rest → reader i a (suc k) ts ≡ Ok (x, rest) → reader i a k ts ≡ Ok (x, rest)
+step : (i : Reader) (a : Around) (l : ℕ) (x : Tree) (ts rest : List ParserToken) (k : ℕ) → l ≤ k → Fronts a l (suc k) ts → Ends a l rest → reader i a (suc k) ts ≡ Ok (x, rest) → reader i a k ts ≡ Ok (x, rest)
 unfolding node_over iff_over implication_over and_over negation_over comparison_over counted_over sum_over size_over override_over meet_over arrows_over restrict_over path_over tight_over begins_link rank
 step i a l x ts rest zero less f ends e = chained_one level.Or (iff_over i a) ts x rest e (ends.disjunction less)
 step i a l x ts rest (suc zero) less f ends e = chained_one level.Iff (implication_over i a) ts x rest e (ends.iff less)
@@ -134,14 +134,14 @@ step i a l x ts rest (suc (suc (suc (suc (suc (suc (suc (suc (suc (suc (suc (suc
 step i a l x ts rest (suc (suc (suc (suc (suc (suc (suc (suc (suc (suc (suc (suc (suc (suc zero)))))))))))))) less f ends e = rw (not_tightening ts f.first) e
 step i a l x ts rest (suc (suc (suc (suc (suc (suc (suc (suc (suc (suc (suc (suc (suc (suc (suc n))))))))))))))) less f ends e = e
 
-fronts_of : (a : Around) (l m : ℕ) (ts : List Seen) → Fronts a l (suc m) ts → Fronts a l m ts
+fronts_of : (a : Around) (l m : ℕ) (ts : List ParserToken) → Fronts a l (suc m) ts → Fronts a l m ts
 fronts_of a l m ts f = record { first = looser m (omega arith) f.first; counted = λ h k. f.counted h (omega arith) }
 
 same_or_less : (l m : ℕ) → l ≤ suc m → (l ≤ m) ⊎ (l ≡ suc m)
 same_or_less l m h = elim (either (nat_le l m)) [ inl is ↦ inl (grind (arith, common_steps)) | inr is ↦ inr (grind (arith, common_steps)) ]
 
 -- what is read at a level is read at a looser one
-pub climb : (i : Reader) (a : Around) (x : Tree) (ts rest : List Seen) (m l : ℕ) → l ≤ m → Fronts a l m ts → Ends a l rest → reader i a m ts ≡ Ok (x, rest) → reader i a l ts ≡ Ok (x, rest)
+pub climb : (i : Reader) (a : Around) (x : Tree) (ts rest : List ParserToken) (m l : ℕ) → l ≤ m → Fronts a l m ts → Ends a l rest → reader i a m ts ≡ Ok (x, rest) → reader i a l ts ≡ Ok (x, rest)
 climb i a x ts rest zero l less f ends e = let same : zero ≡ l = omega arith in subst (λ k. reader i a k ts ≡ Ok (x, rest)) same e
 climb i a x ts rest (suc m) l less f ends e =
     elim (same_or_less l m less) [
@@ -151,28 +151,28 @@ climb i a x ts rest (suc m) l less f ends e =
 
 -- ---- primaries
 
-not_constant : (c : Class) (ts rest : List Seen) → mark_of c ts rest → is_class c class.None ≡ false → is_class c class.Univ ≡ false → is_class c class.Iden ≡ false → is_constant ts ≡ false
+not_constant : (c : Class) (ts rest : List ParserToken) → mark_of c ts rest → is_class c class.None ≡ false → is_class c class.Univ ≡ false → is_class c class.Iden ≡ false → is_constant ts ≡ false
 unfolding is_constant
 not_constant c ts rest m e1 e2 e3 = rw (differs c class.None ts rest m e1, differs c class.Univ ts rest m e2, differs c class.Iden ts rest m e3) refl
 
-pub named_full : (i : Reader) (n : Name) (ts rest : List Seen) → name n ts rest → primary_over i ts ≡ Ok (named n, rest)
+pub named_full : (i : Reader) (n : Name) (ts rest : List ParserToken) → name n ts rest → primary_over i ts ≡ Ok (named n, rest)
 unfolding primary_over
 named_full i n ts rest s = rw (is_next class.Name ts rest (s.0, s.1, s.2), spelled_full class.Name n ts rest s) refl
 
-pub path_named_full : (i : Reader) (n : Name) (ts rest : List Seen) → spelled_as class.Path n ts rest → primary_over i ts ≡ Ok (named n, rest)
+pub path_named_full : (i : Reader) (n : Name) (ts rest : List ParserToken) → spelled_as class.Path n ts rest → primary_over i ts ≡ Ok (named n, rest)
 unfolding primary_over is_class
 path_named_full i n ts rest s = let m : mark_of class.Path ts rest = (s.0, s.1, s.2) in rw (differs class.Path class.Name ts rest m refl, is_next class.Path ts rest m, spelled_full class.Path n ts rest s) refl
 
-pub numbered_full : (i : Reader) (n : Number) (ts rest : List Seen) → number n ts rest → primary_over i ts ≡ Ok (numbered n, rest)
+pub numbered_full : (i : Reader) (n : Number) (ts rest : List ParserToken) → number n ts rest → primary_over i ts ≡ Ok (numbered n, rest)
 unfolding primary_over is_class
 numbered_full i n ts rest s = let m : mark_of class.Number ts rest = (s.0, s.1, s.2) in rw (differs class.Number class.Name ts rest m refl, differs class.Number class.Path ts rest m refl, is_next class.Number ts rest m, number_full n ts rest s) refl
 
-constant_read : (i : Reader) (c : Constant) (p : Place) (ts rest : List Seen) → sign (class_of_constant c) p ts rest → next_is class.Name ts ≡ false → next_is class.Path ts ≡ false → next_is class.Number ts ≡ false → is_constant ts ≡ true → constant_of ts ≡ c
+constant_read : (i : Reader) (c : Constant) (p : Place) (ts rest : List ParserToken) → sign (class_of_constant c) p ts rest → next_is class.Name ts ≡ false → next_is class.Path ts ≡ false → next_is class.Number ts ≡ false → is_constant ts ≡ true → constant_of ts ≡ c
     → primary_over i ts ≡ Ok (constant c p, rest)
 unfolding primary_over
 constant_read i c p ts rest s e1 e2 e3 is same = rw (e1, e2, e3, is, same, place_is (class_of_constant c) p ts rest s, after_is (class_of_constant c) ts rest (s.0, s.1, s.2)) refl
 
-pub constant_full : (i : Reader) (c : Constant) (p : Place) (ts rest : List Seen) → sign (class_of_constant c) p ts rest → primary_over i ts ≡ Ok (constant c p, rest)
+pub constant_full : (i : Reader) (c : Constant) (p : Place) (ts rest : List ParserToken) → sign (class_of_constant c) p ts rest → primary_over i ts ≡ Ok (constant c p, rest)
 unfolding is_constant constant_of is_class
 constant_full i constants.None p ts rest s =
     let m = marks class.None p ts rest s in
@@ -190,13 +190,13 @@ constant_full i constants.Iden p ts rest s =
     let univ = differs class.Iden class.Univ ts rest m refl in
     constant_read i constants.Iden p ts rest s (differs class.Iden class.Name ts rest m refl) (differs class.Iden class.Path ts rest m refl) (differs class.Iden class.Number ts rest m refl) (rw (none, univ, is) refl) (rw (none, univ) refl)
 
-pub paren_full : (i : Reader) (p : Place) (x : Tree) (ts us vs rest : List Seen) → sign class.LeftParen p ts us → i around.Parens inside.Node us ≡ Ok (x, vs) → mark_of class.RightParen vs rest → primary_over i ts ≡ Ok (bracketed p x, rest)
+pub paren_full : (i : Reader) (p : Place) (x : Tree) (ts us vs rest : List ParserToken) → sign class.LeftParen p ts us → i around.Parens inside.Node us ≡ Ok (x, vs) → mark_of class.RightParen vs rest → primary_over i ts ≡ Ok (bracketed p x, rest)
 unfolding primary_over paren_over is_class
 paren_full i p x ts us vs rest s e c =
     let m = marks class.LeftParen p ts us s in
     rw (differs class.LeftParen class.Name ts us m refl, differs class.LeftParen class.Path ts us m refl, differs class.LeftParen class.Number ts us m refl, not_constant class.LeftParen ts us m refl refl refl, is_next class.LeftParen ts us m, expect_full class.LeftParen p ts us s, e, mark_full class.RightParen vs rest c) refl
 
-pub brace_is_block : (i : Reader) (ts us : List Seen) → mark_of class.LeftBrace ts us → primary_over i ts ≡ block_tree i ts
+pub brace_is_block : (i : Reader) (ts us : List ParserToken) → mark_of class.LeftBrace ts us → primary_over i ts ≡ block_tree i ts
 unfolding primary_over is_class
 brace_is_block i ts us m =
     rw (differs class.LeftBrace class.Name ts us m refl, differs class.LeftBrace class.Path ts us m refl, differs class.LeftBrace class.Number ts us m refl, not_constant class.LeftBrace ts us m refl refl refl, differs class.LeftBrace class.LeftParen ts us m refl) refl
@@ -215,11 +215,11 @@ part_of prefix.Transpose = inside.Tight
 part_of prefix.Closure = inside.Tight
 part_of prefix.ReflexiveClosure = inside.Tight
 
-behind_full : (f : Prefix) (item : Parser Tree) (p : Place) (x : Tree) (ts us rest : List Seen) → sign (class_of_prefix f) p ts us → item us ≡ Ok (x, rest) → behind_prefix f item ts ≡ Ok (prefixed f p x, rest)
+behind_full : (f : Prefix) (item : Parser Tree) (p : Place) (x : Tree) (ts us rest : List ParserToken) → sign (class_of_prefix f) p ts us → item us ≡ Ok (x, rest) → behind_prefix f item ts ≡ Ok (prefixed f p x, rest)
 unfolding behind_prefix
 behind_full f item p x ts us rest s e = rw (after_is (class_of_prefix f) ts us (s.0, s.1, s.2), e, place_is (class_of_prefix f) p ts us s) refl
 
-pub prefixed_full : (i : Reader) (a : Around) (f : Prefix) (p : Place) (x : Tree) (ts us rest : List Seen) → sign (class_of_prefix f) p ts us → i a (part_of f) us ≡ Ok (x, rest) → reader i a (level_of_prefix f) ts ≡ Ok (prefixed f p x, rest)
+pub prefixed_full : (i : Reader) (a : Around) (f : Prefix) (p : Place) (x : Tree) (ts us rest : List ParserToken) → sign (class_of_prefix f) p ts us → i a (part_of f) us ≡ Ok (x, rest) → reader i a (level_of_prefix f) ts ≡ Ok (prefixed f p x, rest)
 unfolding part_of negation_over counted_over size_over tight_over is_counting counting_of is_tightening tightening_of is_class
 prefixed_full i a prefix.Not p x ts us rest s e = rw (is_next class.Not ts us (marks class.Not p ts us s)) (behind_full prefix.Not (i a inside.Negation) p x ts us rest s e)
 prefixed_full i a prefix.Some p x ts us rest s e = rw (is_next class.Some ts us (marks class.Some p ts us s)) (behind_full prefix.Some (i a inside.Sum) p x ts us rest s e)
@@ -279,7 +279,7 @@ same_kind operator.Range operator.Domain e = refl
 same_kind operator.Range operator.Range e = refl
 same_kind _ _ e = absurd (omega arith)
 
-abbrev pub kind_test : Kind → List Seen → Bool
+abbrev pub kind_test : Kind → List ParserToken → Bool
 kind_test (levelled l) = begins_link l
 kind_test arrows = begins_arrow
 
@@ -298,16 +298,16 @@ abbrev pub kind_link : Reader → Around → Kind → Parser LinkTree
 kind_link i a (levelled l) = link_over l (operand_reader i a (levelled l))
 kind_link i a arrows = arrow_over i a
 
-link_full : (lv : Level) (item : Parser Tree) (o : Operator) (p : Place) (y : Tree) (ts us rest : List Seen) → sign (class_of_operator o) p ts us → operator_of lv ts ≡ o → item us ≡ Ok (y, rest)
+link_full : (lv : Level) (item : Parser Tree) (o : Operator) (p : Place) (y : Tree) (ts us rest : List ParserToken) → sign (class_of_operator o) p ts us → operator_of lv ts ≡ o → item us ≡ Ok (y, rest)
     → link_over lv item ts ≡ Ok (record { operator = o; place = p; operand = y }, rest)
 unfolding link_over
 link_full lv item o p y ts us rest s same e = rw (after_is (class_of_operator o) ts us (s.0, s.1, s.2), e, same, place_is (class_of_operator o) p ts us s) refl
 
-not_marked : (l : ℕ) (ts : List Seen) → First 12 ts → is_mark ts ≡ false
+not_marked : (l : ℕ) (ts : List ParserToken) → First 12 ts → is_mark ts ≡ false
 unfolding is_mark rank
 not_marked l ts f = rw (never_first class.Set refl 12 ts f, too_loose class.One 12 (omega arith) ts f, too_loose class.Lone 12 (omega arith) ts f, too_loose class.Some 12 (omega arith) ts f) refl
 
-arrow_full : (i : Reader) (a : Around) (p : Place) (y : Tree) (ts us rest : List Seen) → sign class.Arrow p ts us → First 12 us → restrict_over i a us ≡ Ok (y, rest) → arrow_over i a ts ≡ Ok (record { operator = operator.Product; place = p; operand = y }, rest)
+arrow_full : (i : Reader) (a : Around) (p : Place) (y : Tree) (ts us rest : List ParserToken) → sign class.Arrow p ts us → First 12 us → restrict_over i a us ≡ Ok (y, rest) → arrow_over i a ts ≡ Ok (record { operator = operator.Product; place = p; operand = y }, rest)
 unfolding arrow_over is_mark is_class
 arrow_full i a p y ts us rest s f e =
     let m = marks class.Arrow p ts us s in
@@ -316,7 +316,7 @@ arrow_full i a p y ts us rest s f e =
     rw (here, there, after_is class.Arrow ts us m, e, place_is class.Arrow p ts us s) refl
 
 -- an operator and its operand
-pub operator_full : (i : Reader) (a : Around) (o : Operator) (p : Place) (y : Tree) (ts us rest : List Seen) → sign (class_of_operator o) p ts us → First (suc (level_of_operator o)) us → reader i a (suc (level_of_operator o)) us ≡ Ok (y, rest)
+pub operator_full : (i : Reader) (a : Around) (o : Operator) (p : Place) (y : Tree) (ts us rest : List ParserToken) → sign (class_of_operator o) p ts us → First (suc (level_of_operator o)) us → reader i a (suc (level_of_operator o)) us ≡ Ok (y, rest)
     → (kind_test (kind_of o) ts ≡ true) × (kind_link i a (kind_of o) ts ≡ Ok (record { operator = o; place = p; operand = y }, rest))
 unfolding kind_of begins_link begins_arrow operator_of is_class
 operator_full i a operator.Or p y ts us rest s f e = (is_next class.Or ts us (marks class.Or p ts us s), link_full level.Or (iff_over i a) operator.Or p y ts us rest s refl e)
@@ -337,11 +337,11 @@ operator_full i a operator.Range p y ts us rest s f e =
     (rw (none, is_next class.RangeArrow ts us m) refl, link_full level.Restrict (path_over i a) operator.Range p y ts us rest s (rw none refl) e)
 
 -- a first operand and links
-chained_full : (lv : Level) (item : Parser Tree) (x : Tree) (ks : List LinkTree) (ts us rest : List Seen) → item ts ≡ Ok (x, us) → begins_link lv us ≡ true → many (begins_link lv) (link_over lv item) us ≡ Ok (ks, rest) → chained lv item ts ≡ Ok (chain x (links_of ks), rest)
+chained_full : (lv : Level) (item : Parser Tree) (x : Tree) (ks : List LinkTree) (ts us rest : List ParserToken) → item ts ≡ Ok (x, us) → begins_link lv us ≡ true → many (begins_link lv) (link_over lv item) us ≡ Ok (ks, rest) → chained lv item ts ≡ Ok (chain x (links_of ks), rest)
 unfolding chained
 chained_full lv item x ks ts us rest e goes more = rw (e, goes, more) refl
 
-pub chain_full : (i : Reader) (a : Around) (o : Operator) (x : Tree) (ks : List LinkTree) (ts us rest : List Seen) → reader i a (suc (level_of_operator o)) ts ≡ Ok (x, us) → kind_test (kind_of o) us ≡ true → many (kind_test (kind_of o)) (kind_link i a (kind_of o)) us ≡ Ok (ks, rest)
+pub chain_full : (i : Reader) (a : Around) (o : Operator) (x : Tree) (ks : List LinkTree) (ts us rest : List ParserToken) → reader i a (suc (level_of_operator o)) ts ≡ Ok (x, us) → kind_test (kind_of o) us ≡ true → many (kind_test (kind_of o)) (kind_link i a (kind_of o)) us ≡ Ok (ks, rest)
     → reader i a (level_of_operator o) ts ≡ Ok (chain x (links_of ks), rest)
 unfolding kind_of node_over iff_over and_over sum_over override_over meet_over arrows_over restrict_over
 chain_full i a operator.Or x ks ts us rest e goes more = chained_full level.Or (iff_over i a) x ks ts us rest e goes more
@@ -358,7 +358,7 @@ chain_full i a operator.Range x ks ts us rest e goes more = chained_full level.R
 -- ---- comparisons
 
 -- the terminal of a comparison that isn't negated
-plain_begins : (a : Around) (c : Comparison) (ts rest : List Seen) → mark_of (class_of_comparison c) ts rest → (begins_comparison a ts ≡ true) × (next_is class.Not ts ≡ false) × (comparison_of ts ≡ c) × (next_is class.NotEqual ts ≡ false)
+plain_begins : (a : Around) (c : Comparison) (ts rest : List ParserToken) → mark_of (class_of_comparison c) ts rest → (begins_comparison a ts ≡ true) × (next_is class.Not ts ≡ false) × (comparison_of ts ≡ c) × (next_is class.NotEqual ts ≡ false)
 unfolding begins_comparison is_plain_comparison comparison_of is_class
 plain_begins a comparison.In ts rest m = let is = is_next class.In ts rest m in (rw is refl, differs class.In class.Not ts rest m refl, rw is refl, differs class.In class.NotEqual ts rest m refl)
 plain_begins a comparison.Equal ts rest m =
@@ -403,12 +403,12 @@ plain_begins a comparison.AtLeast ts rest m =
 abbrev compares : Comparison → Bool → Place → Comparing
 compares c b p = record { comparison = c; negated = b; place = p }
 
-not_plain : (ts rest : List Seen) → mark_of class.Not ts rest → is_plain_comparison ts ≡ false
+not_plain : (ts rest : List ParserToken) → mark_of class.Not ts rest → is_plain_comparison ts ≡ false
 unfolding is_plain_comparison is_class
 not_plain ts rest m =
     rw (differs class.Not class.In ts rest m refl, differs class.Not class.Equal ts rest m refl, differs class.Not class.NotEqual ts rest m refl, differs class.Not class.Less ts rest m refl, differs class.Not class.Greater ts rest m refl, differs class.Not class.AtMost ts rest m refl, differs class.Not class.AtLeast ts rest m refl) refl
 
-negated_in : (a : Around) (p : Place) (ts us rest : List Seen) → sign class.Not p ts us → mark_of class.In us rest → (begins_comparison a ts ≡ true) × (comparing_at ts ≡ Ok (compares comparison.In true p, rest))
+negated_in : (a : Around) (p : Place) (ts us rest : List ParserToken) → sign class.Not p ts us → mark_of class.In us rest → (begins_comparison a ts ≡ true) × (comparing_at ts ≡ Ok (compares comparison.In true p, rest))
 unfolding begins_comparison comparing_at negated_comparing comparison_of
 negated_in a p ts us rest s m =
     let n = marks class.Not p ts us s in
@@ -416,7 +416,7 @@ negated_in a p ts us rest s m =
     let last : after (after ts) ≡ rest = ap after (after_is class.Not ts us n) ∙ after_is class.In us rest m in
     (rw (not_plain ts us n, is_next class.Not ts us n, there) refl, rw (is_next class.Not ts us n, there, place_is class.Not p ts us s, last) refl)
 
-negated_equal : (a : Around) (p : Place) (ts us rest : List Seen) → sign class.Not p ts us → mark_of class.Equal us rest → (begins_comparison a ts ≡ true) × (comparing_at ts ≡ Ok (compares comparison.Equal true p, rest))
+negated_equal : (a : Around) (p : Place) (ts us rest : List ParserToken) → sign class.Not p ts us → mark_of class.Equal us rest → (begins_comparison a ts ≡ true) × (comparing_at ts ≡ Ok (compares comparison.Equal true p, rest))
 unfolding begins_comparison comparing_at negated_comparing comparison_of is_class
 negated_equal a p ts us rest s m =
     let n = marks class.Not p ts us s in
@@ -430,7 +430,7 @@ negated_equal a p ts us rest s m =
     let last : after (after ts) ≡ rest = ap after same ∙ after_is class.Equal us rest m in
     (rw (not_plain ts us n, is_next class.Not ts us n, e1, there) refl, rw (is_next class.Not ts us n, e1, there, e2, e3, e4, e5, place_is class.Not p ts us s, last) refl)
 
-unequal : (a : Around) (p : Place) (ts rest : List Seen) → sign class.NotEqual p ts rest → (begins_comparison a ts ≡ true) × (comparing_at ts ≡ Ok (compares comparison.Equal true p, rest))
+unequal : (a : Around) (p : Place) (ts rest : List ParserToken) → sign class.NotEqual p ts rest → (begins_comparison a ts ≡ true) × (comparing_at ts ≡ Ok (compares comparison.Equal true p, rest))
 unfolding begins_comparison is_plain_comparison comparing_at comparison_of is_class
 unequal a p ts rest s =
     let m = marks class.NotEqual p ts rest s in
@@ -443,7 +443,7 @@ unequal a p ts rest s =
     let e6 = differs class.NotEqual class.AtLeast ts rest m refl in
     (rw (e1, e2, is) refl, rw (differs class.NotEqual class.Not ts rest m refl, e1, e3, e4, e5, e6, is, place_is class.NotEqual p ts rest s, after_is class.NotEqual ts rest m) refl)
 
-comparing_with : (a : Around) (c : Comparison) (b : Bool) (p : Place) (ts rest : List Seen) → comparing_over c b p ts rest → (begins_comparison a ts ≡ true) × (comparing_at ts ≡ Ok (compares c b p, rest))
+comparing_with : (a : Around) (c : Comparison) (b : Bool) (p : Place) (ts rest : List ParserToken) → comparing_over c b p ts rest → (begins_comparison a ts ≡ true) × (comparing_at ts ≡ Ok (compares c b p, rest))
 unfolding comparing_at
 comparing_with a c false p ts rest s =
     let m = marks (class_of_comparison c) p ts rest s in
@@ -456,9 +456,9 @@ comparing_with a comparison.Greater true p ts rest s = absurd s
 comparing_with a comparison.AtMost true p ts rest s = absurd s
 comparing_with a comparison.AtLeast true p ts rest s = absurd s
 
-pub comparing_full : (a : Around) (c : Comparing) (ts rest : List Seen) → comparing c ts rest → (begins_comparison a ts ≡ true) × (comparing_at ts ≡ Ok (c, rest))
+pub comparing_full : (a : Around) (c : Comparing) (ts rest : List ParserToken) → comparing c ts rest → (begins_comparison a ts ≡ true) × (comparing_at ts ≡ Ok (c, rest))
 comparing_full a c ts rest s = comparing_with a c.comparison c.negated c.place ts rest s
 
-pub compared_full : (i : Reader) (a : Around) (x : Tree) (c : Comparing) (y : Tree) (ts us vs rest : List Seen) → counted_over i a ts ≡ Ok (x, us) → comparing c us vs → counted_over i a vs ≡ Ok (y, rest) → comparison_over i a ts ≡ Ok (compared x c y, rest)
+pub compared_full : (i : Reader) (a : Around) (x : Tree) (c : Comparing) (y : Tree) (ts us vs rest : List ParserToken) → counted_over i a ts ≡ Ok (x, us) → comparing c us vs → counted_over i a vs ≡ Ok (y, rest) → comparison_over i a ts ≡ Ok (compared x c y, rest)
 unfolding comparison_over
 compared_full i a x c y ts us vs rest e s f = let k = comparing_full a c us vs s in rw (e, k.0, k.1, f) refl

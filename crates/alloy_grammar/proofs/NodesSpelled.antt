@@ -12,7 +12,7 @@ use Rattle.alloy_syntax.specs.declared.tree.Quantifier.TheVariants as quantifier
 use Rattle.alloy_syntax.specs.declared.tree.Prefix.{Prefix}
 use Rattle.alloy_syntax.specs.declared.tree.Prefix.TheVariants as prefix
 use Rattle.alloy_syntax.specs.declared.tree.Operator.TheVariants as operator
-use Rattle.alloy_syntax.specs.declared.seen.Seen.{Seen}
+use Rattle.alloy_syntax.specs.declared.parser_token.ParserToken.{ParserToken}
 use Rattle.alloy_syntax.specs.Tree.{Tree, block, chain, path, implies, implies_else, LinkTree, StepTree, joined, in_brackets, BlockTree, trees_of, links_of, steps_of}
 use Rattle.alloy_syntax.specs.Readers.{Parser, next_is, after, place_at, expect, name_at, path_at, number_at, is_mark, many, behind, listed}
 use Rattle.alloy_syntax.specs.Nodes.{Reader, is_inner, is_comprehension, block_over, block_tree, paren_over, is_constant, constant_of, primary_over, is_tightening, tightening_of, behind_prefix, tight_over, arguments_over, brackets_over, begins_step, step_over, path_over, begins_link, operator_of, link_over, chained, restrict_over, begins_arrow, arrow_over, arrows_over, meet_over, override_over, size_over, sum_over, is_counting, counting_of, counted_over, begins_comparison, comparing_at, comparison_over, begins_declaration, quantifier_of, negation_over, and_over, implied_over, implication_over, iff_over, node_over}
@@ -25,14 +25,14 @@ use Rattle.alloy_grammar.proofs.Lists.{Taken, Shortens, many_read, many_stops, e
 use Rattle.alloy_grammar.proofs.ReadTrees.{Found, land, lowered, named_found, numbered_found, constant_found, bracketed_found, prefixed_found, compared_found, implies_found, implies_else_found, FoundTrees, FoundBehind, trees_found, first_found, block_found, FoundLink, chain_found, FoundStep, join_found, arguments_found, path_found, no_arguments_found, step_is_one}
 
 -- what is read is found, and what is left is such
-abbrev pub Reads : Bool → ℕ → ℕ → (List Seen → Type 0) → Parser Tree → Type 0
-Reads strict room l E p = (ts : List Seen) (x : Tree) (rest : List Seen) → p ts ≡ Ok (x, rest) → Found strict room l x ts rest × E rest
+abbrev pub Reads : Bool → ℕ → ℕ → (List ParserToken → Type 0) → Parser Tree → Type 0
+Reads strict room l E p = (ts : List ParserToken) (x : Tree) (rest : List ParserToken) → p ts ≡ Ok (x, rest) → Found strict room l x ts rest × E rest
 
-abbrev pub any : List Seen → Type 0
+abbrev pub any : List ParserToken → Type 0
 any rest = Unit {0}
 
 -- no `&&` and no `=>` follows
-abbrev pub ends_implication : List Seen → Type 0
+abbrev pub ends_implication : List ParserToken → Type 0
 ends_implication rest = (next_is class.And rest ≡ false) × (next_is class.Implies rest ≡ false)
 
 -- what a reader gives of what stands under one construct more, where fewer than so many nest
@@ -43,20 +43,20 @@ pub record Below (strict : Bool) (room : ℕ) (i : Reader) : Type 0 where
   pub sum : (a : Around) → Reads strict room sum_level any (i a inside.Sum)
   pub size : (a : Around) → Reads strict room size_level any (i a inside.Size)
   pub tight : (a : Around) → Reads strict room tight_level any (i a inside.Tight)
-  pub quantified : (a : Around) (q : Quantifier) (p : Place) (ts : List Seen) (x : Tree) (rest : List Seen) → i a (inside.Quantified q p) ts ≡ Ok (x, rest)
-      → (ws : List Seen) → sign (class_of_quantifier q) p ws ts → Found strict (suc room) negation_level x ws rest
-  pub bound_by_let : (a : Around) (p : Place) (ts : List Seen) (x : Tree) (rest : List Seen) → i a (inside.Let p) ts ≡ Ok (x, rest)
-      → (ws : List Seen) → sign class.Let p ws ts → Found strict (suc room) negation_level x ws rest
+  pub quantified : (a : Around) (q : Quantifier) (p : Place) (ts : List ParserToken) (x : Tree) (rest : List ParserToken) → i a (inside.Quantified q p) ts ≡ Ok (x, rest)
+      → (ws : List ParserToken) → sign (class_of_quantifier q) p ws ts → Found strict (suc room) negation_level x ws rest
+  pub bound_by_let : (a : Around) (p : Place) (ts : List ParserToken) (x : Tree) (rest : List ParserToken) → i a (inside.Let p) ts ≡ Ok (x, rest)
+      → (ws : List ParserToken) → sign class.Let p ws ts → Found strict (suc room) negation_level x ws rest
 
 -- ---- chains
 
-ends_of_each : {A : Type 0} (P : A → Front) (E : List Seen → Type 0) → ((x : A) (ts rest : List Seen) → P x ts rest → E rest) → (xs : List A) (ts rest : List Seen) → E ts → each P xs ts rest → E rest
+ends_of_each : {A : Type 0} (P : A → Front) (E : List ParserToken → Type 0) → ((x : A) (ts rest : List ParserToken) → P x ts rest → E rest) → (xs : List A) (ts rest : List ParserToken) → E ts → each P xs ts rest → E rest
 ends_of_each P E ends [] ts rest here p = subst E p here
 ends_of_each P E ends (x ∷ xs) ts rest here p = ends_of_each P E ends xs p.0 rest (ends x ts p.0 p.1) p.2
 
-module _ (strict : Bool) (room l : ℕ) (E : List Seen → Type 0) (test : List Seen → Bool) (item : Parser LinkTree)
-    (link : (ts : List Seen) (k : LinkTree) (rest : List Seen) → test ts ≡ true → item ts ≡ Ok (k, rest) → FoundLink strict (suc room) l k ts rest × E rest) where
-  linked : (x : Tree) (ks : List LinkTree) (ts us rest : List Seen) → Found strict (suc room) (suc l) x ts us → E us → test us ≡ true → each (Taken test item) ks us rest → test rest ≡ false
+module _ (strict : Bool) (room l : ℕ) (E : List ParserToken → Type 0) (test : List ParserToken → Bool) (item : Parser LinkTree)
+    (link : (ts : List ParserToken) (k : LinkTree) (rest : List ParserToken) → test ts ≡ true → item ts ≡ Ok (k, rest) → FoundLink strict (suc room) l k ts rest × E rest) where
+  linked : (x : Tree) (ks : List LinkTree) (ts us rest : List ParserToken) → Found strict (suc room) (suc l) x ts us → E us → test us ≡ true → each (Taken test item) ks us rest → test rest ≡ false
       → Found strict (suc room) l (chain x (links_of ks)) ts rest × E rest
   linked x [] ts us rest f here goes p ends = true_not_false (sym goes ∙ (ap test p ∙ ends))
   linked x (k ∷ ks) ts us rest f here goes p ends = (
@@ -68,14 +68,14 @@ module _ (strict : Bool) (room l : ℕ) (E : List Seen → Type 0) (test : List 
   links_shorten ts k rest goes e = let f = (link ts k rest goes e).0 in omega (arith, ap length f.word.1, f.found.shorter)
 
   -- what stands behind the first operand
-  pub more_links_read : (x : Tree) (ts us : List Seen) (ks : List LinkTree) (rest : List Seen) → Found strict (suc room) (suc l) x ts us → E us → test us ≡ true → many test item us ≡ Ok (ks, rest)
+  pub more_links_read : (x : Tree) (ts us : List ParserToken) (ks : List LinkTree) (rest : List ParserToken) → Found strict (suc room) (suc l) x ts us → E us → test us ≡ true → many test item us ≡ Ok (ks, rest)
       → Found strict (suc room) l (chain x (links_of ks)) ts rest × (E rest × (test rest ≡ false))
   more_links_read x ts us ks rest f here goes e =
       let stops = many_stops test item links_shorten us ks rest e in
       let both = linked x ks ts us rest f here goes (many_read test item us ks rest e) stops in
       (both.0, (both.1, stops))
 
-link_read : (strict : Bool) (room : ℕ) (lv : Level) (E : List Seen → Type 0) (item : Parser Tree) → Reads strict (suc room) (suc (number_of lv)) E item → (ts : List Seen) (k : LinkTree) (rest : List Seen)
+link_read : (strict : Bool) (room : ℕ) (lv : Level) (E : List ParserToken → Type 0) (item : Parser Tree) → Reads strict (suc room) (suc (number_of lv)) E item → (ts : List ParserToken) (k : LinkTree) (rest : List ParserToken)
     → begins_link lv ts ≡ true → link_over lv item ts ≡ Ok (k, rest) → FoundLink strict (suc room) (number_of lv) k ts rest × E rest
 unfolding link_over
 link_read strict room lv E item reads ts k rest goes e =
@@ -89,7 +89,7 @@ link_read strict room lv E item reads ts k rest goes e =
           (subst (λ us. FoundLink strict (suc room) (number_of lv) k ts us) (rest_is here k x.1 rest h) (subst (λ m. FoundLink strict (suc room) (number_of lv) m ts x.1) (value_is here k x.1 rest h) f), subst E (rest_is here k x.1 rest h) r.1))
     ]
 
-pub chained_reads : (strict : Bool) (room : ℕ) (lv : Level) (E : List Seen → Type 0) (item : Parser Tree) → Reads strict (suc room) (suc (number_of lv)) E item
+pub chained_reads : (strict : Bool) (room : ℕ) (lv : Level) (E : List ParserToken → Type 0) (item : Parser Tree) → Reads strict (suc room) (suc (number_of lv)) E item
     → Reads strict (suc room) (number_of lv) (λ rest. E rest × (begins_link lv rest ≡ false)) (chained lv item)
 unfolding chained
 chained_reads strict room lv E item reads ts x rest e =
@@ -123,7 +123,7 @@ plain_chain strict room lv item reads ts x rest e = ((chained_reads strict room 
 module _ (strict : Bool) (room : ℕ) (i : Reader) (below : Below strict room i) where
   -- ---- blocks and brackets
 
-  pub block_read : (ts : List Seen) (b : BlockTree) (rest : List Seen) → block_over i ts ≡ Ok (b, rest) → Found strict (suc room) primary_level (block b.place (trees_of b.formulas)) ts rest
+  pub block_read : (ts : List ParserToken) (b : BlockTree) (rest : List ParserToken) → block_over i ts ≡ Ok (b, rest) → Found strict (suc room) primary_level (block b.place (trees_of b.formulas)) ts rest
   unfolding block_over
   block_read ts b rest e =
       elim (either (is_comprehension ts)) [
@@ -143,7 +143,7 @@ module _ (strict : Bool) (room : ℕ) (i : Reader) (below : Below strict room i)
                           | success c closing ↦ (
                               let e4 = rw closing at e3 in
                               let here : BlockTree = record { place = o.0; formulas = xs.0 } in
-                              let item : (y : Tree) (us vs : List Seen) → Taken is_inner (i around.Braces inside.Node) y us vs → FoundBehind strict room or_level nothing y us vs
+                              let item : (y : Tree) (us vs : List ParserToken) → Taken is_inner (i around.Braces inside.Node) y us vs → FoundBehind strict room or_level nothing y us vs
                               = λ y us vs t. record { behind = us; separator = refl; short = omega arith; found = (below.node around.Braces us y vs t.1).0 } in
                               let all = each_of (Taken is_inner (i around.Braces inside.Node)) (FoundBehind strict room or_level nothing) item xs.0 o.1 xs.1 (many_read is_inner (i around.Braces inside.Node) o.1 xs.0 xs.1 inner) in
                               let f = block_found strict room o.0 (trees_of xs.0) ts o.1 xs.1 c.1 (expect_read class.LeftBrace ts o.0 o.1 opening) (trees_found strict room nothing xs.0 o.1 xs.1 all) (marks class.RightBrace c.0 xs.1 c.1 (expect_read class.RightBrace xs.1 c.0 c.1 closing)) in
@@ -154,7 +154,7 @@ module _ (strict : Bool) (room : ℕ) (i : Reader) (below : Below strict room i)
             ])
       ]
 
-  pub block_tree_read : (ts : List Seen) (x : Tree) (rest : List Seen) → block_tree i ts ≡ Ok (x, rest) → Found strict (suc room) primary_level x ts rest
+  pub block_tree_read : (ts : List ParserToken) (x : Tree) (rest : List ParserToken) → block_tree i ts ≡ Ok (x, rest) → Found strict (suc room) primary_level x ts rest
   unfolding block_tree
   block_tree_read ts x rest e =
       elim (known (block_over i ts)) [
@@ -162,7 +162,7 @@ module _ (strict : Bool) (room : ℕ) (i : Reader) (below : Below strict room i)
         | success b is ↦ (let h = rw is at e in land h (block_read ts b.0 b.1 is))
       ]
 
-  pub paren_read : (ts : List Seen) (x : Tree) (rest : List Seen) → paren_over i ts ≡ Ok (x, rest) → Found strict (suc room) primary_level x ts rest
+  pub paren_read : (ts : List ParserToken) (x : Tree) (rest : List ParserToken) → paren_over i ts ≡ Ok (x, rest) → Found strict (suc room) primary_level x ts rest
   unfolding paren_over
   paren_read ts x rest e =
       elim (known (expect class.LeftParen ts)) [
@@ -219,7 +219,7 @@ module _ (strict : Bool) (room : ℕ) (i : Reader) (below : Below strict room i)
 
   -- ---- expressions
 
-  pub behind_prefix_read : (f : Prefix) (item : Parser Tree) → Reads strict room (level_behind f) any item → (ts : List Seen) → sign (class_of_prefix f) (place_at ts) ts (after ts) → (x : Tree) (rest : List Seen)
+  pub behind_prefix_read : (f : Prefix) (item : Parser Tree) → Reads strict room (level_behind f) any item → (ts : List ParserToken) → sign (class_of_prefix f) (place_at ts) ts (after ts) → (x : Tree) (rest : List ParserToken)
       → behind_prefix f item ts ≡ Ok (x, rest) → Found strict (suc room) (level_of_prefix f) x ts rest
   unfolding behind_prefix
   behind_prefix_read f item reads ts s x rest e =
@@ -240,7 +240,7 @@ module _ (strict : Bool) (room : ℕ) (i : Reader) (below : Below strict room i)
         | inr other ↦ (lowered tight_level (omega arith) (primary_reads ts x rest (rw other at e)).0, tt)
       ]
 
-  pub arguments_read : (ts : List Seen) (xs : List Tree) (rest : List Seen) → arguments_over i ts ≡ Ok (xs, rest) → FoundTrees strict room nothing comma (trees_of xs) ts rest
+  pub arguments_read : (ts : List ParserToken) (xs : List Tree) (rest : List ParserToken) → arguments_over i ts ≡ Ok (xs, rest) → FoundTrees strict room nothing comma (trees_of xs) ts rest
   unfolding arguments_over listed
   arguments_read ts xs rest e =
       elim (either (next_is class.RightBracket ts)) [
@@ -255,14 +255,14 @@ module _ (strict : Bool) (room : ℕ) (i : Reader) (below : Below strict room i)
               | success y is ↦ (
                   let k = rw is at h in
                   let o = others_read (i around.Brackets inside.Node) y.0 y.1 xs rest k in
-                  let item : (z : Tree) (us vs : List Seen) → Taken (next_is class.Comma) (behind (i around.Brackets inside.Node)) z us vs → FoundBehind strict room or_level comma z us vs
+                  let item : (z : Tree) (us vs : List ParserToken) → Taken (next_is class.Comma) (behind (i around.Brackets inside.Node)) z us vs → FoundBehind strict room or_level comma z us vs
                   = λ z us vs t. record { behind = after us; separator = marks class.Comma (place_at us) us (after us) (token class.Comma us t.0); short = after_is_short us; found = (below.node around.Brackets (after us) z vs t.1).0 } in
                   let all = each_of (Taken (next_is class.Comma) (behind (i around.Brackets inside.Node))) (FoundBehind strict room or_level comma) item o.0 y.1 rest o.2 in
                   subst (λ (ys : List Tree). FoundTrees strict room nothing comma (trees_of ys) ts rest) o.1 (first_found strict room comma y.0 o.0 ts y.1 rest (below.node around.Brackets ts y.0 y.1 is).0 all))
             ])
       ]
 
-  pub brackets_read : (ts : List Seen) (s : StepTree) (rest : List Seen) → brackets_over i ts ≡ Ok (s, rest) → FoundStep strict room s ts rest
+  pub brackets_read : (ts : List ParserToken) (s : StepTree) (rest : List ParserToken) → brackets_over i ts ≡ Ok (s, rest) → FoundStep strict room s ts rest
   unfolding brackets_over
   brackets_read ts s rest e =
       elim (known (expect class.LeftBracket ts)) [
@@ -283,7 +283,7 @@ module _ (strict : Bool) (room : ℕ) (i : Reader) (below : Below strict room i)
             ])
       ]
 
-  pub step_read : (a : Around) (ts : List Seen) (s : StepTree) (rest : List Seen) → step_over i a ts ≡ Ok (s, rest) → FoundStep strict room s ts rest
+  pub step_read : (a : Around) (ts : List ParserToken) (s : StepTree) (rest : List ParserToken) → step_over i a ts ≡ Ok (s, rest) → FoundStep strict room s ts rest
   unfolding step_over
   step_read a ts s rest e =
       elim (either (next_is class.Dot ts)) [
@@ -302,7 +302,7 @@ module _ (strict : Bool) (room : ℕ) (i : Reader) (below : Below strict room i)
   steps_shorten : (a : Around) → Shortens begins_step (step_over i a)
   steps_shorten a ts s rest goes e = step_is_one strict room s ts rest (step_read a ts s rest e)
 
-  path_of_steps : (a : Around) (x : Tree) (ss : List StepTree) (ts us rest : List Seen) → Found strict (suc room) tight_level x ts us → begins_step us ≡ true → each (Taken begins_step (step_over i a)) ss us rest → begins_step rest ≡ false
+  path_of_steps : (a : Around) (x : Tree) (ss : List StepTree) (ts us rest : List ParserToken) → Found strict (suc room) tight_level x ts us → begins_step us ≡ true → each (Taken begins_step (step_over i a)) ss us rest → begins_step rest ≡ false
       → Found strict (suc room) path_level (path x (steps_of ss)) ts rest
   path_of_steps a x [] ts us rest f goes p ends = true_not_false (sym goes ∙ (ap begins_step p ∙ ends))
   path_of_steps a x (s ∷ ss) ts us rest f goes p ends =
@@ -333,7 +333,7 @@ module _ (strict : Bool) (room : ℕ) (i : Reader) (below : Below strict room i)
   unfolding restrict_over
   restrict_reads a = plain_chain strict room level.Restrict (path_over i a) (path_reads a)
 
-  pub arrow_read : (a : Around) (ts : List Seen) (k : LinkTree) (rest : List Seen) → begins_arrow ts ≡ true → arrow_over i a ts ≡ Ok (k, rest) → FoundLink strict (suc room) product_level k ts rest × any rest
+  pub arrow_read : (a : Around) (ts : List ParserToken) (k : LinkTree) (rest : List ParserToken) → begins_arrow ts ≡ true → arrow_over i a ts ≡ Ok (k, rest) → FoundLink strict (suc room) product_level k ts rest × any rest
   unfolding arrow_over begins_arrow
   arrow_read a ts k rest goes e =
       elim (either (is_mark ts)) [
@@ -457,7 +457,7 @@ module _ (strict : Bool) (room : ℕ) (i : Reader) (below : Below strict room i)
   unfolding and_over begins_link
   and_reads a ts x rest e = let r = chained_reads strict room level.And any (negation_over i a) (negation_reads a) ts x rest e in (r.0, r.1.1)
 
-  pub implied_reads : (a : Around) (left : Tree) (p : Place) (ws us : List Seen) → Found strict (suc room) and_level left ws us → (ts : List Seen) → sign class.Implies p us ts → (x : Tree) (rest : List Seen)
+  pub implied_reads : (a : Around) (left : Tree) (p : Place) (ws us : List ParserToken) → Found strict (suc room) and_level left ws us → (ts : List ParserToken) → sign class.Implies p us ts → (x : Tree) (rest : List ParserToken)
       → implied_over i a left p ts ≡ Ok (x, rest) → Found strict (suc room) implication_level x ws rest × ends_implication rest
   unfolding implied_over
   implied_reads a left p ws us f ts s x rest e =

@@ -7,7 +7,7 @@ use Rattle.alloy_syntax.specs.declared.reading.Inside.TheVariants as inside
 use Rattle.alloy_syntax.specs.declared.tree.Name.{Name}
 use Rattle.alloy_syntax.specs.declared.tree.Parent.{Parent}
 use Rattle.alloy_syntax.specs.declared.tree.Manner.TheVariants as manner
-use Rattle.alloy_syntax.specs.declared.seen.Seen.{Seen}
+use Rattle.alloy_syntax.specs.declared.parser_token.ParserToken.{ParserToken}
 use Rattle.alloy_syntax.specs.Tree.{Tree, DeclarationTree, declarations_of, FieldTree, BlockTree, ParagraphTree}
 use Rattle.alloy_syntax.specs.Readers.{Parser, next_is, after, place_at, expect, name_at, is_mark, mark_at, after_mark, multiplicity_of, behind, listed as listed_at, names_at}
 use Rattle.alloy_syntax.specs.Nodes.{within, sum_over, braced_over, declarations_over}
@@ -33,8 +33,8 @@ use Rattle.alloy_grammar.proofs.Bounds.{whole_read}
 abbrev pub after_comma : {A : Type 0} → (A → Front) → A → Front
 after_comma P x = mark_of class.Comma before P x
 
-pub listed_read : {A : Type 0} (item : Parser A) (P : A → Front) → ((ts : List Seen) (x : A) (rest : List Seen) → item ts ≡ Ok (x, rest) → P x ts rest) → (ts : List Seen) (xs : List A) (rest : List Seen)
-    → listed_at item ts ≡ Ok (xs, rest) → (y : A) × (ys : List A) × (us : List Seen) × (y ∷ ys ≡ xs) × P y ts us × each (after_comma P) ys us rest
+pub listed_read : {A : Type 0} (item : Parser A) (P : A → Front) → ((ts : List ParserToken) (x : A) (rest : List ParserToken) → item ts ≡ Ok (x, rest) → P x ts rest) → (ts : List ParserToken) (xs : List A) (rest : List ParserToken)
+    → listed_at item ts ≡ Ok (xs, rest) → (y : A) × (ys : List A) × (us : List ParserToken) × (y ∷ ys ≡ xs) × P y ts us × each (after_comma P) ys us rest
 unfolding listed_at
 listed_read item P reads ts xs rest e =
     elim (known (item ts)) [
@@ -53,13 +53,13 @@ listed_read item P reads ts xs rest e =
 
 -- ---- signatures
 
-pub record FoundField (strict : Bool) (limit : ℕ) (f : FieldTree) (ts rest : List Seen) : Type 0 where
+pub record FoundField (strict : Bool) (limit : ℕ) (f : FieldTree) (ts rest : List ParserToken) : Type 0 where
   pub spelled : field f ts rest
   pub shallow : suc (depth_of_bound f.bound) ≤ limit
   pub plain : strict ≡ true → is_plain_bound f.bound ≡ true
   pub shorter : length rest < length ts
 
-pub field_read : (strict : Bool) (limit : ℕ) (ts : List Seen) (f : FieldTree) (rest : List Seen) → field_at strict limit ts ≡ Ok (f, rest) → FoundField strict limit f ts rest
+pub field_read : (strict : Bool) (limit : ℕ) (ts : List ParserToken) (f : FieldTree) (rest : List ParserToken) → field_at strict limit ts ≡ Ok (f, rest) → FoundField strict limit f ts rest
 unfolding field_at
 field_read strict limit ts f rest e =
     elim (known (names_at ts)) [
@@ -89,19 +89,19 @@ field_read strict limit ts f rest e =
           ])
     ]
 
-record FoundFields (strict : Bool) (limit : ℕ) (fs : List FieldTree) (ts rest : List Seen) : Type 0 where
+record FoundFields (strict : Bool) (limit : ℕ) (fs : List FieldTree) (ts rest : List ParserToken) : Type 0 where
   spelled : listed_if_any field fs ts rest
   shallow : depth_of_fields fs ≤ limit
   plain : strict ≡ true → ArePlainFields fs
   shorter : length rest ≤ length ts
 
-record OtherFields (strict : Bool) (limit : ℕ) (fs : List FieldTree) (ts rest : List Seen) : Type 0 where
+record OtherFields (strict : Bool) (limit : ℕ) (fs : List FieldTree) (ts rest : List ParserToken) : Type 0 where
   spelled : each (λ f. mark_of class.Comma before field f) fs ts rest
   shallow : depth_of_fields fs ≤ limit
   plain : strict ≡ true → ArePlainFields fs
   shorter : length rest ≤ length ts
 
-other_fields : (strict : Bool) (limit : ℕ) (fs : List FieldTree) (ts rest : List Seen) → each (after_comma (FoundField strict limit)) fs ts rest → OtherFields strict limit fs ts rest
+other_fields : (strict : Bool) (limit : ℕ) (fs : List FieldTree) (ts rest : List ParserToken) → each (after_comma (FoundField strict limit)) fs ts rest → OtherFields strict limit fs ts rest
 other_fields strict limit [] ts rest p = record { spelled = p; shallow = omega arith; plain = λ _. tt; shorter = omega (arith, ap length p) }
 other_fields strict limit (f ∷ fs) ts rest p =
     let more = other_fields strict limit fs p.0 rest p.2 in
@@ -113,7 +113,7 @@ other_fields strict limit (f ∷ fs) ts rest p =
       shorter = omega (arith, ap length p.1.1.1, g.shorter, more.shorter);
     }
 
-fields_read : (strict : Bool) (limit : ℕ) (ts : List Seen) (fs : List FieldTree) (rest : List Seen) → fields_at strict limit ts ≡ Ok (fs, rest) → FoundFields strict limit fs ts rest
+fields_read : (strict : Bool) (limit : ℕ) (ts : List ParserToken) (fs : List FieldTree) (rest : List ParserToken) → fields_at strict limit ts ≡ Ok (fs, rest) → FoundFields strict limit fs ts rest
 unfolding fields_at
 fields_read strict limit ts fs rest e =
     elim (either (next_is class.RightBrace ts)) [
@@ -137,13 +137,13 @@ fields_read strict limit ts fs rest e =
 abbrev pub FoundOptional : {A : Type 0} → (A → Front) → Option A → Front
 FoundOptional item x ts rest = optional item x ts rest × (length rest ≤ length ts)
 
-pub optional_land : {A : Type 0} (item : A → Front) (x y : Option A) (ts us rest : List Seen) → got x us ≡ got y rest → FoundOptional item x ts us → FoundOptional item y ts rest
+pub optional_land : {A : Type 0} (item : A → Front) (x y : Option A) (ts us rest : List ParserToken) → got x us ≡ got y rest → FoundOptional item x ts us → FoundOptional item y ts rest
 optional_land {A} item x y ts us rest e f = subst (λ vs. FoundOptional item y ts vs) (rest_is x y us rest e) (subst (λ (z : Option A). FoundOptional item z ts us) (value_is x y us rest e) f)
 
-parent_found : (p : Parent) (c : Class) (ts rest : List Seen) → mark_of c ts (after ts) → name p.name (after ts) rest → (mark_of c before name p.name) ts rest × (length rest ≤ length ts)
+parent_found : (p : Parent) (c : Class) (ts rest : List ParserToken) → mark_of c ts (after ts) → name p.name (after ts) rest → (mark_of c before name p.name) ts rest × (length rest ≤ length ts)
 parent_found p c ts rest m n = ((after ts, m, n), omega (arith, mark_is_one c ts (after ts) m, spelled_is_one class.Name p.name (after ts) rest n))
 
-parent_read : (ts : List Seen) (p : Option Parent) (rest : List Seen) → parent_at ts ≡ Ok (p, rest) → FoundOptional parent p ts rest
+parent_read : (ts : List ParserToken) (p : Option Parent) (rest : List ParserToken) → parent_at ts ≡ Ok (p, rest) → FoundOptional parent p ts rest
 unfolding parent_at
 parent_read ts p rest e =
     elim (either (next_is class.Extends ts)) [
@@ -172,7 +172,7 @@ parent_read ts p rest e =
 
 -- ---- qualifiers
 
-not_set : (ts : List Seen) → next_is class.Set ts ≡ false → is_qualifier (multiplicity_of ts) ≡ true
+not_set : (ts : List ParserToken) → next_is class.Set ts ≡ false → is_qualifier (multiplicity_of ts) ≡ true
 not_set ts a =
     elim (either (next_is class.One ts)) [
       | inl is ↦ rw (a, is) refl
@@ -183,7 +183,7 @@ is_not : (b : Bool) → not b ≡ true → b ≡ false
 is_not true e = absurd cc
 is_not false e = refl
 
-qualifier_read : (ts : List Seen) → optional qualifier (qualifier_at ts) ts (after_qualifier ts)
+qualifier_read : (ts : List ParserToken) → optional qualifier (qualifier_at ts) ts (after_qualifier ts)
 unfolding is_qualifier_next qualifier_at mark_at
 qualifier_read ts =
     elim (either (is_mark ts)) [
@@ -194,13 +194,13 @@ qualifier_read ts =
       ]
     ]
 
-after_qualifier_is_short : (ts : List Seen) → length (after_qualifier ts) ≤ length ts
+after_qualifier_is_short : (ts : List ParserToken) → length (after_qualifier ts) ≤ length ts
 after_qualifier_is_short ts = elim (either (is_qualifier_next ts)) [ inl is ↦ rw is (after_is_short ts) | inr other ↦ rw other (omega arith) ]
 
-after_abstract_is_short : (ts : List Seen) → length (after_abstract ts) ≤ length ts
+after_abstract_is_short : (ts : List ParserToken) → length (after_abstract ts) ≤ length ts
 after_abstract_is_short ts = elim (either (next_is class.Abstract ts)) [ inl is ↦ rw is (after_is_short ts) | inr other ↦ rw other (omega arith) ]
 
-qualifiers_read : (ts : List Seen) → qualifiers (qualified ts).is_abstract (qualified ts).mark ts (qualified ts).behind × (length (qualified ts).behind ≤ length ts)
+qualifiers_read : (ts : List ParserToken) → qualifiers (qualified ts).is_abstract (qualified ts).mark ts (qualified ts).behind × (length (qualified ts).behind ≤ length ts)
 unfolding qualified
 qualifiers_read ts =
     elim (either (next_is class.Abstract ts)) [
@@ -210,20 +210,20 @@ qualifiers_read ts =
 
 -- ---- paragraphs
 
-pub record FoundParagraph (strict : Bool) (limit : ℕ) (p : ParagraphTree) (ts rest : List Seen) : Type 0 where
+pub record FoundParagraph (strict : Bool) (limit : ℕ) (p : ParagraphTree) (ts rest : List ParserToken) : Type 0 where
   pub spelled : paragraph p ts rest
   pub shallow : depth_of_paragraph p ≤ limit
   pub plain : strict ≡ true → IsPlainParagraph p
   pub shorter : length rest < length ts
 
-pub land : {strict : Bool} {limit : ℕ} {p q : ParagraphTree} {ts us rest : List Seen} → got p us ≡ got q rest → FoundParagraph strict limit p ts us → FoundParagraph strict limit q ts rest
+pub land : {strict : Bool} {limit : ℕ} {p q : ParagraphTree} {ts us rest : List ParserToken} → got p us ≡ got q rest → FoundParagraph strict limit p ts us → FoundParagraph strict limit q ts rest
 land {strict} {limit} {p} {q} {ts} {us} {rest} e f =
     subst (λ vs. FoundParagraph strict limit q ts vs) (rest_is p q us rest e) (subst (λ (r : ParagraphTree). FoundParagraph strict limit r ts us) (value_is p q us rest e) f)
 
-pub own_block_read : (strict : Bool) (limit : ℕ) (ts : List Seen) (b : BlockTree) (rest : List Seen) → own_block strict limit ts ≡ Ok (b, rest) → Found strict (suc limit) primary_level (tree_of_block b) ts rest
+pub own_block_read : (strict : Bool) (limit : ℕ) (ts : List ParserToken) (b : BlockTree) (rest : List ParserToken) → own_block strict limit ts ≡ Ok (b, rest) → Found strict (suc limit) primary_level (tree_of_block b) ts rest
 own_block_read strict limit ts b rest e = block_read strict limit (within strict limit) (within_reads strict limit) ts b rest e
 
-pub signatures_read : (strict : Bool) (limit : ℕ) (ts : List Seen) (x : ParagraphTree) (rest : List Seen) → signatures_at strict limit ts ≡ Ok (x, rest) → FoundParagraph strict limit x ts rest
+pub signatures_read : (strict : Bool) (limit : ℕ) (ts : List ParserToken) (x : ParagraphTree) (rest : List ParserToken) → signatures_at strict limit ts ≡ Ok (x, rest) → FoundParagraph strict limit x ts rest
 unfolding signatures_at
 signatures_read strict limit ts x rest e =
     elim (known (expect class.Sig (qualified ts).behind)) [
@@ -277,7 +277,7 @@ signatures_read strict limit ts x rest e =
 
 -- ---- facts and assertions
 
-pub label_read : (ts : List Seen) (n : Option Name) (rest : List Seen) → label_at ts ≡ Ok (n, rest) → FoundOptional name n ts rest
+pub label_read : (ts : List ParserToken) (n : Option Name) (rest : List ParserToken) → label_at ts ≡ Ok (n, rest) → FoundOptional name n ts rest
 unfolding label_at
 label_read ts n rest e =
     elim (either (next_is class.Name ts)) [
@@ -293,7 +293,7 @@ label_read ts n rest e =
           ])
     ]
 
-pub fact_read : (strict : Bool) (limit : ℕ) (ts : List Seen) (x : ParagraphTree) (rest : List Seen) → fact_at strict limit ts ≡ Ok (x, rest) → (ws : List Seen) → mark_of class.Fact ws ts → FoundParagraph strict limit x ws rest
+pub fact_read : (strict : Bool) (limit : ℕ) (ts : List ParserToken) (x : ParagraphTree) (rest : List ParserToken) → fact_at strict limit ts ≡ Ok (x, rest) → (ws : List ParserToken) → mark_of class.Fact ws ts → FoundParagraph strict limit x ws rest
 unfolding fact_at
 fact_read strict limit ts x rest e ws m =
     elim (known (label_at ts)) [
@@ -315,7 +315,7 @@ fact_read strict limit ts x rest e ws m =
           ])
     ]
 
-pub assertion_read : (strict : Bool) (limit : ℕ) (ts : List Seen) (x : ParagraphTree) (rest : List Seen) → assertion_at strict limit ts ≡ Ok (x, rest) → (ws : List Seen) → mark_of class.Assert ws ts → FoundParagraph strict limit x ws rest
+pub assertion_read : (strict : Bool) (limit : ℕ) (ts : List ParserToken) (x : ParagraphTree) (rest : List ParserToken) → assertion_at strict limit ts ≡ Ok (x, rest) → (ws : List ParserToken) → mark_of class.Assert ws ts → FoundParagraph strict limit x ws rest
 unfolding assertion_at
 assertion_read strict limit ts x rest e ws m =
     elim (known (name_at ts)) [
@@ -339,15 +339,15 @@ assertion_read strict limit ts x rest e ws m =
 
 -- ---- parameters
 
-record FoundInside (strict : Bool) (limit : ℕ) (closing : Class) (ds : List DeclarationTree) (ts rest : List Seen) : Type 0 where
-  behind : List Seen
+record FoundInside (strict : Bool) (limit : ℕ) (closing : Class) (ds : List DeclarationTree) (ts rest : List ParserToken) : Type 0 where
+  behind : List ParserToken
   spelled : spells_declarations nothing (declarations_of ds) ts behind
   closed : mark_of closing behind rest
   shallow : depth_of_parameters ds ≤ limit
   plain : strict ≡ true → ArePlainDeclarations (declarations_of ds)
   shorter : length rest ≤ length ts
 
-no_parameters : (strict : Bool) (limit : ℕ) (closing : Class) (ts : List Seen) → next_is closing ts ≡ true → FoundInside strict limit closing [] ts (after ts)
+no_parameters : (strict : Bool) (limit : ℕ) (closing : Class) (ts : List ParserToken) → next_is closing ts ≡ true → FoundInside strict limit closing [] ts (after ts)
 unfolding spells_declarations ArePlainDeclarations
 no_parameters strict limit closing ts is = record {
   behind = ts;
@@ -358,7 +358,7 @@ no_parameters strict limit closing ts is = record {
   shorter = after_is_short ts;
 }
 
-parameters_inside : (strict : Bool) (limit : ℕ) → 0 < limit → (closing : Class) (ts : List Seen) (ds : List DeclarationTree) (rest : List Seen) → parameters_to strict limit closing ts ≡ Ok (ds, rest) → FoundInside strict limit closing ds ts rest
+parameters_inside : (strict : Bool) (limit : ℕ) → 0 < limit → (closing : Class) (ts : List ParserToken) (ds : List DeclarationTree) (rest : List ParserToken) → parameters_to strict limit closing ts ≡ Ok (ds, rest) → FoundInside strict limit closing ds ts rest
 parameters_inside strict limit some closing ts ds rest e =
     elim (either (next_is closing ts)) [
       | inl is ↦ (
@@ -391,17 +391,17 @@ parameters_inside strict limit some closing ts ds rest e =
           ])
     ]
 
-record FoundParameters (strict : Bool) (limit : ℕ) (ds : List DeclarationTree) (ts rest : List Seen) : Type 0 where
+record FoundParameters (strict : Bool) (limit : ℕ) (ds : List DeclarationTree) (ts rest : List ParserToken) : Type 0 where
   spelled : parameters ds ts rest
   shallow : depth_of_parameters ds ≤ limit
   plain : strict ≡ true → ArePlainDeclarations (declarations_of ds)
   shorter : length rest ≤ length ts
 
-without_parameters : (strict : Bool) (limit : ℕ) (ts : List Seen) → FoundParameters strict limit [] ts ts
+without_parameters : (strict : Bool) (limit : ℕ) (ts : List ParserToken) → FoundParameters strict limit [] ts ts
 unfolding ArePlainDeclarations
 without_parameters strict limit ts = record { spelled = inl (refl, refl); shallow = omega arith; plain = λ _. tt; shorter = omega arith }
 
-parameters_read : (strict : Bool) (limit : ℕ) → 0 < limit → (ts : List Seen) (ds : List DeclarationTree) (rest : List Seen) → parameter_list strict limit ts ≡ Ok (ds, rest) → FoundParameters strict limit ds ts rest
+parameters_read : (strict : Bool) (limit : ℕ) → 0 < limit → (ts : List ParserToken) (ds : List DeclarationTree) (rest : List ParserToken) → parameter_list strict limit ts ≡ Ok (ds, rest) → FoundParameters strict limit ds ts rest
 unfolding parameter_list
 parameters_read strict limit some ts ds rest e =
     elim (either (next_is class.LeftBracket ts)) [
@@ -418,7 +418,7 @@ parameters_read strict limit some ts ds rest e =
       ]
     ]
 
-pub predicate_read : (strict : Bool) (limit : ℕ) → 0 < limit → (ts : List Seen) (x : ParagraphTree) (rest : List Seen) → predicate_at strict limit ts ≡ Ok (x, rest) → (ws : List Seen) → mark_of class.Pred ws ts → FoundParagraph strict limit x ws rest
+pub predicate_read : (strict : Bool) (limit : ℕ) → 0 < limit → (ts : List ParserToken) (x : ParagraphTree) (rest : List ParserToken) → predicate_at strict limit ts ≡ Ok (x, rest) → (ws : List ParserToken) → mark_of class.Pred ws ts → FoundParagraph strict limit x ws rest
 unfolding predicate_at
 predicate_read strict limit some ts x rest e ws m =
     elim (known (name_at ts)) [
@@ -448,13 +448,13 @@ predicate_read strict limit some ts x rest e ws m =
 
 -- ---- functions
 
-record FoundBraced (strict : Bool) (limit : ℕ) (x : Tree) (ts rest : List Seen) : Type 0 where
+record FoundBraced (strict : Bool) (limit : ℕ) (x : Tree) (ts rest : List ParserToken) : Type 0 where
   spelled : (mark_of class.LeftBrace before at_level sum_level x (spells x) before mark_of class.RightBrace) ts rest
   shallow : suc (depth_of x) ≤ limit
   plain : strict ≡ true → IsPlain x
   shorter : length rest < length ts
 
-braced_read : (strict : Bool) (limit : ℕ) (ts : List Seen) (x : Tree) (rest : List Seen) → braced_over (within strict limit) ts ≡ Ok (x, rest) → FoundBraced strict limit x ts rest
+braced_read : (strict : Bool) (limit : ℕ) (ts : List ParserToken) (x : Tree) (rest : List ParserToken) → braced_over (within strict limit) ts ≡ Ok (x, rest) → FoundBraced strict limit x ts rest
 unfolding braced_over
 braced_read strict limit ts x rest e =
     elim (known (expect class.LeftBrace ts)) [
@@ -483,7 +483,7 @@ braced_read strict limit ts x rest e =
           ])
     ]
 
-pub function_read : (strict : Bool) (limit : ℕ) → 0 < limit → (ts : List Seen) (x : ParagraphTree) (rest : List Seen) → function_at strict limit ts ≡ Ok (x, rest) → (ws : List Seen) → mark_of class.Fun ws ts → FoundParagraph strict limit x ws rest
+pub function_read : (strict : Bool) (limit : ℕ) → 0 < limit → (ts : List ParserToken) (x : ParagraphTree) (rest : List ParserToken) → function_at strict limit ts ≡ Ok (x, rest) → (ws : List ParserToken) → mark_of class.Fun ws ts → FoundParagraph strict limit x ws rest
 unfolding function_at
 function_read strict limit some ts x rest e ws m =
     elim (known (name_at ts)) [

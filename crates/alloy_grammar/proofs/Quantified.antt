@@ -8,7 +8,7 @@ use Rattle.alloy_syntax.specs.declared.reading.Inside.{Inside}
 use Rattle.alloy_syntax.specs.declared.reading.Inside.TheVariants as inside
 use Rattle.alloy_syntax.specs.declared.tree.Name.{Name}
 use Rattle.alloy_syntax.specs.declared.tree.Quantifier.{Quantifier}
-use Rattle.alloy_syntax.specs.declared.seen.Seen.{Seen}
+use Rattle.alloy_syntax.specs.declared.parser_token.ParserToken.{ParserToken}
 use Rattle.alloy_syntax.specs.Tree.{Tree, block, quantified, bound_by_let, DeclarationTree, BindingTree, trees_of, declarations_of, bindings_of}
 use Rattle.alloy_syntax.specs.Readers.{next_is, after, place_at, expect, name_at, mark_at, after_mark, many, behind, listed, names_at}
 use Rattle.alloy_syntax.specs.Nodes.{Reader, block_over, block_tree, is_comprehension, may_be_block, begins, stop_at, sum_over, is_single, after_disj, second_is_refused, one_name, are_several, variable_names, variables_over, declaration_over, another_declaration, more_declarations, declarations_over, body_over, quantified_over, binding_over, bindings_over, let_over, inside_over, within}
@@ -24,21 +24,21 @@ use Rattle.alloy_grammar.proofs.NodesSpelled.{Below, block_tree_read, sum_reads,
 
 -- ---- names
 
-each_is_short : {A : Type 0} (P : A → Front) → ((x : A) (ts rest : List Seen) → P x ts rest → length rest ≤ length ts) → (xs : List A) (ts rest : List Seen) → each P xs ts rest → length rest ≤ length ts
+each_is_short : {A : Type 0} (P : A → Front) → ((x : A) (ts rest : List ParserToken) → P x ts rest → length rest ≤ length ts) → (xs : List A) (ts rest : List ParserToken) → each P xs ts rest → length rest ≤ length ts
 each_is_short P short [] ts rest p = omega (arith, ap length p)
 each_is_short P short (x ∷ xs) ts rest p = omega (arith, short x ts p.0 p.1, each_is_short P short xs p.0 rest p.2)
 
-another_name : (n : Name) (ts rest : List Seen) → Taken (next_is class.Comma) (behind name_at) n ts rest → (comma before name n) ts rest
+another_name : (n : Name) (ts rest : List ParserToken) → Taken (next_is class.Comma) (behind name_at) n ts rest → (comma before name n) ts rest
 another_name n ts rest t = (after ts, marks class.Comma (place_at ts) ts (after ts) (token class.Comma ts t.0), spelled_read class.Name (after ts) n rest t.1)
 
-another_name_is_short : (n : Name) (ts rest : List Seen) → (comma before name n) ts rest → length rest ≤ length ts
+another_name_is_short : (n : Name) (ts rest : List ParserToken) → (comma before name n) ts rest → length rest ≤ length ts
 another_name_is_short n ts rest p = omega (arith, mark_is_one class.Comma ts p.0 p.1, spelled_is_one class.Name n p.0 rest p.2)
 
 -- names with commas between them, and that they are some tokens
 abbrev pub NamesFound : List Name → Front
 NamesFound ns ts rest = names ns ts rest × (length rest < length ts)
 
-pub names_read : (ts : List Seen) (ns : List Name) (rest : List Seen) → names_at ts ≡ Ok (ns, rest) → NamesFound ns ts rest
+pub names_read : (ts : List ParserToken) (ns : List Name) (rest : List ParserToken) → names_at ts ≡ Ok (ns, rest) → NamesFound ns ts rest
 unfolding names_at listed
 names_read ts ns rest e =
     elim (known (name_at ts)) [
@@ -55,23 +55,23 @@ names_read ts ns rest e =
 
 -- ---- variables
 
-no_second : {A : Type 0} {P : Type 0} (ts : List Seen) (x : A) (rest : List Seen) → second_is_refused {A = A} ts ≡ Ok (x, rest) → P
+no_second : {A : Type 0} {P : Type 0} (ts : List ParserToken) (x : A) (rest : List ParserToken) → second_is_refused {A = A} ts ≡ Ok (x, rest) → P
 no_second ts x rest e = elim (known (name_at ts)) [ stop d is ↦ no_success _ _ (rw is at e) | success n is ↦ no_success _ _ (rw is at e) ]
 
 -- the names of variables, with `disj` or without, and their colon
-record Variables (single : Bool) (ns : List Name) (ts rest : List Seen) : Type 0 where
-  behind_word : List Seen
+record Variables (single : Bool) (ns : List Name) (ts rest : List ParserToken) : Type 0 where
+  behind_word : List ParserToken
   word : flag class.Disj (next_is class.Disj ts) ts behind_word
-  behind_names : List Seen
+  behind_names : List ParserToken
   named : names ns behind_word behind_names
   colon : mark_of class.Colon behind_names rest
   few : single ≡ true → are_several ns ≡ false
   shorter : length rest < length ts
 
 abbrev Named : List Name → Front
-Named ns ts rest = (us : List Seen) × flag class.Disj (next_is class.Disj ts) ts us × names ns us rest × (length rest < length ts)
+Named ns ts rest = (us : List ParserToken) × flag class.Disj (next_is class.Disj ts) ts us × names ns us rest × (length rest < length ts)
 
-one_name_read : (ts : List Seen) (ns : List Name) (rest : List Seen) → one_name ts ≡ Ok (ns, rest) → NamesFound ns ts rest
+one_name_read : (ts : List ParserToken) (ns : List Name) (rest : List ParserToken) → one_name ts ≡ Ok (ns, rest) → NamesFound ns ts rest
 unfolding one_name
 one_name_read ts ns rest e =
     elim (known (name_at ts)) [
@@ -88,10 +88,10 @@ one_name_read ts ns rest e =
           ])
     ]
 
-after_disj_is_short : (ts : List Seen) → length (after_disj ts) ≤ length ts
+after_disj_is_short : (ts : List ParserToken) → length (after_disj ts) ≤ length ts
 after_disj_is_short ts = elim (either (next_is class.Disj ts)) [ inl is ↦ rw is (after_is_short ts) | inr fails ↦ rw fails (omega arith) ]
 
-variable_names_read : (single : Bool) (ts : List Seen) (ns : List Name) (rest : List Seen) → variable_names single ts ≡ Ok (ns, rest) → Named ns ts rest
+variable_names_read : (single : Bool) (ts : List ParserToken) (ns : List Name) (rest : List ParserToken) → variable_names single ts ≡ Ok (ns, rest) → Named ns ts rest
 unfolding variable_names
 variable_names_read single ts ns rest e =
     elim (either (single && next_is class.Disj ts)) [
@@ -105,7 +105,7 @@ variable_names_read single ts ns rest e =
           (after_disj ts, flag_read class.Disj ts, f.0, omega (arith, f.1, after_disj_is_short ts)))
     ]
 
-variables_read : (single : Bool) (ts : List Seen) (ns : List Name) (rest : List Seen) → variables_over single ts ≡ Ok (ns, rest) → Variables single ns ts rest
+variables_read : (single : Bool) (ts : List ParserToken) (ns : List Name) (rest : List ParserToken) → variables_over single ts ≡ Ok (ns, rest) → Variables single ns ts rest
 unfolding variables_over
 variables_read single ts ns rest e =
     elim (known (variable_names single ts)) [
@@ -136,7 +136,7 @@ variables_read single ts ns rest e =
           ])
     ]
 
-block_tree_is_block : (i : Reader) (ts : List Seen) (x : Tree) (rest : List Seen) → block_tree i ts ≡ Ok (x, rest) → IsTrue (is_block x)
+block_tree_is_block : (i : Reader) (ts : List ParserToken) (x : Tree) (rest : List ParserToken) → block_tree i ts ≡ Ok (x, rest) → IsTrue (is_block x)
 unfolding block_tree
 block_tree_is_block i ts x rest e =
     elim (known (block_over i ts)) [
@@ -147,7 +147,7 @@ block_tree_is_block i ts x rest e =
 module _ (strict : Bool) (room : ℕ) (i : Reader) (below : Below strict room i) where
   -- ---- declarations
 
-  declaration_read : (single : Bool) (ts : List Seen) (d : DeclarationTree) (rest : List Seen) → declaration_over i single ts ≡ Ok (d, rest)
+  declaration_read : (single : Bool) (ts : List ParserToken) (d : DeclarationTree) (rest : List ParserToken) → declaration_over i single ts ≡ Ok (d, rest)
       → FoundDeclaration strict (suc room) nothing d ts rest × (single ≡ true → are_several d.names ≡ false)
   unfolding declaration_over
   declaration_read single ts d rest e =
@@ -182,11 +182,11 @@ module _ (strict : Bool) (room : ℕ) (i : Reader) (below : Below strict room i)
       ]
 
   -- where one variable alone may be bound, there is no other declaration
-  no_other : (ts : List Seen) (d : DeclarationTree) (rest : List Seen) → another_declaration i true ts ≡ Ok (d, rest) → ⊥
+  no_other : (ts : List ParserToken) (d : DeclarationTree) (rest : List ParserToken) → another_declaration i true ts ≡ Ok (d, rest) → ⊥
   unfolding another_declaration
   no_other ts d rest e = no_second (after_disj (after ts)) d rest e
 
-  pub another_read : (single : Bool) (d : DeclarationTree) (ts rest : List Seen) → Taken (next_is class.Comma) (another_declaration i single) d ts rest → FoundDeclaration strict (suc room) comma d ts rest
+  pub another_read : (single : Bool) (d : DeclarationTree) (ts rest : List ParserToken) → Taken (next_is class.Comma) (another_declaration i single) d ts rest → FoundDeclaration strict (suc room) comma d ts rest
   unfolding another_declaration
   another_read true d ts rest t = no_second (after_disj (after ts)) d rest t.1
   another_read false d ts rest t =
@@ -207,19 +207,19 @@ module _ (strict : Bool) (room : ℕ) (i : Reader) (below : Below strict room i)
       }
 
   -- the first declaration, the others, and that they are few where only one variable may be bound
-  pub record Declared (single : Bool) (ds : List DeclarationTree) (ts rest : List Seen) : Type 0 where
+  pub record Declared (single : Bool) (ds : List DeclarationTree) (ts rest : List ParserToken) : Type 0 where
     pub first : DeclarationTree
     pub others : List DeclarationTree
     pub all : first ∷ others ≡ ds
     pub found : FoundDeclarations strict (suc room) nothing (declarations_of (first ∷ others)) ts rest
     pub few : single ≡ true → binds_several (declarations_of (first ∷ others)) ≡ false
 
-  few_of : (single : Bool) (d : DeclarationTree) (ds : List DeclarationTree) (ts rest : List Seen) → (single ≡ true → are_several d.names ≡ false) → each (Taken (next_is class.Comma) (another_declaration i single)) ds ts rest
+  few_of : (single : Bool) (d : DeclarationTree) (ds : List DeclarationTree) (ts rest : List ParserToken) → (single ≡ true → are_several d.names ≡ false) → each (Taken (next_is class.Comma) (another_declaration i single)) ds ts rest
       → single ≡ true → binds_several (declarations_of (d ∷ ds)) ≡ false
   few_of single d [] ts rest few p is = rw (few is) refl
   few_of single d (e ∷ ds) ts rest few p is = absurd (no_other ts e p.0 (subst (λ b. another_declaration i b ts ≡ Ok (e, p.0)) is p.1.1))
 
-  pub declarations_read : (single : Bool) (ts : List Seen) (ds : List DeclarationTree) (rest : List Seen) → declarations_over i single ts ≡ Ok (ds, rest) → Declared single ds ts rest
+  pub declarations_read : (single : Bool) (ts : List ParserToken) (ds : List DeclarationTree) (rest : List ParserToken) → declarations_over i single ts ≡ Ok (ds, rest) → Declared single ds ts rest
   unfolding declarations_over more_declarations
   declarations_read single ts ds rest e =
       elim (known (declaration_over i single ts)) [
@@ -246,7 +246,7 @@ module _ (strict : Bool) (room : ℕ) (i : Reader) (below : Below strict room i)
 
   -- ---- bodies
 
-  body_read : (a : Around) (ts : List Seen) (x : Tree) (rest : List Seen) → body_over i a ts ≡ Ok (x, rest) → FoundBody strict (suc room) x ts rest
+  body_read : (a : Around) (ts : List ParserToken) (x : Tree) (rest : List ParserToken) → body_over i a ts ≡ Ok (x, rest) → FoundBody strict (suc room) x ts rest
   unfolding body_over
   body_read a ts x rest e =
       elim (either (next_is class.Bar ts)) [
@@ -261,8 +261,8 @@ module _ (strict : Bool) (room : ℕ) (i : Reader) (below : Below strict room i)
         | inr fails ↦ rw fails refl
       ]
 
-  quantified_read : (a : Around) (q : Quantifier) (p : Place) (ts : List Seen) (x : Tree) (rest : List Seen) → quantified_over strict i a q p ts ≡ Ok (x, rest)
-      → (ws : List Seen) → sign (class_of_quantifier q) p ws ts → Found strict (suc (suc room)) negation_level x ws rest
+  quantified_read : (a : Around) (q : Quantifier) (p : Place) (ts : List ParserToken) (x : Tree) (rest : List ParserToken) → quantified_over strict i a q p ts ≡ Ok (x, rest)
+      → (ws : List ParserToken) → sign (class_of_quantifier q) p ws ts → Found strict (suc (suc room)) negation_level x ws rest
   unfolding quantified_over
   quantified_read a q p ts x rest e ws s =
       elim (known (declarations_over i (strict && is_single q) ts)) [
@@ -281,7 +281,7 @@ module _ (strict : Bool) (room : ℕ) (i : Reader) (below : Below strict room i)
 
   -- ---- lets
 
-  binding_read : (ts : List Seen) (b : BindingTree) (rest : List Seen) → binding_over i ts ≡ Ok (b, rest) → (ws : List Seen) (next : Front) → next ws ts → length ts ≤ length ws → FoundBinding strict (suc room) next b ws rest
+  binding_read : (ts : List ParserToken) (b : BindingTree) (rest : List ParserToken) → binding_over i ts ≡ Ok (b, rest) → (ws : List ParserToken) (next : Front) → next ws ts → length ts ≤ length ws → FoundBinding strict (suc room) next b ws rest
   unfolding binding_over
   binding_read ts b rest e ws next separator short =
       elim (known (name_at ts)) [
@@ -315,16 +315,16 @@ module _ (strict : Bool) (room : ℕ) (i : Reader) (below : Below strict room i)
             ])
       ]
 
-  another_binding : (b : BindingTree) (ts rest : List Seen) → Taken (next_is class.Comma) (behind (binding_over i)) b ts rest → FoundBinding strict (suc room) comma b ts rest
+  another_binding : (b : BindingTree) (ts rest : List ParserToken) → Taken (next_is class.Comma) (behind (binding_over i)) b ts rest → FoundBinding strict (suc room) comma b ts rest
   another_binding b ts rest t = binding_read (after ts) b rest t.1 ts comma (marks class.Comma (place_at ts) ts (after ts) (token class.Comma ts t.0)) (after_is_short ts)
 
-  record Bound (bs : List BindingTree) (ts rest : List Seen) : Type 0 where
+  record Bound (bs : List BindingTree) (ts rest : List ParserToken) : Type 0 where
     first : BindingTree
     others : List BindingTree
     all : first ∷ others ≡ bs
     found : FoundBindings strict (suc room) nothing (bindings_of (first ∷ others)) ts rest
 
-  bindings_read : (ts : List Seen) (bs : List BindingTree) (rest : List Seen) → bindings_over i ts ≡ Ok (bs, rest) → Bound bs ts rest
+  bindings_read : (ts : List ParserToken) (bs : List BindingTree) (rest : List ParserToken) → bindings_over i ts ≡ Ok (bs, rest) → Bound bs ts rest
   unfolding bindings_over listed
   bindings_read ts bs rest e =
       elim (known (binding_over i ts)) [
@@ -341,7 +341,7 @@ module _ (strict : Bool) (room : ℕ) (i : Reader) (below : Below strict room i)
             })
       ]
 
-  let_read : (a : Around) (p : Place) (ts : List Seen) (x : Tree) (rest : List Seen) → let_over i a p ts ≡ Ok (x, rest) → (ws : List Seen) → sign class.Let p ws ts → Found strict (suc (suc room)) negation_level x ws rest
+  let_read : (a : Around) (p : Place) (ts : List ParserToken) (x : Tree) (rest : List ParserToken) → let_over i a p ts ≡ Ok (x, rest) → (ws : List ParserToken) → sign class.Let p ws ts → Found strict (suc (suc room)) negation_level x ws rest
   unfolding let_over
   let_read a p ts x rest e ws s =
       elim (known (bindings_over i ts)) [
@@ -374,7 +374,7 @@ module _ (strict : Bool) (room : ℕ) (i : Reader) (below : Below strict room i)
   }
 
 -- where one construct more would be one too many, nothing is read
-stops_there : {A : Type 0} {P : Type 0} (part : Inside) (ts : List Seen) (x : A) (rest : List Seen) → stop_at part ts ≡ Ok (x, rest) → P
+stops_there : {A : Type 0} {P : Type 0} (part : Inside) (ts : List ParserToken) (x : A) (rest : List ParserToken) → stop_at part ts ≡ Ok (x, rest) → P
 unfolding stop_at
 stops_there part ts x rest e =
     elim (either (may_be_block part && is_comprehension ts)) [

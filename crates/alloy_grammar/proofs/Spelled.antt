@@ -10,7 +10,7 @@ use Rattle.alloy_syntax.specs.declared.tree.Operator.{Operator}
 use Rattle.alloy_syntax.specs.declared.tree.Operator.TheVariants as operator
 use Rattle.alloy_syntax.specs.declared.tree.Comparison.{Comparison}
 use Rattle.alloy_syntax.specs.declared.tree.Comparison.TheVariants as comparison
-use Rattle.alloy_syntax.specs.declared.seen.Seen.{Seen}
+use Rattle.alloy_syntax.specs.declared.parser_token.ParserToken.{ParserToken}
 use Rattle.alloy_syntax.specs.Class.{is_class}
 use Rattle.alloy_syntax.specs.Tree.{Tree, named, numbered, constant, bracketed, block, prefixed, chain, path, compared, implies, implies_else, quantified, bound_by_let, Trees, no_trees, more_trees, Links, no_links, more_links, LinkTree, Steps, no_steps, join_first, brackets_first, StepTree, joined, in_brackets, Declarations, no_declarations, more_declarations, DeclarationTree, Bindings, no_bindings, more_bindings, BindingTree, trees_of, links_of, steps_of, declarations_of, bindings_of}
 use Rattle.alloy_syntax.specs.Readers.{next_is, after, colon_after_names}
@@ -81,12 +81,12 @@ pub both_false : (a b : Bool) → (a || b) ≡ false → (a ≡ false) × (b ≡
 both_false true b e = true_not_false e
 both_false false b e = (refl, e)
 
-pub no_names_of : (a : Around) (ts : List Seen) → next_is class.Colon ts ≡ false → next_is class.Comma ts ≡ false → NoNames a ts
+pub no_names_of : (a : Around) (ts : List ParserToken) → next_is class.Colon ts ≡ false → next_is class.Comma ts ≡ false → NoNames a ts
 no_names_of around.Braces ts e f = (e, f)
 no_names_of around.Brackets ts e f = (e, rw f refl)
 no_names_of around.Parens ts e f = (e, f)
 
-parts_no_names : (a : Around) (ts : List Seen) → parts_names ts ≡ false → NoNames a ts
+parts_no_names : (a : Around) (ts : List ParserToken) → parts_names ts ≡ false → NoNames a ts
 parts_no_names a ts e =
     let both : (next_is class.Comma ts ≡ false) × (next_is class.Colon ts ≡ false) = both_false (next_is class.Comma ts) (next_is class.Colon ts) e in
     no_names_of a ts both.1 both.0
@@ -96,14 +96,14 @@ and_false true c e = e
 and_false false c e = refl
 
 -- names with commas and a colon don't go on
-names_stop : (ts : List Seen) → NoNames around.Brackets ts → goes_on_with_names ts ≡ false
+names_stop : (ts : List ParserToken) → NoNames around.Brackets ts → goes_on_with_names ts ≡ false
 names_stop ts n = rw (n.0, n.1) refl
 
-parts_stop : (ts : List Seen) → next_is class.Colon ts ≡ false → next_is class.Comma ts ≡ false → parts_names ts ≡ false
+parts_stop : (ts : List ParserToken) → next_is class.Colon ts ≡ false → next_is class.Comma ts ≡ false → parts_names ts ≡ false
 parts_stop ts e f = rw (e, f) refl
 
 -- no expression begins a declaration, where no names go on behind it
-plain_names : (y : Tree) (ts rest : List Seen) → spells y ts rest → next_is class.Colon rest ≡ false → next_is class.Comma rest ≡ false → (next_is class.Name ts && (next_is class.Comma (after ts) || next_is class.Colon (after ts))) ≡ false
+plain_names : (y : Tree) (ts rest : List ParserToken) → spells y ts rest → next_is class.Colon rest ≡ false → next_is class.Comma rest ≡ false → (next_is class.Name ts && (next_is class.Comma (after ts) || next_is class.Colon (after ts))) ≡ false
 plain_names y ts rest s e f =
     elim (either (next_is class.Name ts)) [
       | inr none ↦ rw none refl
@@ -113,7 +113,7 @@ plain_names y ts rest s e f =
       ]
     ]
 
-no_declaration : (y : Tree) (a : Around) (ts rest : List Seen) → spells y ts rest → NoNames a rest → begins_declaration a ts ≡ false
+no_declaration : (y : Tree) (a : Around) (ts rest : List ParserToken) → spells y ts rest → NoNames a rest → begins_declaration a ts ≡ false
 unfolding begins_declaration in_brackets_too rank
 no_declaration y around.Braces ts rest s n = rw (never_first class.Disj refl (level_of y) ts (first y ts rest s), plain_names y ts rest s n.0 n.1) refl
 no_declaration y around.Brackets ts rest s n =
@@ -135,18 +135,18 @@ seven operator.Product h = omega arith
 seven operator.Domain h = omega arith
 seven operator.Range h = omega arith
 
-abbrev Uncounted : Around → List Seen → Type 0
+abbrev Uncounted : Around → List ParserToken → Type 0
 Uncounted a ts = (is_counting ts && begins_declaration a (after ts)) ≡ false
 
-tight_front : (a : Around) (m : ℕ) (ts : List Seen) → 7 ≤ m → First m ts → Uncounted a ts
+tight_front : (a : Around) (m : ℕ) (ts : List ParserToken) → 7 ≤ m → First m ts → Uncounted a ts
 tight_front a m ts h f = rw (not_counting ts (looser 7 h f)) refl
 
-word_front : (c : Class) (p : Place) (y : Tree) (a : Around) (ts us rest : List Seen) → sign c p ts us → spells y us rest → NoNames a rest → Uncounted a ts
+word_front : (c : Class) (p : Place) (y : Tree) (a : Around) (ts us rest : List ParserToken) → sign c p ts us → spells y us rest → NoNames a rest → Uncounted a ts
 word_front c p y a ts us rest s sp n =
     and_false (is_counting ts) (begins_declaration a (after ts)) (subst (λ vs. begins_declaration a vs ≡ false) (sym (after_is c ts us (marks c p ts us s))) (no_declaration y a us rest sp n))
 
 -- a word that counts begins no quantifier, where the tree is none
-uncounted : (x : Tree) (a : Around) (ts rest : List Seen) → spells x ts rest → 5 ≤ level_of x → NoNames a rest → Uncounted a ts
+uncounted : (x : Tree) (a : Around) (ts rest : List ParserToken) → spells x ts rest → 5 ≤ level_of x → NoNames a rest → Uncounted a ts
 unfolding spells spells_links
 uncounted (named n) a ts rest s h k = tight_front a 15 ts (omega arith) (first (named n) ts rest s)
 uncounted (numbered n) a ts rest s h k = tight_front a 15 ts (omega arith) (first (numbered n) ts rest s)
@@ -172,12 +172,12 @@ uncounted (quantified q p ds x) a ts rest s h k = absurd (omega (arith, h))
 uncounted (bound_by_let p bs x) a ts rest s h k = absurd (omega (arith, h))
 
 -- what is read at the tree's own level is read at a looser one
-pub raise : (i : Reader) (x : Tree) (a : Around) (l : ℕ) (ts rest : List Seen) → spells x ts rest → l ≤ level_of x → Ends a l rest → reader i a (level_of x) ts ≡ Ok (x, rest) → reader i a l ts ≡ Ok (x, rest)
+pub raise : (i : Reader) (x : Tree) (a : Around) (l : ℕ) (ts rest : List ParserToken) → spells x ts rest → l ≤ level_of x → Ends a l rest → reader i a (level_of x) ts ≡ Ok (x, rest) → reader i a l ts ≡ Ok (x, rest)
 raise i x a l ts rest s less ends e = climb i a x ts rest (level_of x) l less (record { first = first x ts rest s; counted = λ h k. uncounted x a ts rest s k (ends.names h) }) ends e
 
 -- ---- what is read is shorter
 
-pub reader_short : (strict : Bool) (room : ℕ) (a : Around) (l : ℕ) (ts : List Seen) (x : Tree) (rest : List Seen) → reader (within strict room) a l ts ≡ Ok (x, rest) → length rest < length ts
+pub reader_short : (strict : Bool) (room : ℕ) (a : Around) (l : ℕ) (ts : List ParserToken) (x : Tree) (rest : List ParserToken) → reader (within strict room) a l ts ≡ Ok (x, rest) → length rest < length ts
 reader_short strict room a zero ts x rest e = (node_reads strict room (within strict room) (within_reads strict room) a ts x rest e).0.shorter
 reader_short strict room a (suc zero) ts x rest e = (iff_reads strict room (within strict room) (within_reads strict room) a ts x rest e).0.shorter
 reader_short strict room a (suc (suc zero)) ts x rest e = (implication_reads strict room (within strict room) (within_reads strict room) a ts x rest e).0.shorter
@@ -198,7 +198,7 @@ reader_short strict room a (suc (suc (suc (suc (suc (suc (suc (suc (suc (suc (su
 -- ---- what ends a part
 
 -- a closing token, a word or a bar ends everything
-pub closed : (a : Around) (c : Class) (l : ℕ) (ts rest : List Seen) → mark_of c ts rest → continues c ≡ 20 → is_class c class.Colon ≡ false → is_class c class.Comma ≡ false → Ends a l ts
+pub closed : (a : Around) (c : Class) (l : ℕ) (ts rest : List ParserToken) → mark_of c ts rest → continues c ≡ 20 → is_class c class.Colon ≡ false → is_class c class.Comma ≡ false → Ends a l ts
 closed a c l ts rest m none e f = ends_at a c l ts rest m (inr none) (λ _. names_end a c ts rest m e f)
 
 pub operator_continues : (o : Operator) → continues (class_of_operator o) ≡ level_of_operator o
@@ -215,17 +215,17 @@ operator_continues operator.Domain = refl
 operator_continues operator.Range = refl
 
 -- an operator ends an operand of its chain
-pub operator_ends : (a : Around) (o : Operator) (p : Place) (ts rest : List Seen) → sign (class_of_operator o) p ts rest → Ends a (suc (level_of_operator o)) ts
+pub operator_ends : (a : Around) (o : Operator) (p : Place) (ts rest : List ParserToken) → sign (class_of_operator o) p ts rest → Ends a (suc (level_of_operator o)) ts
 operator_ends a o p ts rest s =
     let m = marks (class_of_operator o) p ts rest s in
     let k = operator_parts o in
     ends_at a (class_of_operator o) (suc (level_of_operator o)) ts rest m (inl (omega (arith, operator_continues o))) (λ _. names_end a (class_of_operator o) ts rest m k.1 k.0)
 
-pub implies_ends : (a : Around) (p : Place) (ts rest : List Seen) → sign class.Implies p ts rest → Ends a 3 ts
+pub implies_ends : (a : Around) (p : Place) (ts rest : List ParserToken) → sign class.Implies p ts rest → Ends a 3 ts
 unfolding continues is_class
 implies_ends a p ts rest s = let m = marks class.Implies p ts rest s in ends_at a class.Implies 3 ts rest m (inl (omega arith)) (λ _. names_end a class.Implies ts rest m refl refl)
 
-not_loose : (a : Around) (c : Class) (ts rest : List Seen) → mark_of c ts rest → continues c ≡ 5 → Ends a 6 ts
+not_loose : (a : Around) (c : Class) (ts rest : List ParserToken) → mark_of c ts rest → continues c ≡ 5 → Ends a 6 ts
 not_loose a c ts rest m five = ends_at a c 6 ts rest m (inl (omega (arith, five))) (λ h. absurd (omega (arith, h)))
 
 comparison_five : (c : Comparison) → continues (class_of_comparison c) ≡ 5
@@ -237,7 +237,7 @@ comparison_five comparison.Greater = refl
 comparison_five comparison.AtMost = refl
 comparison_five comparison.AtLeast = refl
 
-pub comparing_ends : (a : Around) (c : Comparison) (b : Bool) (p : Place) (ts rest : List Seen) → comparing_over c b p ts rest → Ends a 6 ts
+pub comparing_ends : (a : Around) (c : Comparison) (b : Bool) (p : Place) (ts rest : List ParserToken) → comparing_over c b p ts rest → Ends a 6 ts
 unfolding continues
 comparing_ends a c false p ts rest s = not_loose a (class_of_comparison c) ts rest (marks (class_of_comparison c) p ts rest s) (comparison_five c)
 comparing_ends a comparison.In true p ts rest s = not_loose a class.Not ts s.0 (marks class.Not p ts s.0 s.1) refl
@@ -248,7 +248,7 @@ comparing_ends a comparison.AtMost true p ts rest s = absurd s
 comparing_ends a comparison.AtLeast true p ts rest s = absurd s
 
 -- anything ends what is as tight as a part of a path
-pub tight_ends : (a : Around) (l : ℕ) (ts : List Seen) → 14 ≤ l → Ends a l ts
+pub tight_ends : (a : Around) (l : ℕ) (ts : List ParserToken) → 14 ≤ l → Ends a l ts
 tight_ends a l ts h = record {
   disjunction = λ k. absurd (omega arith);
   iff = λ k. absurd (omega arith);
@@ -265,7 +265,7 @@ tight_ends a l ts h = record {
 }
 
 -- what ends a quantifier ends its body, where no operator of formulas follows
-pub body_ends : (a : Around) (l : ℕ) (ts : List Seen) → l ≤ 4 → Ends a l ts → begins_operator ts ≡ false → Ends a 0 ts
+pub body_ends : (a : Around) (l : ℕ) (ts : List ParserToken) → l ≤ 4 → Ends a l ts → begins_operator ts ≡ false → Ends a 0 ts
 unfolding begins_operator
 body_ends a l ts h e none =
     let p = both_false (next_is class.Or ts) (next_is class.Iff ts || (next_is class.Implies ts || next_is class.And ts)) none in
@@ -287,7 +287,7 @@ body_ends a l ts h e none =
     }
 
 -- where a chain may end, no further operator of it follows
-pub kind_ends : (a : Around) (o : Operator) (ts : List Seen) → Ends a (level_of_operator o) ts → kind_test (kind_of o) ts ≡ false
+pub kind_ends : (a : Around) (o : Operator) (ts : List ParserToken) → Ends a (level_of_operator o) ts → kind_test (kind_of o) ts ≡ false
 unfolding kind_of begins_link
 kind_ends a operator.Or ts e = e.disjunction (omega arith)
 kind_ends a operator.Iff ts e = e.iff (omega arith)
@@ -301,19 +301,19 @@ kind_ends a operator.Domain ts e = e.restrict (omega arith)
 kind_ends a operator.Range ts e = e.restrict (omega arith)
 
 -- what ends a chain, or its next operator, ends an operand
-pub links_end : (a : Around) (o : Operator) (ls : Links) (ts rest : List Seen) → spells_links (level_of_operator o) ls ts rest → Ends a (level_of_operator o) rest → Ends a (suc (level_of_operator o)) ts
+pub links_end : (a : Around) (o : Operator) (ls : Links) (ts rest : List ParserToken) → spells_links (level_of_operator o) ls ts rest → Ends a (level_of_operator o) rest → Ends a (suc (level_of_operator o)) ts
 unfolding spells_links
 links_end a o no_links ts rest s e = subst (λ us. Ends a (suc (level_of_operator o)) us) (sym s) (tighter a (level_of_operator o) (suc (level_of_operator o)) rest (omega arith) e)
 links_end a o (more_links n p x ls) ts rest s e = subst (λ l. Ends a (suc l) ts) s.1.0 (operator_ends a n p ts s.0 s.1.1)
 
 -- ---- what ends a formula of a block, and an argument
 
-pub block_ends : (xs : Trees) (ts rest vs : List Seen) → spells_trees nothing nothing xs ts rest → mark_of class.RightBrace rest vs → Ends around.Braces 0 ts
+pub block_ends : (xs : Trees) (ts rest vs : List ParserToken) → spells_trees nothing nothing xs ts rest → mark_of class.RightBrace rest vs → Ends around.Braces 0 ts
 unfolding spells_trees continues is_class
 block_ends no_trees ts rest vs s m = subst (λ us. Ends around.Braces 0 us) (sym s) (closed around.Braces class.RightBrace 0 rest vs m refl refl refl)
 block_ends (more_trees x xs) ts rest vs s m = formula_ends x ts s.2.0 (subst (λ us. spells x us s.2.0) (sym s.1) s.2.1)
 
-pub block_has_no_names : (xs : Trees) (ts rest vs : List Seen) → spells_trees nothing nothing xs ts rest → mark_of class.RightBrace rest vs → colon_after_names ts ≡ false
+pub block_has_no_names : (xs : Trees) (ts rest vs : List ParserToken) → spells_trees nothing nothing xs ts rest → mark_of class.RightBrace rest vs → colon_after_names ts ≡ false
 unfolding spells_trees is_class
 block_has_no_names no_trees ts rest vs s m =
     elim (either (colon_after_names ts)) [
@@ -328,7 +328,7 @@ block_has_no_names (more_trees x xs) ts rest vs s m =
           true_not_false (sym (names_go_on x ts s.2.0 (subst (λ us. spells x us s.2.0) (sym s.1) s.2.1) is) ∙ rw (n.0, n.1) refl))
     ]
 
-pub arguments_end : (xs : Trees) (ts rest vs : List Seen) → spells_trees comma comma xs ts rest → mark_of class.RightBracket rest vs → Ends around.Brackets 0 ts
+pub arguments_end : (xs : Trees) (ts rest vs : List ParserToken) → spells_trees comma comma xs ts rest → mark_of class.RightBracket rest vs → Ends around.Brackets 0 ts
 unfolding spells_trees continues is_class
 arguments_end no_trees ts rest vs s m = subst (λ us. Ends around.Brackets 0 us) (sym s) (closed around.Brackets class.RightBracket 0 rest vs m refl refl refl)
 arguments_end (more_trees x xs) ts rest vs s m =

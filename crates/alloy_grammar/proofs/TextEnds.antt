@@ -16,7 +16,7 @@ use Rattle.alloy_syntax.specs.declared.tree.Operator.{Operator}
 use Rattle.alloy_syntax.specs.declared.tree.Operator.TheVariants as operator
 use Rattle.alloy_syntax.specs.declared.tree.Comparison.TheVariants as comparison
 use Rattle.alloy_syntax.specs.declared.tree.Comparison.{Comparison}
-use Rattle.alloy_syntax.specs.declared.seen.Seen.{Seen}
+use Rattle.alloy_syntax.specs.declared.parser_token.ParserToken.{ParserToken}
 use Rattle.alloy_syntax.specs.Class.{is_class}
 use Rattle.alloy_syntax.specs.Tree.{Tree, named, numbered, constant, bracketed, block, prefixed, chain, path, compared, implies, implies_else, quantified, bound_by_let, no_links, more_links, no_steps, join_first, brackets_first, Declarations, no_declarations, more_declarations}
 use Rattle.alloy_syntax.specs.Readers.{next_is, after, is_mark, colon_after_names}
@@ -35,26 +35,26 @@ unfolding is_class
 same_class class.Name = refl
 same_class _ = refl
 
-pub is_next : (c : Class) (ts rest : List Seen) → mark_of c ts rest → next_is c ts ≡ true
+pub is_next : (c : Class) (ts rest : List ParserToken) → mark_of c ts rest → next_is c ts ≡ true
 unfolding next_is
 is_next c ts rest m = subst (λ us. next_is c us ≡ true) (sym m.1) (subst (λ k. is_class k c ≡ true) (sym m.2) (same_class c))
 
-pub after_is : (c : Class) (ts rest : List Seen) → mark_of c ts rest → after ts ≡ rest
+pub after_is : (c : Class) (ts rest : List ParserToken) → mark_of c ts rest → after ts ≡ rest
 after_is c ts rest m = ap after m.1
 
-pub differs : (c d : Class) (ts rest : List Seen) → mark_of c ts rest → is_class c d ≡ false → next_is d ts ≡ false
+pub differs : (c d : Class) (ts rest : List ParserToken) → mark_of c ts rest → is_class c d ≡ false → next_is d ts ≡ false
 differs c d ts rest m apart = other c d ts (is_next c ts rest m) apart
 
 -- ---- what may stand behind
 
 -- no comma and no colon, where a name before it would begin variables
-abbrev pub NoNames : Around → List Seen → Type 0
+abbrev pub NoNames : Around → List ParserToken → Type 0
 NoNames around.Braces ts = (next_is class.Colon ts ≡ false) × (next_is class.Comma ts ≡ false)
 NoNames around.Brackets ts = (next_is class.Colon ts ≡ false) × ((next_is class.Comma ts && colon_after_names (after ts)) ≡ false)
 NoNames around.Parens ts = (next_is class.Colon ts ≡ false) × (next_is class.Comma ts ≡ false)
 
 -- no part of that level, or of a tighter one, goes on with these tokens
-pub record Ends (a : Around) (l : ℕ) (ts : List Seen) : Type 0 where
+pub record Ends (a : Around) (l : ℕ) (ts : List ParserToken) : Type 0 where
   pub disjunction : l ≤ 0 → next_is class.Or ts ≡ false
   pub iff : l ≤ 1 → next_is class.Iff ts ≡ false
   pub implication : l ≤ 2 → next_is class.Implies ts ≡ false
@@ -68,7 +68,7 @@ pub record Ends (a : Around) (l : ℕ) (ts : List Seen) : Type 0 where
   pub restrict : l ≤ 12 → begins_link level.Restrict ts ≡ false
   pub step : l ≤ 13 → begins_step ts ≡ false
 
-pub tighter : (a : Around) (l m : ℕ) (ts : List Seen) → l ≤ m → Ends a l ts → Ends a m ts
+pub tighter : (a : Around) (l m : ℕ) (ts : List ParserToken) → l ≤ m → Ends a l ts → Ends a m ts
 tighter a l m ts less e = record {
   disjunction = λ h. e.disjunction (omega arith);
   iff = λ h. e.iff (omega arith);
@@ -127,19 +127,19 @@ apart c d l quiet less small =
           elim quiet [ inl loose ↦ absurd (omega (arith, same, loose)) | inr none ↦ absurd (omega (arith, same, none)) ])
     ]
 
-quiet_at : (c d : Class) (l : ℕ) (ts rest : List Seen) → mark_of c ts rest → Quiet c l → l ≤ continues d → continues d < 20 → next_is d ts ≡ false
+quiet_at : (c d : Class) (l : ℕ) (ts rest : List ParserToken) → mark_of c ts rest → Quiet c l → l ≤ continues d → continues d < 20 → next_is d ts ≡ false
 quiet_at c d l ts rest m quiet less small = differs c d ts rest m (apart c d l quiet less small)
 
 or_two : (a b : Bool) → a ≡ false → b ≡ false → (a || b) ≡ false
 or_two a b e f = rw (e, f) refl
 
-no_mark : (c : Class) (l : ℕ) (ts rest : List Seen) → mark_of c ts rest → Quiet c l → l ≤ 11 → is_mark ts ≡ false
+no_mark : (c : Class) (l : ℕ) (ts rest : List ParserToken) → mark_of c ts rest → Quiet c l → l ≤ 11 → is_mark ts ≡ false
 unfolding is_mark continues
 no_mark c l ts rest m quiet less =
     rw (quiet_at c class.Set l ts rest m quiet less (omega arith), quiet_at c class.One l ts rest m quiet less (omega arith), quiet_at c class.Lone l ts rest m quiet less (omega arith), quiet_at c class.Some l ts rest m quiet less (omega arith)) refl
 
 -- a quiet token ends all of that level and of tighter ones
-pub ends_at : (a : Around) (c : Class) (l : ℕ) (ts rest : List Seen) → mark_of c ts rest → Quiet c l → (l ≤ 4 → NoNames a ts) → Ends a l ts
+pub ends_at : (a : Around) (c : Class) (l : ℕ) (ts rest : List ParserToken) → mark_of c ts rest → Quiet c l → (l ≤ 4 → NoNames a ts) → Ends a l ts
 unfolding continues begins_link begins_step begins_arrow begins_comparison is_plain_comparison
 ends_at a c l ts rest m quiet names_stop = record {
   disjunction = λ h. quiet_at c class.Or l ts rest m quiet h (omega arith);
@@ -165,7 +165,7 @@ ends_at a c l ts rest m quiet names_stop = record {
   step = λ h. or_two (next_is class.Dot ts) (next_is class.LeftBracket ts) (quiet_at c class.Dot l ts rest m quiet h (omega arith)) (quiet_at c class.LeftBracket l ts rest m quiet h (omega arith));
 }
 
-pub names_end : (a : Around) (c : Class) (ts rest : List Seen) → mark_of c ts rest → is_class c class.Colon ≡ false → is_class c class.Comma ≡ false → NoNames a ts
+pub names_end : (a : Around) (c : Class) (ts rest : List ParserToken) → mark_of c ts rest → is_class c class.Colon ≡ false → is_class c class.Comma ≡ false → NoNames a ts
 names_end around.Braces c ts rest m colon other = (differs c class.Colon ts rest m colon, differs c class.Comma ts rest m other)
 names_end around.Brackets c ts rest m colon other = (differs c class.Colon ts rest m colon, rw (differs c class.Comma ts rest m other) refl)
 names_end around.Parens c ts rest m colon other = (differs c class.Colon ts rest m colon, differs c class.Comma ts rest m other)
@@ -173,10 +173,10 @@ names_end around.Parens c ts rest m colon other = (differs c class.Colon ts rest
 -- ---- behind a name that begins a text
 
 -- a comma or a colon
-abbrev pub parts_names : List Seen → Bool
+abbrev pub parts_names : List ParserToken → Bool
 parts_names ts = next_is class.Comma ts || next_is class.Colon ts
 
-parts_not : (c : Class) (ts rest : List Seen) → mark_of c ts rest → is_class c class.Comma ≡ false → is_class c class.Colon ≡ false → parts_names ts ≡ false
+parts_not : (c : Class) (ts rest : List ParserToken) → mark_of c ts rest → is_class c class.Comma ≡ false → is_class c class.Colon ≡ false → parts_names ts ≡ false
 parts_not c ts rest m e f = or_two (next_is class.Comma ts) (next_is class.Colon ts) (differs c class.Comma ts rest m e) (differs c class.Colon ts rest m f)
 
 pub operator_parts : (o : Operator) → (is_class (class_of_operator o) class.Comma ≡ false) × (is_class (class_of_operator o) class.Colon ≡ false)
@@ -189,7 +189,7 @@ unfolding is_class
 comparison_parts comparison.In = (refl, refl)
 comparison_parts _ = (refl, refl)
 
-pub comparing_begins : (c : Comparison) (b : Bool) (p : Place) (ts rest : List Seen) → comparing_over c b p ts rest → parts_names ts ≡ false
+pub comparing_begins : (c : Comparison) (b : Bool) (p : Place) (ts rest : List ParserToken) → comparing_over c b p ts rest → parts_names ts ≡ false
 unfolding is_class
 comparing_begins c false p ts rest s = let k = comparison_parts c in parts_not (class_of_comparison c) ts rest (marks (class_of_comparison c) p ts rest s) k.0 k.1
 comparing_begins comparison.In true p ts rest s = parts_not class.Not ts s.0 (marks class.Not p ts s.0 s.1) refl refl
@@ -200,10 +200,10 @@ comparing_begins comparison.Greater true p ts rest s = absurd s
 comparing_begins comparison.AtMost true p ts rest s = absurd s
 comparing_begins comparison.AtLeast true p ts rest s = absurd s
 
-no_name : {P : Type 0} (c : Class) (ts rest : List Seen) → mark_of c ts rest → is_class c class.Name ≡ false → next_is class.Name ts ≡ true → P
+no_name : {P : Type 0} (c : Class) (ts rest : List ParserToken) → mark_of c ts rest → is_class c class.Name ≡ false → next_is class.Name ts ≡ true → P
 no_name c ts rest m apart is = true_not_false (sym is ∙ differs c class.Name ts rest m apart)
 
-not_there : {P : Type 0} (ts us : List Seen) → after ts ≡ us → parts_names (after ts) ≡ true → parts_names us ≡ false → P
+not_there : {P : Type 0} (ts us : List ParserToken) → after ts ≡ us → parts_names (after ts) ≡ true → parts_names us ≡ false → P
 not_there ts us same parts none = true_not_false (sym parts ∙ (ap parts_names same ∙ none))
 
 prefix_name : (f : Prefix) → is_class (class_of_prefix f) class.Name ≡ false
@@ -222,7 +222,7 @@ constant_name constants.None = refl
 constant_name _ = refl
 
 -- where a comma or a colon stands behind a name that begins a tree's text, the name is all of it
-pub then_name : (x : Tree) (ts rest : List Seen) → spells x ts rest → next_is class.Name ts ≡ true → parts_names (after ts) ≡ true → after ts ≡ rest
+pub then_name : (x : Tree) (ts rest : List ParserToken) → spells x ts rest → next_is class.Name ts ≡ true → parts_names (after ts) ≡ true → after ts ≡ rest
 unfolding spells spells_links spells_steps is_class
 then_name (named n) ts rest s is parts = elim s [ inl m ↦ ap after m.1 | inr m ↦ ap after m.1 ]
 then_name (numbered n) ts rest s is parts = ap after s.1
@@ -247,11 +247,11 @@ then_name (bound_by_let p bs x) ts rest s is parts = no_name class.Let ts s.0 (m
 -- ---- names with commas and a colon
 
 -- what a text of names with commas and a colon goes on with
-abbrev pub goes_on_with_names : List Seen → Bool
+abbrev pub goes_on_with_names : List ParserToken → Bool
 goes_on_with_names ts = next_is class.Colon ts || (next_is class.Comma ts && colon_after_names (after ts))
 
 -- a name, and a colon or a comma with more
-pub unfolds_names : (ts : List Seen) → colon_after_names ts ≡ true → (next_is class.Name ts ≡ true) × (goes_on_with_names (after ts) ≡ true)
+pub unfolds_names : (ts : List ParserToken) → colon_after_names ts ≡ true → (next_is class.Name ts ≡ true) × (goes_on_with_names (after ts) ≡ true)
 unfolding colon_after_names next_is
 unfolds_names [] e = true_not_false (sym e)
 unfolds_names (n ∷ []) e = true_not_false (sym e)
@@ -264,7 +264,7 @@ some_parts false true c e = refl
 some_parts false false c e = true_not_false (sym e)
 
 -- where a tree's text begins names with commas and a colon, so does what stands behind it
-pub names_go_on : (x : Tree) (ts rest : List Seen) → spells x ts rest → colon_after_names ts ≡ true → goes_on_with_names rest ≡ true
+pub names_go_on : (x : Tree) (ts rest : List ParserToken) → spells x ts rest → colon_after_names ts ≡ true → goes_on_with_names rest ≡ true
 names_go_on x ts rest s e =
     let both = unfolds_names ts e in
     let parts = some_parts (next_is class.Colon (after ts)) (next_is class.Comma (after ts)) (colon_after_names (after (after ts))) both.1 in
@@ -273,10 +273,10 @@ names_go_on x ts rest s e =
 -- ---- words that begin a text
 
 -- behind a `!` no comparison goes on, and behind a multiplicity word no arrow
-abbrev pub Words : List Seen → Type 0
+abbrev pub Words : List ParserToken → Type 0
 Words ts = (next_is class.Not ts ≡ true → (next_is class.In (after ts) ≡ false) × (next_is class.Equal (after ts) ≡ false)) × (is_mark ts ≡ true → next_is class.Arrow (after ts) ≡ false)
 
-no_words : (c : Class) (ts rest : List Seen) → mark_of c ts rest → is_class c class.Not ≡ false → is_class c class.Set ≡ false → is_class c class.One ≡ false → is_class c class.Lone ≡ false → is_class c class.Some ≡ false → Words ts
+no_words : (c : Class) (ts rest : List ParserToken) → mark_of c ts rest → is_class c class.Not ≡ false → is_class c class.Set ≡ false → is_class c class.One ≡ false → is_class c class.Lone ≡ false → is_class c class.Some ≡ false → Words ts
 unfolding is_mark
 no_words c ts rest m e1 e2 e3 e4 e5 = (
   λ is. true_not_false (sym is ∙ differs c class.Not ts rest m e1),
@@ -284,21 +284,21 @@ no_words c ts rest m e1 e2 e3 e4 e5 = (
 )
 
 -- behind the word stands what begins a tree
-words_before : (c : Class) (ts us : List Seen) (l : ℕ) → mark_of c ts us → First l us → Words ts
+words_before : (c : Class) (ts us : List ParserToken) (l : ℕ) → mark_of c ts us → First l us → Words ts
 unfolding rank
 words_before c ts us l m f = (
   λ is. (subst (λ vs. next_is class.In vs ≡ false) (sym (after_is c ts us m)) (never_first class.In refl l us f), subst (λ vs. next_is class.Equal vs ≡ false) (sym (after_is c ts us m)) (never_first class.Equal refl l us f)),
   λ is. subst (λ vs. next_is class.Arrow vs ≡ false) (sym (after_is c ts us m)) (never_first class.Arrow refl l us f),
 )
 
-constant_words : (c : Constant) (p : Place) (ts rest : List Seen) → sign (class_of_constant c) p ts rest → Words ts
+constant_words : (c : Constant) (p : Place) (ts rest : List ParserToken) → sign (class_of_constant c) p ts rest → Words ts
 unfolding is_class
 constant_words constants.None p ts rest s = no_words class.None ts rest (marks class.None p ts rest s) refl refl refl refl refl
 constant_words constants.Univ p ts rest s = no_words class.Univ ts rest (marks class.Univ p ts rest s) refl refl refl refl refl
 constant_words constants.Iden p ts rest s = no_words class.Iden ts rest (marks class.Iden p ts rest s) refl refl refl refl refl
 
 -- the names of variables, or `disj`, stand behind a quantifier
-declared_first : (ds : Declarations) (ts rest : List Seen) → IsTrue (has_declarations ds) → spells_declarations nothing ds ts rest → next_is class.Arrow ts ≡ false
+declared_first : (ds : Declarations) (ts rest : List ParserToken) → IsTrue (has_declarations ds) → spells_declarations nothing ds ts rest → next_is class.Arrow ts ≡ false
 unfolding spells_declarations is_class
 declared_first no_declarations ts rest is s = true_not_false (sym is)
 declared_first (more_declarations true ns m x ds) ts rest is s = subst (λ us. next_is class.Arrow us ≡ false) (sym s.1) (differs class.Disj class.Arrow s.0 s.2.0 s.2.1 refl)
@@ -313,14 +313,14 @@ unfolding is_class
 not_not quantifier.All = refl
 not_not _ = refl
 
-quantifier_words : (q : Quantifier) (p : Place) (ts us : List Seen) → sign (class_of_quantifier q) p ts us → next_is class.Arrow us ≡ false → Words ts
+quantifier_words : (q : Quantifier) (p : Place) (ts us : List ParserToken) → sign (class_of_quantifier q) p ts us → next_is class.Arrow us ≡ false → Words ts
 unfolding is_class
 quantifier_words q p ts us s none = (
   λ is. true_not_false (sym is ∙ differs (class_of_quantifier q) class.Not ts us (marks (class_of_quantifier q) p ts us s) (not_not q)),
   λ is. subst (λ vs. next_is class.Arrow vs ≡ false) (sym (ap after s.1)) none,
 )
 
-pub words : (x : Tree) (ts rest : List Seen) → spells x ts rest → Words ts
+pub words : (x : Tree) (ts rest : List ParserToken) → spells x ts rest → Words ts
 unfolding spells is_class
 words (named n) ts rest s = elim s [
   | inl m ↦ no_words class.Name ts rest (m.0, m.1, m.2) refl refl refl refl refl
@@ -342,7 +342,7 @@ words (bound_by_let p bs x) ts rest s = no_words class.Let ts s.0 (marks class.L
 -- ---- the next formula of a block
 
 -- the next formula of a block ends the one before it
-pub formula_ends : (x : Tree) (ts rest : List Seen) → spells x ts rest → Ends around.Braces 0 ts
+pub formula_ends : (x : Tree) (ts rest : List ParserToken) → spells x ts rest → Ends around.Braces 0 ts
 unfolding rank begins_link begins_step begins_arrow begins_comparison is_plain_comparison in_braces
 formula_ends x ts rest s =
     let f = first x ts rest s in

@@ -6,7 +6,7 @@ use Rattle.alloy_syntax.specs.declared.class.Class.{Class}
 use Rattle.alloy_syntax.specs.declared.class.Class.TheVariants as class
 use Rattle.alloy_syntax.specs.declared.tree.Name.{Name}
 use Rattle.alloy_syntax.specs.declared.tree.Number.{Number}
-use Rattle.alloy_syntax.specs.declared.seen.Seen.{Seen}
+use Rattle.alloy_syntax.specs.declared.parser_token.ParserToken.{ParserToken}
 use Rattle.alloy_syntax.specs.Class.{is_class, code_of}
 use Rattle.alloy_syntax.specs.Readers.{next_is, after, place_at, one, expect, spelled_at, number_at, is_mark, mark_at, after_mark, multiplicity_of, value_from}
 use Rattle.alloy_syntax.specs.declared.reading.Level.{Level}
@@ -39,21 +39,21 @@ class_is c d e = sym (at_code c) ∙ (ap (λ n. get_or classes n class.Refused) 
 
 -- ---- one token
 
-pub token : (c : Class) (ts : List Seen) → next_is c ts ≡ true → sign c (place_at ts) ts (after ts)
+pub token : (c : Class) (ts : List ParserToken) → next_is c ts ≡ true → sign c (place_at ts) ts (after ts)
 unfolding next_is
 token c [] e = absurd cc
 token c (t ∷ ts) e = (t, refl, class_is t.class c e, refl)
 
-pub token_is_one : (c : Class) (p : Place) (ts rest : List Seen) → sign c p ts rest → length rest < length ts
+pub token_is_one : (c : Class) (p : Place) (ts rest : List ParserToken) → sign c p ts rest → length rest < length ts
 token_is_one c p ts rest s = omega (arith, ap length s.1)
 
-pub marks : (c : Class) (p : Place) (ts rest : List Seen) → sign c p ts rest → mark_of c ts rest
+pub marks : (c : Class) (p : Place) (ts rest : List ParserToken) → sign c p ts rest → mark_of c ts rest
 marks c p ts rest s = (s.0, s.1, s.2)
 
-pub mark_is_one : (c : Class) (ts rest : List Seen) → mark_of c ts rest → length rest < length ts
+pub mark_is_one : (c : Class) (ts rest : List ParserToken) → mark_of c ts rest → length rest < length ts
 mark_is_one c ts rest s = omega (arith, ap length s.1)
 
-one_read : {A : Type 0} (c : Class) (f : Seen → A) (ts : List Seen) (x : A) (rest : List Seen) → one c f ts ≡ Ok (x, rest) → (t : Seen) × (ts ≡ t ∷ rest) × (t.class ≡ c) × (f t ≡ x)
+one_read : {A : Type 0} (c : Class) (f : ParserToken → A) (ts : List ParserToken) (x : A) (rest : List ParserToken) → one c f ts ≡ Ok (x, rest) → (t : ParserToken) × (ts ≡ t ∷ rest) × (t.class ≡ c) × (f t ≡ x)
 one_read c f [] x rest e = no_success _ _ e
 one_read c f (t ∷ ts) x rest e =
     elim (either (is_class t.class c)) [
@@ -61,17 +61,17 @@ one_read c f (t ∷ ts) x rest e =
       | inr other ↦ no_success _ _ (rw other at e)
     ]
 
-pub expect_read : (c : Class) (ts : List Seen) (p : Place) (rest : List Seen) → expect c ts ≡ Ok (p, rest) → sign c p ts rest
+pub expect_read : (c : Class) (ts : List ParserToken) (p : Place) (rest : List ParserToken) → expect c ts ≡ Ok (p, rest) → sign c p ts rest
 unfolding expect
 expect_read c ts p rest e = one_read c (λ t. t.place) ts p rest e
 
-pub spelled_read : (c : Class) (ts : List Seen) (n : Name) (rest : List Seen) → spelled_at c ts ≡ Ok (n, rest) → spelled_as c n ts rest
+pub spelled_read : (c : Class) (ts : List ParserToken) (n : Name) (rest : List ParserToken) → spelled_at c ts ≡ Ok (n, rest) → spelled_as c n ts rest
 unfolding spelled_at
 spelled_read c ts n rest e =
     let r = one_read c (λ t. record { text = t.text; place = t.place }) ts n rest e in
     (r.0, r.1, r.2, ap (λ (m : Name). m.text) r.3, ap (λ (m : Name). m.place) r.3)
 
-pub spelled_is_one : (c : Class) (n : Name) (ts rest : List Seen) → spelled_as c n ts rest → length rest < length ts
+pub spelled_is_one : (c : Class) (n : Name) (ts rest : List ParserToken) → spelled_as c n ts rest → length rest < length ts
 spelled_is_one c n ts rest s = omega (arith, ap length s.1)
 
 -- ---- which token of several it is
@@ -80,7 +80,7 @@ pub and_left : (a b : Bool) → (a && b) ≡ true → a ≡ true
 and_left true b e = refl
 and_left false b e = e
 
-pub counting_sign : (ts : List Seen) → is_counting ts ≡ true → sign (class_of_prefix (counting_of ts)) (place_at ts) ts (after ts)
+pub counting_sign : (ts : List ParserToken) → is_counting ts ≡ true → sign (class_of_prefix (counting_of ts)) (place_at ts) ts (after ts)
 unfolding is_counting counting_of
 counting_sign ts e =
     elim (either (next_is class.Some ts)) [
@@ -94,7 +94,7 @@ counting_sign ts e =
       ]
     ]
 
-pub counting_levels : (ts : List Seen) → (level_of_prefix (counting_of ts) ≡ counted_level) × (level_behind (counting_of ts) ≡ sum_level)
+pub counting_levels : (ts : List ParserToken) → (level_of_prefix (counting_of ts) ≡ counted_level) × (level_behind (counting_of ts) ≡ sum_level)
 unfolding counting_of
 counting_levels ts =
     elim (either (next_is class.Some ts)) [
@@ -105,7 +105,7 @@ counting_levels ts =
       ]
     ]
 
-pub quantifier_sign : (ts : List Seen) → is_counting ts ≡ true → sign (class_of_quantifier (quantifier_of ts)) (place_at ts) ts (after ts)
+pub quantifier_sign : (ts : List ParserToken) → is_counting ts ≡ true → sign (class_of_quantifier (quantifier_of ts)) (place_at ts) ts (after ts)
 unfolding is_counting quantifier_of
 quantifier_sign ts e =
     elim (either (next_is class.Some ts)) [
@@ -119,7 +119,7 @@ quantifier_sign ts e =
       ]
     ]
 
-pub tightening_sign : (ts : List Seen) → is_tightening ts ≡ true → sign (class_of_prefix (tightening_of ts)) (place_at ts) ts (after ts)
+pub tightening_sign : (ts : List ParserToken) → is_tightening ts ≡ true → sign (class_of_prefix (tightening_of ts)) (place_at ts) ts (after ts)
 unfolding is_tightening tightening_of
 tightening_sign ts e =
     elim (either (next_is class.Tilde ts)) [
@@ -127,7 +127,7 @@ tightening_sign ts e =
       | inr a ↦ elim (either (next_is class.Caret ts)) [ inl is ↦ rw (a, is) (token class.Caret ts is) | inr b ↦ rw (a, b) (token class.Star ts (rw (a, b) at e)) ]
     ]
 
-pub tightening_levels : (ts : List Seen) → (level_of_prefix (tightening_of ts) ≡ tight_level) × (level_behind (tightening_of ts) ≡ tight_level)
+pub tightening_levels : (ts : List ParserToken) → (level_of_prefix (tightening_of ts) ≡ tight_level) × (level_behind (tightening_of ts) ≡ tight_level)
 unfolding tightening_of
 tightening_levels ts =
     elim (either (next_is class.Tilde ts)) [
@@ -135,7 +135,7 @@ tightening_levels ts =
       | inr a ↦ elim (either (next_is class.Caret ts)) [ inl is ↦ rw (a, is) (refl, refl) | inr b ↦ rw (a, b) (refl, refl) ]
     ]
 
-pub constant_sign : (ts : List Seen) → is_constant ts ≡ true → sign (class_of_constant (constant_of ts)) (place_at ts) ts (after ts)
+pub constant_sign : (ts : List ParserToken) → is_constant ts ≡ true → sign (class_of_constant (constant_of ts)) (place_at ts) ts (after ts)
 unfolding is_constant constant_of
 constant_sign ts e =
     elim (either (next_is class.None ts)) [
@@ -153,7 +153,7 @@ number_of level.Override = override_level
 number_of level.Meet = meet_level
 number_of level.Restrict = restrict_level
 
-pub link_sign : (l : Level) (ts : List Seen) → begins_link l ts ≡ true → sign (class_of_operator (operator_of l ts)) (place_at ts) ts (after ts)
+pub link_sign : (l : Level) (ts : List ParserToken) → begins_link l ts ≡ true → sign (class_of_operator (operator_of l ts)) (place_at ts) ts (after ts)
 unfolding begins_link operator_of
 link_sign level.Or ts e = token class.Or ts e
 link_sign level.Iff ts e = token class.Iff ts e
@@ -163,7 +163,7 @@ link_sign level.Override ts e = token class.PlusPlus ts e
 link_sign level.Meet ts e = token class.Ampersand ts e
 link_sign level.Restrict ts e = elim (either (next_is class.DomainArrow ts)) [ inl is ↦ rw is (token class.DomainArrow ts is) | inr a ↦ rw a (token class.RangeArrow ts (rw a at e)) ]
 
-pub link_level : (l : Level) (ts : List Seen) → level_of_operator (operator_of l ts) ≡ number_of l
+pub link_level : (l : Level) (ts : List ParserToken) → level_of_operator (operator_of l ts) ≡ number_of l
 unfolding operator_of
 link_level level.Or ts = refl
 link_level level.Iff ts = refl
@@ -175,7 +175,7 @@ link_level level.Restrict ts = elim (either (next_is class.DomainArrow ts)) [ in
 
 -- ---- multiplicity words
 
-pub multiplicity_sign : (ts : List Seen) → is_mark ts ≡ true → sign (class_of_multiplicity (multiplicity_of ts)) (place_at ts) ts (after ts)
+pub multiplicity_sign : (ts : List ParserToken) → is_mark ts ≡ true → sign (class_of_multiplicity (multiplicity_of ts)) (place_at ts) ts (after ts)
 unfolding is_mark
 multiplicity_sign ts e =
     elim (either (next_is class.Set ts)) [
@@ -189,23 +189,23 @@ multiplicity_sign ts e =
       ]
     ]
 
-pub mark_read : (ts : List Seen) → mark (mark_at ts) ts (after_mark ts)
+pub mark_read : (ts : List ParserToken) → mark (mark_at ts) ts (after_mark ts)
 unfolding mark_at after_mark
 mark_read ts = elim (either (is_mark ts)) [ inl is ↦ rw is (multiplicity_sign ts is) | inr other ↦ rw other refl ]
 
-pub after_is_short : (ts : List Seen) → length (after ts) ≤ length ts
+pub after_is_short : (ts : List ParserToken) → length (after ts) ≤ length ts
 after_is_short [] = omega arith
 after_is_short (t ∷ ts) = omega arith
 
-pub after_mark_is_short : (ts : List Seen) → length (after_mark ts) ≤ length ts
+pub after_mark_is_short : (ts : List ParserToken) → length (after_mark ts) ≤ length ts
 unfolding after_mark
 after_mark_is_short ts = elim (either (is_mark ts)) [ inl is ↦ rw is (after_is_short ts) | inr other ↦ rw other (omega arith) ]
 
 -- a word that may stand there, or not
-pub flag_read : (c : Class) (ts : List Seen) → flag c (next_is c ts) ts (if next_is c ts then after ts else ts)
+pub flag_read : (c : Class) (ts : List ParserToken) → flag c (next_is c ts) ts (if next_is c ts then after ts else ts)
 flag_read c ts = elim (either (next_is c ts)) [ inl is ↦ rw is (marks c (place_at ts) ts (after ts) (token c ts is)) | inr other ↦ rw other refl ]
 
-pub number_read : (ts : List Seen) (n : Number) (rest : List Seen) → number_at ts ≡ Ok (n, rest) → number n ts rest
+pub number_read : (ts : List ParserToken) (n : Number) (rest : List ParserToken) → number_at ts ≡ Ok (n, rest) → number n ts rest
 unfolding number_at
 number_read ts n rest e =
     let r = one_read class.Number (λ t. record { value = value_from 0 t.text; place = t.place }) ts n rest e in
@@ -220,12 +220,12 @@ and_right true b e = e
 and_right false b e = absurd cc
 
 -- one terminal is no other
-pub other : (c d : Class) (ts : List Seen) → next_is c ts ≡ true → is_class c d ≡ false → next_is d ts ≡ false
+pub other : (c d : Class) (ts : List ParserToken) → next_is c ts ≡ true → is_class c d ≡ false → next_is d ts ≡ false
 unfolding next_is
 other c d [] e differs = refl
 other c d (t ∷ ts) e differs = ap (λ k. is_class k d) (class_is t.class c e) ∙ differs
 
-plain_comparing : (ts : List Seen) → is_plain_comparison ts ≡ true → comparing_over (comparison_of ts) (next_is class.NotEqual ts) (place_at ts) ts (after ts)
+plain_comparing : (ts : List ParserToken) → is_plain_comparison ts ≡ true → comparing_over (comparison_of ts) (next_is class.NotEqual ts) (place_at ts) ts (after ts)
 unfolding is_plain_comparison comparison_of is_class
 plain_comparing ts e =
     elim (either (next_is class.In ts)) [
@@ -251,7 +251,7 @@ plain_comparing ts e =
       ]
     ]
 
-negated_read : (ts : List Seen) (c : Comparing) (rest : List Seen) → next_is class.Not ts ≡ true → negated_comparing ts ≡ Ok (c, rest) → comparing c ts rest × (length rest ≤ length ts)
+negated_read : (ts : List ParserToken) (c : Comparing) (rest : List ParserToken) → next_is class.Not ts ≡ true → negated_comparing ts ≡ Ok (c, rest) → comparing c ts rest × (length rest ≤ length ts)
 unfolding negated_comparing comparison_of is_class
 negated_read ts c rest word e =
     let short : length (after (after ts)) ≤ length ts = omega (arith, after_is_short ts, after_is_short (after ts)) in
@@ -271,7 +271,7 @@ negated_read ts c rest word e =
       ]
     ]
 
-pub comparing_read : (a : Around) (ts : List Seen) (c : Comparing) (rest : List Seen) → begins_comparison a ts ≡ true → comparing_at ts ≡ Ok (c, rest) → comparing c ts rest × (length rest ≤ length ts)
+pub comparing_read : (a : Around) (ts : List ParserToken) (c : Comparing) (rest : List ParserToken) → begins_comparison a ts ≡ true → comparing_at ts ≡ Ok (c, rest) → comparing c ts rest × (length rest ≤ length ts)
 unfolding comparing_at begins_comparison
 comparing_read a ts c rest goes e =
     elim (either (next_is class.Not ts)) [

@@ -7,7 +7,7 @@ use Rattle.alloy_syntax.specs.declared.reading.Around.TheVariants as around
 use Rattle.alloy_syntax.specs.declared.reading.Inside.TheVariants as inside
 use Rattle.alloy_syntax.specs.declared.tree.Operator.{Operator}
 use Rattle.alloy_syntax.specs.declared.tree.Operator.TheVariants as operator
-use Rattle.alloy_syntax.specs.declared.seen.Seen.{Seen}
+use Rattle.alloy_syntax.specs.declared.parser_token.ParserToken.{ParserToken}
 use Rattle.alloy_syntax.specs.Class.{is_class}
 use Rattle.alloy_syntax.specs.Tree.{Tree, named, numbered, constant, bracketed, block, prefixed, chain, path, compared, implies, implies_else, quantified, bound_by_let, Trees, no_trees, more_trees, Links, no_links, more_links, Steps, no_steps, join_first, brackets_first, in_brackets, Declarations, no_declarations, more_declarations, DeclarationTree, Bindings, no_bindings, more_bindings}
 use Rattle.alloy_syntax.specs.Readers.{next_is, behind}
@@ -39,12 +39,12 @@ unfolding first_operator
 links_level no_links = refl
 links_level (more_links o p y ls) = refl
 
-first_link_ends : (a : Around) (ls : Links) (ts rest : List Seen) → IsTrue (has_links ls) → spells_links (level_of_links ls) ls ts rest → Ends a (suc (level_of_links ls)) ts
+first_link_ends : (a : Around) (ls : Links) (ts rest : List ParserToken) → IsTrue (has_links ls) → spells_links (level_of_links ls) ls ts rest → Ends a (suc (level_of_links ls)) ts
 unfolding spells_links
 first_link_ends a no_links ts rest is s = true_not_false (sym is)
 first_link_ends a (more_links o p y ls) ts rest is s = operator_ends a o p ts s.0 s.1.1
 
-chain_read : (i : Reader) (a : Around) (x : Tree) (ls : Links) (ts us rest : List Seen) → IsTrue (has_links ls) → reader i a (suc (level_of_links ls)) ts ≡ Ok (x, us)
+chain_read : (i : Reader) (a : Around) (x : Tree) (ls : Links) (ts us rest : List ParserToken) → IsTrue (has_links ls) → reader i a (suc (level_of_links ls)) ts ≡ Ok (x, us)
     → each (Goes (kind_test (kind_of (first_operator ls))) (kind_link i a (kind_of (first_operator ls)))) (list_of_links ls) us rest → Ends a (level_of_links ls) rest → reader i a (level_of_links ls) ts ≡ Ok (chain x ls, rest)
 unfolding first_operator list_of_links
 chain_read i a x no_links ts us rest is e p ends = true_not_false (sym is)
@@ -53,7 +53,7 @@ chain_read i a x (more_links o q y ls) ts us rest is e p ends =
     let more = many_full (kind_test (kind_of o)) (kind_link i a (kind_of o)) ks us rest p (kind_ends a o rest ends) in
     subst (λ ms. reader i a (level_of_operator o) ts ≡ Ok (chain x ms, rest)) (links_of_list (more_links o q y ls)) (chain_full i a o x ks ts us rest e p.1.0 more)
 
-path_read : (i : Reader) (a : Around) (x : Tree) (ss : Steps) (ts us rest : List Seen) → IsTrue (has_steps ss) → tight_over i a ts ≡ Ok (x, us) → each (Goes begins_step (step_over i a)) (list_of_steps ss) us rest → begins_step rest ≡ false → path_over i a ts ≡ Ok (path x ss, rest)
+path_read : (i : Reader) (a : Around) (x : Tree) (ss : Steps) (ts us rest : List ParserToken) → IsTrue (has_steps ss) → tight_over i a ts ≡ Ok (x, us) → each (Goes begins_step (step_over i a)) (list_of_steps ss) us rest → begins_step rest ≡ false → path_over i a ts ≡ Ok (path x ss, rest)
 unfolding list_of_steps
 path_read i a x no_steps ts us rest is e p ends = true_not_false (sym is)
 path_read i a x (join_first q y ss) ts us rest is e p ends = path_full i a x (join_first q y ss) ts us rest e p.1.0 (many_full begins_step (step_over i a) (list_of_steps (join_first q y ss)) us rest p ends)
@@ -61,28 +61,28 @@ path_read i a x (brackets_first q ys ss) ts us rest is e p ends = path_full i a 
 
 -- ---- declarations and bindings
 
-comma_ends : (ts us : List Seen) → mark_of class.Comma ts us → Ends around.Parens 7 ts
+comma_ends : (ts us : List ParserToken) → mark_of class.Comma ts us → Ends around.Parens 7 ts
 unfolding continues
 comma_ends ts us m = ends_at around.Parens class.Comma 7 ts us m (inr refl) (λ h. absurd (omega (arith, h)))
 
-declared_end : (ds : Declarations) (ts rest : List Seen) → spells_declarations comma ds ts rest → Ends around.Parens 7 rest → Ends around.Parens 7 ts
+declared_end : (ds : Declarations) (ts rest : List ParserToken) → spells_declarations comma ds ts rest → Ends around.Parens 7 rest → Ends around.Parens 7 ts
 unfolding spells_declarations
 declared_end no_declarations ts rest s e = subst (λ us. Ends around.Parens 7 us) (sym s) e
 declared_end (more_declarations d ns m x ds) ts rest s e = comma_ends ts s.0 s.1
 
-bound_end : (bs : Bindings) (ts rest : List Seen) → spells_bindings comma bs ts rest → Ends around.Parens 7 rest → Ends around.Parens 7 ts
+bound_end : (bs : Bindings) (ts rest : List ParserToken) → spells_bindings comma bs ts rest → Ends around.Parens 7 rest → Ends around.Parens 7 ts
 unfolding spells_bindings
 bound_end no_bindings ts rest s e = subst (λ us. Ends around.Parens 7 us) (sym s) e
 bound_end (more_bindings n x bs) ts rest s e = comma_ends ts s.0 s.1
 
 -- no declaration stands behind the one of a single variable
-no_more : (i : Reader) (ds : Declarations) (ts rest : List Seen) → has_declarations ds ≡ false → spells_declarations comma ds ts rest → each (Goes (next_is class.Comma) (another_declaration i true)) (list_of_declarations ds) ts rest
+no_more : (i : Reader) (ds : Declarations) (ts rest : List ParserToken) → has_declarations ds ≡ false → spells_declarations comma ds ts rest → each (Goes (next_is class.Comma) (another_declaration i true)) (list_of_declarations ds) ts rest
 unfolding spells_declarations list_of_declarations
 no_more i no_declarations ts rest none s = s
 no_more i (more_declarations d ns m x ds) ts rest none s = true_not_false none
 
 -- what stands behind a body's part may end it
-body_first : (a : Around) (x : Tree) (ts rest : List Seen) → body x (spells x) ts rest → Ends around.Parens 7 ts × (next_is class.Comma ts ≡ false)
+body_first : (a : Around) (x : Tree) (ts rest : List ParserToken) → body x (spells x) ts rest → Ends around.Parens 7 ts × (next_is class.Comma ts ≡ false)
 unfolding continues is_class
 body_first a x ts rest s =
     elim s [
@@ -104,20 +104,20 @@ few_of true several few is = few
 few_of false several few is = true_not_false (sym is)
 
 -- a step and a declaration are some tokens
-step_short : (strict : Bool) (room : ℕ) (a : Around) (ts : List Seen) (p : Place) (ys : List Tree) (rest : List Seen) → step_over (within strict room) a ts ≡ Ok (in_brackets p ys, rest) → length rest < length ts
+step_short : (strict : Bool) (room : ℕ) (a : Around) (ts : List ParserToken) (p : Place) (ys : List Tree) (rest : List ParserToken) → step_over (within strict room) a ts ≡ Ok (in_brackets p ys, rest) → length rest < length ts
 step_short strict room a ts p ys rest e = step_is_one strict room (in_brackets p ys) ts rest (step_read strict room (within strict room) (within_reads strict room) a ts (in_brackets p ys) rest e)
 
-another_short : (strict : Bool) (room : ℕ) (ts : List Seen) (d : DeclarationTree) (rest : List Seen) → next_is class.Comma ts ≡ true → another_declaration (within strict room) false ts ≡ Ok (d, rest) → length rest < length ts
+another_short : (strict : Bool) (room : ℕ) (ts : List ParserToken) (d : DeclarationTree) (rest : List ParserToken) → next_is class.Comma ts ≡ true → another_declaration (within strict room) false ts ≡ Ok (d, rest) → length rest < length ts
 another_short strict room ts d rest goes e = (another_read strict room (within strict room) (within_reads strict room) false d ts rest (goes, e)).shorter
 
-more_of : (strict : Bool) (room : ℕ) (single : Bool) (ds : Declarations) (ts rest : List Seen) → (single ≡ true → has_declarations ds ≡ false) → spells_declarations comma ds ts rest
+more_of : (strict : Bool) (room : ℕ) (single : Bool) (ds : Declarations) (ts rest : List ParserToken) → (single ≡ true → has_declarations ds ≡ false) → spells_declarations comma ds ts rest
     → each (Goes (next_is class.Comma) (another_declaration (within strict room) false)) (list_of_declarations ds) ts rest → each (Goes (next_is class.Comma) (another_declaration (within strict room) single)) (list_of_declarations ds) ts rest
 more_of strict room true ds ts rest few s p = no_more (within strict room) ds ts rest (few refl) s
 more_of strict room false ds ts rest few s p = p
 
 -- a body is read, where its tree is
-body_full : (i : Reader) (x : Tree) (a : Around) (ts rest : List Seen) → body x (spells x) ts rest → (begins_operator rest ≡ false → Ends a 0 rest)
-    → ((l : ℕ) (us : List Seen) → spells x us rest → l ≤ level_of x → Ends a l rest → reader i a l us ≡ Ok (x, rest)) → body_over i a ts ≡ Ok (x, rest)
+body_full : (i : Reader) (x : Tree) (a : Around) (ts rest : List ParserToken) → body x (spells x) ts rest → (begins_operator rest ≡ false → Ends a 0 rest)
+    → ((l : ℕ) (us : List ParserToken) → spells x us rest → l ≤ level_of x → Ends a l rest → reader i a l us ≡ Ok (x, rest)) → body_over i a ts ≡ Ok (x, rest)
 body_full i x a ts rest s ends reads =
     elim s [
       | inl t ↦ (
@@ -132,7 +132,7 @@ module _ (strict : Bool) where
   mutual
     unfolding spells spells_trees spells_links spells_steps spells_declarations spells_bindings depth_of depth_inside depth_of_links depth_of_steps depth_of_declarations depth_of_bindings IsPlain ArePlain ArePlainLinks ArePlainSteps ArePlainDeclarations ArePlainBindings within inside_over continues is_class list_of list_of_links list_of_steps list_of_declarations list_of_bindings rank
 
-    pub full : (x : Tree) (room : ℕ) (a : Around) (l : ℕ) (ts rest : List Seen) → spells x ts rest → depth_of x < suc room → (strict ≡ true → IsPlain x) → l ≤ level_of x → Ends a l rest → reader (within strict room) a l ts ≡ Ok (x, rest)
+    pub full : (x : Tree) (room : ℕ) (a : Around) (l : ℕ) (ts rest : List ParserToken) → spells x ts rest → depth_of x < suc room → (strict ≡ true → IsPlain x) → l ≤ level_of x → Ends a l rest → reader (within strict room) a l ts ≡ Ok (x, rest)
     full (named n) room a l ts rest s d pl less ends =
         raise (within strict room) (named n) a l ts rest s less ends (elim s [ inl m ↦ named_full (within strict room) n ts rest m | inr m ↦ path_named_full (within strict room) n ts rest m ])
     full (numbered n) room a l ts rest s d pl less ends = raise (within strict room) (numbered n) a l ts rest s less ends (numbered_full (within strict room) n ts rest s)
@@ -183,7 +183,7 @@ module _ (strict : Bool) where
         let b = body_first a x t.0 rest t.2 in
         let few : (strict && is_single q) ≡ true → binds_several ds ≡ false = λ h. few_of (is_single q) (binds_several ds) (pl (strict_of strict (is_single q) h)).0 (single_of strict (is_single q) h) in
         let declared = (full_declarations ds r s.0 t.0 (omega (arith, d)) (λ h. (pl h).1) b.0 b.1).1 (strict && is_single q) t.1.1 t.1.0 few in
-        let reads : (m : ℕ) (us : List Seen) → spells x us rest → m ≤ level_of x → Ends a m rest → reader (within strict r) a m us ≡ Ok (x, rest) = λ m us spelled lower there. full x r a m us rest spelled (omega (arith, d)) (λ h. (pl h).2) lower there in
+        let reads : (m : ℕ) (us : List ParserToken) → spells x us rest → m ≤ level_of x → Ends a m rest → reader (within strict r) a m us ≡ Ok (x, rest) = λ m us spelled lower there. full x r a m us rest spelled (omega (arith, d)) (λ h. (pl h).2) lower there in
         let inside_body = body_full (within strict r) x a t.0 rest t.2 (λ none. body_ends a l rest less ends none) reads in
         let read = quantified_full strict (within strict r) a q p (list_of_declarations ds) x s.0 t.0 rest declared inside_body in
         let whole = subst (λ es. within strict (suc r) a (inside.Quantified q p) s.0 ≡ Ok (quantified q p es x, rest)) (declarations_of_list ds) read in
@@ -192,12 +192,12 @@ module _ (strict : Bool) where
     full (bound_by_let p bs x) (suc r) a l ts rest s d pl less ends =
         let t = s.2 in
         let b = body_first a x t.0 rest t.2 in
-        let reads : (m : ℕ) (us : List Seen) → spells x us rest → m ≤ level_of x → Ends a m rest → reader (within strict r) a m us ≡ Ok (x, rest) = λ m us spelled lower there. full x r a m us rest spelled (omega (arith, d)) (λ h. (pl h).1) lower there in
+        let reads : (m : ℕ) (us : List ParserToken) → spells x us rest → m ≤ level_of x → Ends a m rest → reader (within strict r) a m us ≡ Ok (x, rest) = λ m us spelled lower there. full x r a m us rest spelled (omega (arith, d)) (λ h. (pl h).1) lower there in
         let inside_body = body_full (within strict r) x a t.0 rest t.2 (λ none. body_ends a l rest less ends none) reads in
         let read = (full_bindings bs r s.0 t.0 (omega (arith, d)) (λ h. (pl h).0) b.0 b.1).1 a p x rest t.1.1 t.1.0 inside_body in
         raise (within strict (suc r)) (bound_by_let p bs x) a l ts rest s less ends (let_word_full (within strict (suc r)) a p (bound_by_let p bs x) ts s.0 rest s.1 read)
 
-    pub full_trees : (xs : Trees) (room : ℕ) (ts rest vs : List Seen) → depth_inside xs < suc room → (strict ≡ true → ArePlain xs)
+    pub full_trees : (xs : Trees) (room : ℕ) (ts rest vs : List ParserToken) → depth_inside xs < suc room → (strict ≡ true → ArePlain xs)
         → (spells_trees nothing nothing xs ts rest → mark_of class.RightBrace rest vs → each (Goes is_inner (within strict room around.Braces inside.Node)) (list_of xs) ts rest)
         × (spells_trees comma comma xs ts rest → mark_of class.RightBracket rest vs → each (Goes (next_is class.Comma) (behind (within strict room around.Brackets inside.Node))) (list_of xs) ts rest)
         × (spells_trees nothing comma xs ts rest → mark_of class.RightBracket rest vs → arguments_over (within strict room) ts ≡ Ok (list_of xs, rest))
@@ -222,7 +222,7 @@ module _ (strict : Bool) where
           some_arguments (within strict (suc r)) x (list_of xs) (level_of x) ts t.0 rest (first x ts t.0 spelled) read more,
     )
 
-    full_links : (ls : Links) (room : ℕ) (a : Around) (o : Operator) (ts rest : List Seen) → spells_links (level_of_operator o) ls ts rest → depth_of_links ls < suc room → (strict ≡ true → ArePlainLinks ls) → Ends a (level_of_operator o) rest
+    full_links : (ls : Links) (room : ℕ) (a : Around) (o : Operator) (ts rest : List ParserToken) → spells_links (level_of_operator o) ls ts rest → depth_of_links ls < suc room → (strict ≡ true → ArePlainLinks ls) → Ends a (level_of_operator o) rest
         → each (Goes (kind_test (kind_of o)) (kind_link (within strict room) a (kind_of o))) (list_of_links ls) ts rest
     full_links no_links room a o ts rest s d pl ends = s
     full_links (more_links n p y ls) room a o ts rest s d pl ends =
@@ -237,7 +237,7 @@ module _ (strict : Bool) where
           full_links ls room a o t.0 rest t.2 (omega (arith, d)) (λ h. (pl h).1) ends,
         )
 
-    full_steps : (ss : Steps) (room : ℕ) (a : Around) (ts rest : List Seen) → spells_steps ss ts rest → depth_of_steps ss < suc room → (strict ≡ true → ArePlainSteps ss) → each (Goes begins_step (step_over (within strict room) a)) (list_of_steps ss) ts rest
+    full_steps : (ss : Steps) (room : ℕ) (a : Around) (ts rest : List ParserToken) → spells_steps ss ts rest → depth_of_steps ss < suc room → (strict ≡ true → ArePlainSteps ss) → each (Goes begins_step (step_over (within strict room) a)) (list_of_steps ss) ts rest
     full_steps no_steps room a ts rest s d pl = s
     full_steps (join_first p y ss) room a ts rest s d pl =
         let t = s.2 in
@@ -251,14 +251,14 @@ module _ (strict : Bool) where
         let both = brackets_full (within strict room) a p (list_of ys) ts s.0 t.0 u.0 s.1 read u.1 in
         (u.0, (both.0, both.1, step_short strict room a ts p (list_of ys) u.0 both.1), full_steps ss room a u.0 rest u.2 (omega (arith, d)) (λ h. (pl h).1))
 
-    pub full_declarations : (ds : Declarations) (room : ℕ) (ts rest : List Seen) → depth_of_declarations ds < suc room → (strict ≡ true → ArePlainDeclarations ds) → Ends around.Parens 7 rest → next_is class.Comma rest ≡ false
+    pub full_declarations : (ds : Declarations) (room : ℕ) (ts rest : List ParserToken) → depth_of_declarations ds < suc room → (strict ≡ true → ArePlainDeclarations ds) → Ends around.Parens 7 rest → next_is class.Comma rest ≡ false
         → (spells_declarations comma ds ts rest → each (Goes (next_is class.Comma) (another_declaration (within strict room) false)) (list_of_declarations ds) ts rest)
         × ((single : Bool) → spells_declarations nothing ds ts rest → IsTrue (has_declarations ds) → (single ≡ true → binds_several ds ≡ false) → declarations_over (within strict room) single ts ≡ Ok (list_of_declarations ds, rest))
     full_declarations no_declarations room ts rest d pl ends none = (λ s. s, λ single s is few. true_not_false (sym is))
     full_declarations (more_declarations disjoint ns m x ds) room ts rest d pl ends none =
-        let read : (os us : List Seen) → spells x os us → 7 ≤ level_of x → spells_declarations comma ds us rest → reader (within strict room) around.Parens 7 os ≡ Ok (x, us)
+        let read : (os us : List ParserToken) → spells x os us → 7 ≤ level_of x → spells_declarations comma ds us rest → reader (within strict room) around.Parens 7 os ≡ Ok (x, us)
         = λ os us spelled level more. full x room around.Parens 7 os us spelled (omega (arith, d)) (λ h. (pl h).0) level (declared_end ds us rest more ends) in
-        let others : (us : List Seen) → spells_declarations comma ds us rest → each (Goes (next_is class.Comma) (another_declaration (within strict room) false)) (list_of_declarations ds) us rest
+        let others : (us : List ParserToken) → spells_declarations comma ds us rest → each (Goes (next_is class.Comma) (another_declaration (within strict room) false)) (list_of_declarations ds) us rest
         = λ us more. (full_declarations ds room us rest (omega (arith, d)) (λ h. (pl h).1) ends none).0 more in (
           λ s.
               let t1 = s.2 in
@@ -282,14 +282,14 @@ module _ (strict : Bool) where
               declarations_full (within strict room) single (record { disjoint = disjoint; names = ns; mark = m; domain = x }) (list_of_declarations ds) ts t5.0 rest one more,
         )
 
-    full_bindings : (bs : Bindings) (room : ℕ) (ts rest : List Seen) → depth_of_bindings bs < suc room → (strict ≡ true → ArePlainBindings bs) → Ends around.Parens 7 rest → next_is class.Comma rest ≡ false
+    full_bindings : (bs : Bindings) (room : ℕ) (ts rest : List ParserToken) → depth_of_bindings bs < suc room → (strict ≡ true → ArePlainBindings bs) → Ends around.Parens 7 rest → next_is class.Comma rest ≡ false
         → (spells_bindings comma bs ts rest → each (Goes (next_is class.Comma) (behind (binding_over (within strict room)))) (list_of_bindings bs) ts rest)
-        × ((a : Around) (p : Place) (y : Tree) (end : List Seen) → spells_bindings nothing bs ts rest → IsTrue (has_bindings bs) → body_over (within strict room) a rest ≡ Ok (y, end) → let_over (within strict room) a p ts ≡ Ok (bound_by_let p bs y, end))
+        × ((a : Around) (p : Place) (y : Tree) (end : List ParserToken) → spells_bindings nothing bs ts rest → IsTrue (has_bindings bs) → body_over (within strict room) a rest ≡ Ok (y, end) → let_over (within strict room) a p ts ≡ Ok (bound_by_let p bs y, end))
     full_bindings no_bindings room ts rest d pl ends none = (λ s. s, λ a p y end s is e. true_not_false (sym is))
     full_bindings (more_bindings n x bs) room ts rest d pl ends none =
-        let read : (os us : List Seen) → spells x os us → 7 ≤ level_of x → spells_bindings comma bs us rest → reader (within strict room) around.Parens 7 os ≡ Ok (x, us)
+        let read : (os us : List ParserToken) → spells x os us → 7 ≤ level_of x → spells_bindings comma bs us rest → reader (within strict room) around.Parens 7 os ≡ Ok (x, us)
         = λ os us spelled level more. full x room around.Parens 7 os us spelled (omega (arith, d)) (λ h. (pl h).0) level (bound_end bs us rest more ends) in
-        let others : (us : List Seen) → spells_bindings comma bs us rest → each (Goes (next_is class.Comma) (behind (binding_over (within strict room)))) (list_of_bindings bs) us rest
+        let others : (us : List ParserToken) → spells_bindings comma bs us rest → each (Goes (next_is class.Comma) (behind (binding_over (within strict room)))) (list_of_bindings bs) us rest
         = λ us more. (full_bindings bs room us rest (omega (arith, d)) (λ h. (pl h).1) ends none).0 more in (
           λ s.
               let t1 = s.2 in

@@ -1,7 +1,7 @@
 -- How a field's bound is spelled, how deep its brackets nest, and where it may have multiplicity words.
 use Rattle.std.specs.Prelude.{◌≤◌, ℕ, suc, max, Bool, true, false, not, ◌||◌, ◌&&◌, Option, Some, None}
 use Rattle.alloy_syntax.specs.declared.class.Class.TheVariants as class
-use Rattle.alloy_syntax.specs.declared.tree.Mark.{Mark}
+use Rattle.alloy_syntax.specs.declared.tree.MultiplicityWord.{MultiplicityWord}
 use Rattle.alloy_syntax.specs.Tree.{BoundTree, bound_named, bound_bracketed, bound_union, bound_arrows, BoundUnions, no_unions, more_unions, BoundArrows, no_arrows, more_arrows}
 use Rattle.alloy_grammar.specs.Fronts.{Front, ◌before◌, nothing, only, sign, mark_of, name, mark}
 
@@ -60,7 +60,7 @@ unfoldable mutual
 
 -- ---- multiplicity words beside arrows
 
-abbrev pub is_word : Option Mark → Bool
+abbrev pub is_word : Option MultiplicityWord → Bool
 is_word None = false
 is_word (Some m) = true
 

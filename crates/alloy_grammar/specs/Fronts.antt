@@ -5,20 +5,20 @@ use Rattle.alloy_syntax.specs.declared.class.Class.{Class}
 use Rattle.alloy_syntax.specs.declared.class.Class.TheVariants as class
 use Rattle.alloy_syntax.specs.declared.tree.Name.{Name}
 use Rattle.alloy_syntax.specs.declared.tree.Number.{Number}
-use Rattle.alloy_syntax.specs.declared.tree.Mark.{Mark}
+use Rattle.alloy_syntax.specs.declared.tree.MultiplicityWord.{MultiplicityWord}
 use Rattle.alloy_syntax.specs.declared.tree.Multiplicity.{Multiplicity}
 use Rattle.alloy_syntax.specs.declared.tree.Multiplicity.TheVariants as multiplicity
-use Rattle.alloy_syntax.specs.declared.seen.Seen.{Seen}
+use Rattle.alloy_syntax.specs.declared.parser_token.ParserToken.{ParserToken}
 use Rattle.alloy_syntax.specs.Readers.{next_is, value_from}
 
 -- the first list begins with such a text, and the second is what stands behind it
 abbrev pub Front : Type 1
-Front = List Seen → List Seen → Type 0
+Front = List ParserToken → List ParserToken → Type 0
 
 -- one text, and the other directly behind it
 infixr 6 ◌before◌
 abbrev pub ◌before◌ : Front → Front → Front
-(P before Q) ts rest = (us : List Seen) × P ts us × Q us rest
+(P before Q) ts rest = (us : List ParserToken) × P ts us × Q us rest
 
 -- the one text, or the other
 infixr 5 ◌or◌
@@ -41,11 +41,11 @@ unless_next c ts rest = (ts ≡ rest) × (next_is c rest ≡ false)
 
 -- a token of that terminal, at that place
 abbrev pub sign : Class → Place → Front
-sign c p ts rest = (t : Seen) × (ts ≡ t ∷ rest) × (t.class ≡ c) × (t.place ≡ p)
+sign c p ts rest = (t : ParserToken) × (ts ≡ t ∷ rest) × (t.class ≡ c) × (t.place ≡ p)
 
 -- a token of that terminal, whose place no tree keeps
 abbrev pub mark_of : Class → Front
-mark_of c ts rest = (t : Seen) × (ts ≡ t ∷ rest) × (t.class ≡ c)
+mark_of c ts rest = (t : ParserToken) × (ts ≡ t ∷ rest) × (t.class ≡ c)
 
 -- a token of that terminal, or none
 abbrev pub flag : Class → Bool → Front
@@ -54,13 +54,13 @@ flag c false = nothing
 
 -- a token of that terminal that spells the name, where it was written
 abbrev pub spelled_as : Class → Name → Front
-spelled_as c n ts rest = (t : Seen) × (ts ≡ t ∷ rest) × (t.class ≡ c) × (t.text ≡ n.text) × (t.place ≡ n.place)
+spelled_as c n ts rest = (t : ParserToken) × (ts ≡ t ∷ rest) × (t.class ≡ c) × (t.text ≡ n.text) × (t.place ≡ n.place)
 
 abbrev pub name : Name → Front
 name = spelled_as class.Name
 
 abbrev pub number : Number → Front
-number n ts rest = (t : Seen) × (ts ≡ t ∷ rest) × (t.class ≡ class.Number) × (value_from 0 t.text ≡ n.value) × (t.place ≡ n.place)
+number n ts rest = (t : ParserToken) × (ts ≡ t ∷ rest) × (t.class ≡ class.Number) × (value_from 0 t.text ≡ n.value) × (t.place ≡ n.place)
 
 abbrev pub class_of_multiplicity : Multiplicity → Class
 class_of_multiplicity multiplicity.Set = class.Set
@@ -69,7 +69,7 @@ class_of_multiplicity multiplicity.Lone = class.Lone
 class_of_multiplicity multiplicity.Some = class.Some
 
 -- [ mult ]
-abbrev pub mark : Option Mark → Front
+abbrev pub mark : Option MultiplicityWord → Front
 mark None = nothing
 mark (Some m) = sign (class_of_multiplicity m.multiplicity) m.place
 

@@ -5,7 +5,7 @@ use Rattle.alloy_syntax.specs.declared.class.Class.{Class}
 use Rattle.alloy_syntax.specs.declared.class.Class.TheVariants as class
 use Rattle.alloy_syntax.specs.declared.tree.Name.{Name}
 use Rattle.alloy_syntax.specs.declared.tree.Number.{Number}
-use Rattle.alloy_syntax.specs.declared.tree.Mark.{Mark}
+use Rattle.alloy_syntax.specs.declared.tree.MultiplicityWord.{MultiplicityWord}
 use Rattle.alloy_syntax.specs.declared.tree.Multiplicity.{Multiplicity}
 use Rattle.alloy_syntax.specs.declared.tree.Multiplicity.TheVariants as multiplicity
 use Rattle.alloy_syntax.specs.declared.tree.Parent.{Parent}
@@ -15,7 +15,7 @@ use Rattle.alloy_syntax.specs.declared.tree.Entry.{Entry}
 use Rattle.alloy_syntax.specs.declared.tree.CommandKind.{CommandKind}
 use Rattle.alloy_syntax.specs.declared.tree.CommandKind.TheVariants as kind
 use Rattle.alloy_syntax.specs.declared.tree.Open.{Open}
-use Rattle.alloy_syntax.specs.declared.seen.Seen.{Seen}
+use Rattle.alloy_syntax.specs.declared.parser_token.ParserToken.{ParserToken}
 use Rattle.alloy_syntax.specs.Tree.{Tree, block, trees_of, DeclarationTree, declarations_of, FieldTree, BlockTree, TargetTree, at_name, at_block, ScopeTree, ParagraphTree, signatures, fact, predicate, function, assertion, command, ModelTree}
 use Rattle.alloy_grammar.specs.Fronts.{Front, ◌before◌, ◌or◌, nothing, only, sign, mark_of, flag, name, number, mark, names, each, listed, listed_if_any, class_of_multiplicity}
 use Rattle.alloy_grammar.specs.Levels.{sum_level}
@@ -45,11 +45,11 @@ is_qualifier multiplicity.One = true
 is_qualifier multiplicity.Lone = true
 is_qualifier multiplicity.Some = true
 
-abbrev pub qualifier : Mark → Front
+abbrev pub qualifier : MultiplicityWord → Front
 qualifier m = only (is_qualifier m.multiplicity) (sign (class_of_multiplicity m.multiplicity) m.place)
 
 -- `abstract`, and one of the others: each may stand once, in any order
-abbrev pub qualifiers : Bool → Option Mark → Front
+abbrev pub qualifiers : Bool → Option MultiplicityWord → Front
 qualifiers is_abstract m = flag class.Abstract is_abstract before optional qualifier m or optional qualifier m before flag class.Abstract is_abstract
 
 abbrev pub class_of_manner : Manner → Class
@@ -124,7 +124,7 @@ paragraph (command k p t s e) = sign (class_of_kind k) p before target t before 
 -- ---- a model
 
 abbrev pub ordering_path : Front
-ordering_path ts rest = (t : Seen) × (ts ≡ t ∷ rest) × (t.class ≡ class.Path) × (bytes_eq t.text (codes "util/ordering") ≡ true)
+ordering_path ts rest = (t : ParserToken) × (ts ≡ t ∷ rest) × (t.class ≡ class.Path) × (bytes_eq t.text (codes "util/ordering") ≡ true)
 
 -- "open" path "[" name "]" "as" name, where the path is `util/ordering`
 abbrev pub opened : Open → Front
@@ -138,7 +138,7 @@ abbrev pub spells_model : ModelTree → Front
 spells_model m = optional heading m.heading before each opened m.opens before each paragraph m.paragraphs
 
 -- the tokens are a text of the model, all of them
-abbrev pub IsTextOf : List Seen → ModelTree → Type 0
+abbrev pub IsTextOf : List ParserToken → ModelTree → Type 0
 IsTextOf ts m = spells_model m ts []
 
 -- ---- how deep constructs nest, from the paragraph on

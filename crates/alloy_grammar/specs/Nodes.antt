@@ -14,7 +14,7 @@ use Rattle.alloy_syntax.specs.declared.tree.Operator.TheVariants as operator
 use Rattle.alloy_syntax.specs.declared.tree.Comparison.{Comparison}
 use Rattle.alloy_syntax.specs.declared.tree.Comparison.TheVariants as comparison
 use Rattle.alloy_syntax.specs.declared.tree.Comparing.{Comparing}
-use Rattle.alloy_syntax.specs.declared.seen.Seen.{Seen}
+use Rattle.alloy_syntax.specs.declared.parser_token.ParserToken.{ParserToken}
 use Rattle.alloy_syntax.specs.Readers.{next_is}
 use Rattle.alloy_syntax.specs.Tree.{Tree, named, numbered, constant, bracketed, block, prefixed, chain, path, compared, implies, implies_else, quantified, bound_by_let, Trees, no_trees, more_trees, Links, no_links, more_links, Steps, no_steps, join_first, brackets_first, Declarations, no_declarations, more_declarations, Bindings, no_bindings, more_bindings}
 use Rattle.alloy_grammar.specs.Fronts.{Front, ◌before◌, ◌or◌, nothing, only, unless_next, sign, mark_of, flag, spelled_as, name, number, mark, names}
@@ -93,7 +93,7 @@ abbrev pub operator_at : ℕ → Operator → Place → Front
 operator_at l o p ts rest = (level_of_operator o ≡ l) × sign (class_of_operator o) p ts rest
 
 -- an operator of formulas
-unfoldable pub begins_operator : List Seen → Bool
+unfoldable pub begins_operator : List ParserToken → Bool
 begins_operator ts = next_is class.Or ts || (next_is class.Iff ts || (next_is class.Implies ts || next_is class.And ts))
 
 -- no token, where no operator of formulas follows

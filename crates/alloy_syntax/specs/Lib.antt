@@ -1,5 +1,5 @@
 pub mod Class
-pub mod Seen
+pub mod ParserTokens
 pub mod Tree
 pub mod Readers
 pub mod Nodes

@@ -21,9 +21,9 @@ use Rattle.alloy_syntax.specs.declared.tree.Operator.TheVariants as operator
 use Rattle.alloy_syntax.specs.declared.tree.Comparison.{Comparison}
 use Rattle.alloy_syntax.specs.declared.tree.Comparison.TheVariants as comparison
 use Rattle.alloy_syntax.specs.declared.tree.Comparing.{Comparing}
-use Rattle.alloy_syntax.specs.declared.seen.Seen.{Seen}
+use Rattle.alloy_syntax.specs.declared.parser_token.ParserToken.{ParserToken}
 use Rattle.alloy_syntax.specs.Tree.{Tree, named, numbered, constant, bracketed, block, prefixed, chain, path, compared, implies, implies_else, quantified, bound_by_let, LinkTree, StepTree, joined, in_brackets, DeclarationTree, BindingTree, BlockTree, trees_of, links_of, steps_of, declarations_of, bindings_of}
-use Rattle.alloy_syntax.specs.Readers.{Stop, refused, too_deep, unsupported, Parser, ◌>>=◌, next_is, after, place_at, expect, name_at, path_at, number_at, is_mark, mark_at, after_mark, many, with_front, listed, names_at, colon_after_names}
+use Rattle.alloy_syntax.specs.Readers.{ParseStopView, refused, too_deep, unsupported, Parser, ◌>>=◌, next_is, after, place_at, expect, name_at, path_at, number_at, is_mark, mark_at, after_mark, many, with_front, listed, names_at, colon_after_names}
 
 -- a reader of what stands under one construct more, in these brackets
 abbrev pub Reader : Type 0
@@ -41,28 +41,28 @@ in_brackets_too around.Parens = false
 
 -- ---- which token may begin what
 
-unfoldable pub begins_primary : List Seen → Bool
+unfoldable pub begins_primary : List ParserToken → Bool
 begins_primary ts =
     next_is class.Name ts || next_is class.Path ts || next_is class.Number ts || next_is class.None ts || next_is class.Univ ts || next_is class.Iden ts
     || next_is class.LeftParen ts || next_is class.LeftBrace ts
 
-unfoldable pub is_tightening : List Seen → Bool
+unfoldable pub is_tightening : List ParserToken → Bool
 is_tightening ts = next_is class.Tilde ts || next_is class.Caret ts || next_is class.Star ts
 
-unfoldable pub begins_tight : List Seen → Bool
+unfoldable pub begins_tight : List ParserToken → Bool
 begins_tight ts = is_tightening ts || begins_primary ts
 
-unfoldable pub begins_sum : List Seen → Bool
+unfoldable pub begins_sum : List ParserToken → Bool
 begins_sum ts = next_is class.Hash ts || begins_tight ts
 
 -- `some`, `no`, `lone` and `one`
-unfoldable pub is_counting : List Seen → Bool
+unfoldable pub is_counting : List ParserToken → Bool
 is_counting ts = next_is class.Some ts || next_is class.No ts || next_is class.Lone ts || next_is class.One ts
 
-unfoldable pub begins_node : List Seen → Bool
+unfoldable pub begins_node : List ParserToken → Bool
 begins_node ts = next_is class.Not ts || next_is class.All ts || next_is class.Let ts || is_counting ts || begins_sum ts
 
-unfoldable pub begins : Inside → List Seen → Bool
+unfoldable pub begins : Inside → List ParserToken → Bool
 begins inside.Node = begins_node
 begins inside.Negation = begins_node
 begins inside.Implied = begins_node
@@ -83,7 +83,7 @@ may_be_block (inside.Quantified q p) = false
 may_be_block (inside.Let p) = false
 
 -- a brace, names with commas, and a colon
-unfoldable pub is_comprehension : List Seen → Bool
+unfoldable pub is_comprehension : List ParserToken → Bool
 is_comprehension ts = next_is class.LeftBrace ts && colon_after_names (after ts)
 
 -- where one construct more would be one too many
@@ -96,7 +96,7 @@ stop_at part ts =
 -- ---- blocks, brackets and names
 
 -- not the end of a block
-unfoldable pub is_inner : List Seen → Bool
+unfoldable pub is_inner : List ParserToken → Bool
 is_inner ts = not (next_is class.RightBrace ts)
 
 unfoldable pub block_over : Reader → Parser BlockTree
@@ -118,10 +118,10 @@ paren_over i ts = do
   closed ← expect class.RightParen x.1
   Ok (bracketed opened.0 x.0, closed.1)
 
-unfoldable pub is_constant : List Seen → Bool
+unfoldable pub is_constant : List ParserToken → Bool
 is_constant ts = next_is class.None ts || next_is class.Univ ts || next_is class.Iden ts
 
-unfoldable pub constant_of : List Seen → Constant
+unfoldable pub constant_of : List ParserToken → Constant
 constant_of ts = if next_is class.None ts then constants.None else (if next_is class.Univ ts then constants.Univ else constants.Iden)
 
 -- primary = name | path | number | "none" | "univ" | "iden" | "(" node ")" | block
@@ -136,7 +136,7 @@ primary_over i ts =
 
 -- ---- expressions
 
-unfoldable pub tightening_of : List Seen → Prefix
+unfoldable pub tightening_of : List ParserToken → Prefix
 tightening_of ts = if next_is class.Tilde ts then prefix.Transpose else (if next_is class.Caret ts then prefix.Closure else prefix.ReflexiveClosure)
 
 -- what stands behind a prefix, with the place of the prefix
@@ -157,7 +157,7 @@ brackets_over i ts = do
   closed ← expect class.RightBracket xs.1
   Ok (in_brackets opened.0 xs.0, closed.1)
 
-unfoldable pub begins_step : List Seen → Bool
+unfoldable pub begins_step : List ParserToken → Bool
 begins_step ts = next_is class.Dot ts || next_is class.LeftBracket ts
 
 unfoldable pub step_over : Reader → Around → Parser StepTree
@@ -169,7 +169,7 @@ path_over i a ts = tight_over i a ts >>= λ x.
     if begins_step x.1 then many begins_step (step_over i a) x.1 >>= (λ xs. Ok (path x.0 (steps_of xs.0), xs.1)) else Ok x
 
 -- which token goes on with a chain of that level
-unfoldable pub begins_link : Level → List Seen → Bool
+unfoldable pub begins_link : Level → List ParserToken → Bool
 begins_link level.Or ts = next_is class.Or ts
 begins_link level.Iff ts = next_is class.Iff ts
 begins_link level.And ts = next_is class.And ts
@@ -178,7 +178,7 @@ begins_link level.Override ts = next_is class.PlusPlus ts
 begins_link level.Meet ts = next_is class.Ampersand ts
 begins_link level.Restrict ts = next_is class.DomainArrow ts || next_is class.RangeArrow ts
 
-unfoldable pub operator_of : Level → List Seen → Operator
+unfoldable pub operator_of : Level → List ParserToken → Operator
 operator_of level.Or ts = operator.Or
 operator_of level.Iff ts = operator.Iff
 operator_of level.And ts = operator.And
@@ -199,7 +199,7 @@ unfoldable pub restrict_over : Reader → Around → Parser Tree
 restrict_over i a = chained level.Restrict (path_over i a)
 
 -- an arrow, or a multiplicity word and an arrow
-unfoldable pub begins_arrow : List Seen → Bool
+unfoldable pub begins_arrow : List ParserToken → Bool
 begins_arrow ts = next_is class.Arrow ts || (is_mark ts && next_is class.Arrow (after ts))
 
 unfoldable pub arrow_over : Reader → Around → Parser LinkTree
@@ -236,7 +236,7 @@ braced_over i ts = do
 
 -- ---- formulas
 
-unfoldable pub counting_of : List Seen → Prefix
+unfoldable pub counting_of : List ParserToken → Prefix
 counting_of ts =
     if next_is class.Some ts then prefix.Some else (if next_is class.No ts then prefix.No else (if next_is class.Lone ts then prefix.Lone else prefix.One))
 
@@ -244,17 +244,17 @@ counting_of ts =
 unfoldable pub counted_over : Reader → Around → Parser Tree
 counted_over i a ts = if is_counting ts then behind_prefix (counting_of ts) (i a inside.Sum) ts else sum_over i a ts
 
-unfoldable pub is_plain_comparison : List Seen → Bool
+unfoldable pub is_plain_comparison : List ParserToken → Bool
 is_plain_comparison ts =
     next_is class.In ts || next_is class.Equal ts || next_is class.NotEqual ts || next_is class.Less ts || next_is class.Greater ts
     || next_is class.AtMost ts || next_is class.AtLeast ts
 
 -- A comparison goes on. In braces a `!` that neither `in` nor `=` follows begins the next node.
-unfoldable pub begins_comparison : Around → List Seen → Bool
+unfoldable pub begins_comparison : Around → List ParserToken → Bool
 begins_comparison a ts =
     is_plain_comparison ts || (next_is class.Not ts && (next_is class.In (after ts) || next_is class.Equal (after ts) || not (in_braces a)))
 
-unfoldable pub comparison_of : List Seen → Comparison
+unfoldable pub comparison_of : List ParserToken → Comparison
 comparison_of ts =
     if next_is class.In ts then comparison.In
     else (if next_is class.Less ts then comparison.Less
@@ -281,12 +281,12 @@ comparison_over i a ts = counted_over i a ts >>= λ x.
     if begins_comparison a x.1 then comparing_at x.1 >>= (λ c. counted_over i a c.1 >>= λ y. Ok (compared x.0 c.0 y.0, y.1)) else Ok x
 
 -- what follows a word that may begin a quantifier: `disj`, or names with commas and then a colon
-unfoldable pub begins_declaration : Around → List Seen → Bool
+unfoldable pub begins_declaration : Around → List ParserToken → Bool
 begins_declaration a ts =
     next_is class.Disj ts
     || (if in_brackets_too a then colon_after_names ts else next_is class.Name ts && (next_is class.Comma (after ts) || next_is class.Colon (after ts)))
 
-unfoldable pub quantifier_of : List Seen → Quantifier
+unfoldable pub quantifier_of : List ParserToken → Quantifier
 quantifier_of ts =
     if next_is class.Some ts then quantifier.Some else (if next_is class.No ts then quantifier.No else (if next_is class.Lone ts then quantifier.Lone else quantifier.One))
 
@@ -329,7 +329,7 @@ is_single quantifier.No = false
 is_single quantifier.Lone = true
 is_single quantifier.One = true
 
-abbrev pub after_disj : List Seen → List Seen
+abbrev pub after_disj : List ParserToken → List ParserToken
 after_disj ts = if next_is class.Disj ts then after ts else ts
 
 -- a second variable where only one may be bound
@@ -346,7 +346,7 @@ are_several (first ∷ []) = false
 are_several (first ∷ second ∷ more) = true
 
 -- the names that were read from ts, of which there is one where only one may be bound; the second stands behind the first comma
-abbrev pub one_alone : Bool → List Seen → List Name → List Seen → Result (List Name × List Seen) Stop
+abbrev pub one_alone : Bool → List ParserToken → List Name → List ParserToken → Result (List Name × List ParserToken) ParseStopView
 one_alone single ts names rest = if single && are_several names then Err (unsupported form.Several (after (after ts))) else Ok (names, rest)
 
 -- the names that variables have

@@ -7,16 +7,16 @@ use Rattle.alloy_syntax.specs.declared.reading.Form.TheVariants as form
 use Rattle.alloy_syntax.specs.declared.reading.Around.TheVariants as around
 use Rattle.alloy_syntax.specs.declared.tree.Name.{Name}
 use Rattle.alloy_syntax.specs.declared.tree.Number.{Number}
-use Rattle.alloy_syntax.specs.declared.tree.Mark.{Mark}
+use Rattle.alloy_syntax.specs.declared.tree.MultiplicityWord.{MultiplicityWord}
 use Rattle.alloy_syntax.specs.declared.tree.Parent.{Parent}
 use Rattle.alloy_syntax.specs.declared.tree.Manner.TheVariants as manner
 use Rattle.alloy_syntax.specs.declared.tree.Entry.{Entry}
 use Rattle.alloy_syntax.specs.declared.tree.CommandKind.{CommandKind}
 use Rattle.alloy_syntax.specs.declared.tree.CommandKind.TheVariants as kind
 use Rattle.alloy_syntax.specs.declared.tree.Open.{Open}
-use Rattle.alloy_syntax.specs.declared.seen.Seen.{Seen}
+use Rattle.alloy_syntax.specs.declared.parser_token.ParserToken.{ParserToken}
 use Rattle.alloy_syntax.specs.Tree.{DeclarationTree, FieldTree, BlockTree, TargetTree, at_name, at_block, ScopeTree, ParagraphTree, signatures, fact, predicate, function, assertion, command, ModelTree}
-use Rattle.alloy_syntax.specs.Readers.{Stop, unsupported, Parser, ◌>>=◌, next_is, after, place_at, expect, name_at, path_at, number_at, is_mark, mark_at, after_mark, many, listed, names_at}
+use Rattle.alloy_syntax.specs.Readers.{ParseStopView, unsupported, Parser, ◌>>=◌, next_is, after, place_at, expect, name_at, path_at, number_at, is_mark, mark_at, after_mark, many, listed, names_at}
 use Rattle.alloy_syntax.specs.Nodes.{within, block_over, sum_over, braced_over, declarations_over}
 use Rattle.alloy_syntax.specs.Bounds.{whole, bound_within}
 
@@ -47,25 +47,25 @@ parent_at ts =
     else Ok (None, ts))
 
 -- `one`, `lone` or `some`
-unfoldable pub is_qualifier : List Seen → Bool
+unfoldable pub is_qualifier : List ParserToken → Bool
 is_qualifier ts = is_mark ts && not (next_is class.Set ts)
 
-unfoldable pub qualifier_at : List Seen → Option Mark
+unfoldable pub qualifier_at : List ParserToken → Option MultiplicityWord
 qualifier_at ts = if is_qualifier ts then mark_at ts else None
 
-abbrev pub after_qualifier : List Seen → List Seen
+abbrev pub after_qualifier : List ParserToken → List ParserToken
 after_qualifier ts = if is_qualifier ts then after ts else ts
 
-abbrev pub after_abstract : List Seen → List Seen
+abbrev pub after_abstract : List ParserToken → List ParserToken
 after_abstract ts = if next_is class.Abstract ts then after ts else ts
 
 -- whether `abstract` is among the qualifiers, which of the others is, and what stands behind them: each may stand once, in any order
 pub record Qualified : Type 0 where
   pub is_abstract : Bool
-  pub mark : Option Mark
-  pub behind : List Seen
+  pub mark : Option MultiplicityWord
+  pub behind : List ParserToken
 
-unfoldable pub qualified : List Seen → Qualified
+unfoldable pub qualified : List ParserToken → Qualified
 qualified ts =
     if next_is class.Abstract ts then record { is_abstract = true; mark = qualifier_at (after ts); behind = after_qualifier (after ts) }
     else record { is_abstract = next_is class.Abstract (after_qualifier ts); mark = qualifier_at ts; behind = after_abstract (after_qualifier ts) }
@@ -142,7 +142,7 @@ unfoldable pub exceptions_at : Parser (List Entry)
 exceptions_at ts = if next_is class.But ts then entries_at (after ts) else Ok ([], ts)
 
 -- a number that no name follows is the default
-unfoldable pub has_default : List Seen → Bool
+unfoldable pub has_default : List ParserToken → Bool
 has_default ts = next_is class.Number ts && not (next_is class.Name (after ts))
 
 -- scope = "for" ( number [ "but" entries ] | entries )
@@ -182,7 +182,7 @@ paragraph_at strict limit ts =
     else (if next_is class.Check ts then command_at strict limit kind.Check (place_at ts) (after ts)
     else signatures_at strict limit ts)))))
 
-unfoldable pub is_left : List Seen → Bool
+unfoldable pub is_left : List ParserToken → Bool
 is_left [] = false
 is_left (t ∷ ts) = true
 
@@ -206,7 +206,7 @@ open_at ts = do
   Ok (record { signature = signature.0; alias = alias.0 }, alias.1)
 
 -- the model that the tokens are, or where reading stops, if so many constructs may nest, with forms refused or not
-unfoldable pub model_at : Bool → ℕ → List Seen → Result ModelTree Stop
+unfoldable pub model_at : Bool → ℕ → List ParserToken → Result ModelTree ParseStopView
 model_at strict limit ts = do
   heading ← heading_at ts
   opens ← many (next_is class.Open) open_at heading.1
@@ -217,5 +217,5 @@ model_at strict limit ts = do
 abbrev pub depth_limit : ℕ
 depth_limit = 200
 
-abbrev pub model_of : List Seen → Result ModelTree Stop
+abbrev pub model_of : List ParserToken → Result ModelTree ParseStopView
 model_of = model_at true depth_limit

@@ -3,7 +3,7 @@ use Rattle.std.specs.Prelude.{List, [], ◌∷◌, Bool, Option}
 use Rattle.alloy_lex.specs.declared.token.Place.{Place}
 use Rattle.alloy_syntax.specs.declared.tree.Name.{Name}
 use Rattle.alloy_syntax.specs.declared.tree.Number.{Number}
-use Rattle.alloy_syntax.specs.declared.tree.Mark.{Mark}
+use Rattle.alloy_syntax.specs.declared.tree.MultiplicityWord.{MultiplicityWord}
 use Rattle.alloy_syntax.specs.declared.tree.Quantifier.{Quantifier}
 use Rattle.alloy_syntax.specs.declared.tree.Constant.{Constant}
 use Rattle.alloy_syntax.specs.declared.tree.Prefix.{Prefix}
@@ -46,7 +46,7 @@ mutual
 
   pub data Declarations : Type 0 where
     no_declarations : Declarations
-    more_declarations : Bool → List Name → Option Mark → Tree → Declarations → Declarations
+    more_declarations : Bool → List Name → Option MultiplicityWord → Tree → Declarations → Declarations
 
   pub data Bindings : Type 0 where
     no_bindings : Bindings
@@ -67,7 +67,7 @@ pub data StepTree : Type 0 where
 pub record DeclarationTree : Type 0 where
   pub disjoint : Bool
   pub names : List Name
-  pub mark : Option Mark
+  pub mark : Option MultiplicityWord
   pub domain : Tree
 
 -- a name of a `let`
@@ -113,13 +113,13 @@ mutual
 
   pub data BoundArrows : Type 0 where
     no_arrows : BoundArrows
-    more_arrows : Option Mark → Place → Option Mark → BoundTree → BoundArrows → BoundArrows
+    more_arrows : Option MultiplicityWord → Place → Option MultiplicityWord → BoundTree → BoundArrows → BoundArrows
 
 -- an arrow of a bound, with the multiplicity words beside it and its right side
 pub record BoundArrowTree : Type 0 where
-  pub left : Option Mark
+  pub left : Option MultiplicityWord
   pub place : Place
-  pub right : Option Mark
+  pub right : Option MultiplicityWord
   pub side : BoundTree
 
 abbrev pub unions_of : List (Place × BoundTree) → BoundUnions
@@ -133,7 +133,7 @@ arrows_of (a ∷ as') = more_arrows a.left a.place a.right a.side (arrows_of as'
 -- fields with their bound
 pub record FieldTree : Type 0 where
   pub names : List Name
-  pub mark : Option Mark
+  pub mark : Option MultiplicityWord
   pub bound : BoundTree
 
 -- formulas in braces
@@ -153,10 +153,10 @@ pub record ScopeTree : Type 0 where
 
 -- a paragraph
 pub data ParagraphTree : Type 0 where
-  signatures : Bool → Option Mark → List Name → Option Parent → List FieldTree → ParagraphTree
+  signatures : Bool → Option MultiplicityWord → List Name → Option Parent → List FieldTree → ParagraphTree
   fact : Option Name → BlockTree → ParagraphTree
   predicate : Name → List DeclarationTree → BlockTree → ParagraphTree
-  function : Name → List DeclarationTree → Option Mark → Tree → Tree → ParagraphTree
+  function : Name → List DeclarationTree → Option MultiplicityWord → Tree → Tree → ParagraphTree
   assertion : Name → BlockTree → ParagraphTree
   command : CommandKind → Place → TargetTree → Option ScopeTree → Option Number → ParagraphTree
 

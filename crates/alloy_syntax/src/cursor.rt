@@ -3,8 +3,8 @@ ghost use Rattle.std.specs.Prelude.{◌≡◌, ◌<◌, ◌≤◌, length, Ok, I
 ghost use Rattle.alloy_syntax.specs.Readers.{next_is, after, place_at, expect, spelled_at, name_at, path_at, number_at, value_from, with_digit, is_mark, multiplicity_of, mark_at, after_mark, names_at, others, colon_after_names};
 ghost use Rattle.alloy_syntax.specs.Gives.{Gives};
 
-use crate::halt::{Halt, Tokens};
-use crate::tree::{Mark, Multiplicity, Name, Number};
+use crate::parse_stop::{ParseStop, Tokens};
+use crate::tree::{Multiplicity, MultiplicityWord, Name, Number};
 use crate::{Class, is_class};
 use alloy_lex::{Place, Text};
 use std::alloc::Global;
@@ -44,17 +44,17 @@ pub fn place_at(tokens: Tokens) -> Place
 
 /// A token of that class, by its place.
 #[tactic(auto, unfolding(crate::specs::Readers::expect))]
-pub fn expect<'a>(tokens: Tokens<'a>, class: Class) -> Result<(Place, Tokens<'a>), Halt<'a>>
+pub fn expect<'a>(tokens: Tokens<'a>, class: Class) -> Result<(Place, Tokens<'a>), ParseStop<'a>>
     ensures value { Gives (λ x. (x.0, x.1.left.now)) result (expect class tokens.entry.left.now) }
     ensures shorter { IfOk result (λ x. length x.1.left.now < length tokens.entry.left.now) }
 {
     match tokens.left {
-        [] => Err(Halt::Refused(tokens)),
+        [] => Err(ParseStop::Refused(tokens)),
         [next, rest @ ..] => {
             if is_class(next.class, class) {
                 Ok((next.place, Tokens { left: rest }))
             } else {
-                Err(Halt::Refused(tokens))
+                Err(ParseStop::Refused(tokens))
             }
         }
     }
@@ -66,15 +66,15 @@ fn spelled<'a>(
     alloc: Global,
     tokens: Tokens<'a>,
     class: Class,
-) -> Result<(Name, Tokens<'a>), Halt<'a>>
+) -> Result<(Name, Tokens<'a>), ParseStop<'a>>
     ensures value { Gives (λ x. (x.0, x.1.left.now)) result (spelled_at class tokens.entry.left.now) }
     ensures shorter { IfOk result (λ x. length x.1.left.now < length tokens.entry.left.now) }
 {
     match tokens.left {
-        [] => Err(Halt::Refused(tokens)),
+        [] => Err(ParseStop::Refused(tokens)),
         [next, rest @ ..] => {
             if !is_class(next.class, class) {
-                return Err(Halt::Refused(tokens));
+                return Err(ParseStop::Refused(tokens));
             }
             let name = Name {
                 text: Text::of(alloc, next.text.text())?,
@@ -86,7 +86,7 @@ fn spelled<'a>(
 }
 
 /// A name.
-pub fn name<'a>(alloc: Global, tokens: Tokens<'a>) -> Result<(Name, Tokens<'a>), Halt<'a>>
+pub fn name<'a>(alloc: Global, tokens: Tokens<'a>) -> Result<(Name, Tokens<'a>), ParseStop<'a>>
     ensures value { Gives (λ x. (x.0, x.1.left.now)) result (name_at tokens.entry.left.now) }
     ensures shorter { IfOk result (λ x. length x.1.left.now < length tokens.entry.left.now) }
 {
@@ -94,7 +94,7 @@ pub fn name<'a>(alloc: Global, tokens: Tokens<'a>) -> Result<(Name, Tokens<'a>),
 }
 
 /// A path, as a name with its slash.
-pub fn path<'a>(alloc: Global, tokens: Tokens<'a>) -> Result<(Name, Tokens<'a>), Halt<'a>>
+pub fn path<'a>(alloc: Global, tokens: Tokens<'a>) -> Result<(Name, Tokens<'a>), ParseStop<'a>>
     ensures value { Gives (λ x. (x.0, x.1.left.now)) result (path_at tokens.entry.left.now) }
     ensures shorter { IfOk result (λ x. length x.1.left.now < length tokens.entry.left.now) }
 {
@@ -103,15 +103,15 @@ pub fn path<'a>(alloc: Global, tokens: Tokens<'a>) -> Result<(Name, Tokens<'a>),
 
 /// A number.
 #[tactic(auto, unfolding(crate::specs::Readers::number_at))]
-pub fn number<'a>(tokens: Tokens<'a>) -> Result<(Number, Tokens<'a>), Halt<'a>>
+pub fn number<'a>(tokens: Tokens<'a>) -> Result<(Number, Tokens<'a>), ParseStop<'a>>
     ensures value { Gives (λ x. (x.0, x.1.left.now)) result (number_at tokens.entry.left.now) }
     ensures shorter { IfOk result (λ x. length x.1.left.now < length tokens.entry.left.now) }
 {
     match tokens.left {
-        [] => Err(Halt::Refused(tokens)),
+        [] => Err(ParseStop::Refused(tokens)),
         [next, rest @ ..] => {
             if !is_class(next.class, Class::Number) {
-                return Err(Halt::Refused(tokens));
+                return Err(ParseStop::Refused(tokens));
             }
             let number = Number {
                 value: value_of(next.text.text().as_bytes()),
@@ -170,11 +170,11 @@ fn multiplicity_of(tokens: Tokens) -> Multiplicity
 
 /// A multiplicity word, if the next token is one.
 #[tactic(auto, unfolding(crate::specs::Readers::mark_at))]
-pub fn mark_at(tokens: Tokens) -> Option<Mark>
+pub fn mark_at(tokens: Tokens) -> Option<MultiplicityWord>
     ensures { result ≡ mark_at tokens.entry.left.now }
 {
     if is_mark(tokens) {
-        Some(Mark {
+        Some(MultiplicityWord {
             multiplicity: multiplicity_of(tokens),
             place: place_at(tokens),
         })
@@ -207,7 +207,10 @@ pub fn fitted<T: Drop>(list: Vec<T>) -> Vec<T>
 
 /// Names with commas between them.
 #[tactic(auto, unfolding(crate::specs::Readers::names_at, crate::specs::Readers::listed))]
-pub fn names<'a>(alloc: Global, tokens: Tokens<'a>) -> Result<(Vec<Name>, Tokens<'a>), Halt<'a>>
+pub fn names<'a>(
+    alloc: Global,
+    tokens: Tokens<'a>,
+) -> Result<(Vec<Name>, Tokens<'a>), ParseStop<'a>>
     ensures value { Gives (λ x. (x.0.items, x.1.left.now)) result (names_at tokens.entry.left.now) }
     ensures shorter { IfOk result (λ x. length x.1.left.now < length tokens.entry.left.now) }
 {
@@ -220,7 +223,7 @@ fn more_names<'a>(
     alloc: Global,
     first: Name,
     tokens: Tokens<'a>,
-) -> Result<(Vec<Name>, Tokens<'a>), Halt<'a>>
+) -> Result<(Vec<Name>, Tokens<'a>), ParseStop<'a>>
     ensures value { Gives (λ x. (x.0.items, x.1.left.now)) result (others name_at first tokens.entry.left.now) }
     ensures shorter { IfOk result (λ x. length x.1.left.now ≤ length tokens.entry.left.now) }
 {

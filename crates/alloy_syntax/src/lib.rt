@@ -3,11 +3,11 @@
 
 mod class;
 pub mod cursor;
-pub mod halt;
 pub mod laws;
+pub mod parse_stop;
+mod parser_token;
 pub mod reading;
-mod seen;
 pub mod tree;
 
 pub use crate::class::{Class, class_of, is_class};
-pub use crate::seen::Seen;
+pub use crate::parser_token::ParserToken;

@@ -26,7 +26,7 @@ pub enum Multiplicity {
 
 /// A multiplicity word where it was written.
 #[derive(Clone, Copy)]
-pub struct Mark {
+pub struct MultiplicityWord {
     pub multiplicity: Multiplicity,
     pub place: Place,
 }
@@ -121,7 +121,7 @@ pub enum Step {
 pub struct Declaration {
     pub disjoint: bool,
     pub names: Vec<Name>,
-    pub mark: Option<Mark>,
+    pub mark: Option<MultiplicityWord>,
     pub domain: Node,
 }
 
@@ -161,9 +161,9 @@ pub enum Node {
 #[derive(Drop)]
 #[cycle(bound)]
 pub struct BoundArrow {
-    pub left: Option<Mark>,
+    pub left: Option<MultiplicityWord>,
     pub place: Place,
-    pub right: Option<Mark>,
+    pub right: Option<MultiplicityWord>,
     pub side: Bound,
 }
 
@@ -184,7 +184,7 @@ pub enum Bound {
 #[derive(Drop)]
 pub struct Field {
     pub names: Vec<Name>,
-    pub mark: Option<Mark>,
+    pub mark: Option<MultiplicityWord>,
     pub bound: Bound,
 }
 
@@ -206,7 +206,7 @@ pub struct Parent {
 #[derive(Drop)]
 pub struct Signatures {
     pub is_abstract: bool,
-    pub mark: Option<Mark>,
+    pub mark: Option<MultiplicityWord>,
     pub names: Vec<Name>,
     pub parent: Option<Parent>,
     pub fields: Vec<Field>,
@@ -265,7 +265,7 @@ pub struct Command {
 pub struct Function {
     pub name: Name,
     pub parameters: Vec<Declaration>,
-    pub mark: Option<Mark>,
+    pub mark: Option<MultiplicityWord>,
     pub range: Node,
     pub body: Node,
 }

@@ -7,7 +7,7 @@ ghost use Rattle.overload_resolution.specs.Settling.Told.{Gives};
 ghost use Rattle.overload_resolution.specs.Scopes.Declaring.{declared_by, AreTables};
 
 use crate::parts::relation;
-use alloy_syntax::tree::{Mark, Multiplicity};
+use alloy_syntax::tree::{Multiplicity, MultiplicityWord};
 use model_types::TypeFault;
 use model_types::part_sorts::places::first_place;
 use named_model::named::Field;
@@ -40,7 +40,7 @@ pub fn field_checked(
 }
 
 // Whether the word before a bound wants it to be a set.
-fn wants_unary(mark: Option<Mark>) -> bool
+fn wants_unary(mark: Option<MultiplicityWord>) -> bool
     ensures { result ≡ wants_unary mark }
 {
     match mark {

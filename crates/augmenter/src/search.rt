@@ -9,7 +9,7 @@ use clause_pool::accepted_hints_name_members;
 use cnf_core::Valuation;
 use refutation_check::{Log, Part, accepted_is_entailed};
 use rel_formula::Scenario;
-use sat_core::{Answer, Leaning, Trail, solve_from};
+use sat_core::{Answer, SavedPhases, Trail, solve_from};
 use std::alloc::{AllocError, Global};
 use translation::Translation;
 use translation_rules::laws::units_say_what_is_possible;
@@ -72,7 +72,7 @@ pub(crate) fn seek_from(
     units_say_what_is_possible();
     let _ = translation.problem().relations(); // for the proof
     let local = units_of(alloc, cells.numbers())?;
-    let mut leaning = Leaning::towards(alloc, true);
+    let mut leaning = SavedPhases::towards(alloc, true);
     match solve_from(
         alloc,
         translation.cnf(),

@@ -10,7 +10,7 @@ ghost use Rattle.minimiser.specs.Down.{parts_of, IsDescent, IsRight};
 use cnf_core::Valuation;
 use refutation_check::{Log, Part};
 use rel_formula::Scenario;
-use sat_core::{Answer, Leaning, Trail, solve_from};
+use sat_core::{Answer, SavedPhases, Trail, solve_from};
 use std::alloc::{AllocError, Global};
 use translation::Translation;
 use translation_rules::laws::descent_clauses_say_what_is_smaller;
@@ -87,7 +87,7 @@ pub fn minimise_from(
     let mut left = budget;
     'descent: loop {
         let local = descent_locals(alloc, problem, floor, &scenario)?;
-        let mut leaning = Leaning::towards(alloc, false);
+        let mut leaning = SavedPhases::towards(alloc, false);
         match solve_from(
             alloc,
             translation.cnf(),

@@ -2,7 +2,7 @@
 use Rattle.std.specs.Prelude.{◌≡◌, ◌⊎◌, ℕ, ◌+◌, ◌-◌, ◌==◌, nat_le, nat_lt, length, List, [], ◌∷◌, ◌++◌, map, slice_get, Bool, true, false, if◌then◌else◌, Option, Some, None, option_map, option_and_then, Result, Ok, Err}
 use Rattle.std.specs.List.{list_any}
 use Rattle.alloy_syntax.specs.declared.tree.Number.{Number}
-use Rattle.alloy_syntax.specs.declared.tree.Mark.{Mark}
+use Rattle.alloy_syntax.specs.declared.tree.MultiplicityWord.{MultiplicityWord}
 use Rattle.alloy_syntax.specs.declared.tree.Multiplicity.TheVariants as multiplicity
 use Rattle.named_model.specs.declared.fault.NameFault.{NameFault}
 use Rattle.named_model.specs.declared.fault.NameFault.TheVariants as fault
@@ -60,11 +60,11 @@ listing_for (l ∷ ls) s = if is_for s l then Some l else listing_for ls s
 -- ---- 3: each top-level signature by the first rule that applies
 
 -- with `one` or `lone`
-abbrev pub is_alone : Option Mark → Bool
+abbrev pub is_alone : Option MultiplicityWord → Bool
 is_alone None = false
 is_alone (Some mark) = elim mark.multiplicity [ multiplicity.One ↦ true | multiplicity.Lone ↦ true | multiplicity.Some ↦ false | multiplicity.Set ↦ false ]
 
-abbrev pub is_one : Option Mark → Bool
+abbrev pub is_one : Option MultiplicityWord → Bool
 is_one None = false
 is_one (Some mark) = elim mark.multiplicity [ multiplicity.One ↦ true | multiplicity.Lone ↦ false | multiplicity.Some ↦ false | multiplicity.Set ↦ false ]
 

@@ -7,7 +7,7 @@ ghost use Rattle.model_sizes.specs.Tables.{size_with, by_sum_with, sizes_with};
 
 use crate::size::{Size, Sizes};
 use crate::tables::{Listed, SCOPE_LIMIT, Sum, is_alone, listed_sizes, sums_of_extensions};
-use alloy_syntax::tree::{Mark, Multiplicity};
+use alloy_syntax::tree::{Multiplicity, MultiplicityWord};
 use named_model::named::{Listing, Scope, Signature};
 use named_model::{NameFault, Named};
 use std::alloc::Global;
@@ -164,7 +164,7 @@ fn size_by_default(number: usize, default: Option<u16>) -> Result<Size, NameFaul
     }
 }
 
-fn is_one(mark: Option<Mark>) -> bool
+fn is_one(mark: Option<MultiplicityWord>) -> bool
     ensures { result ≡ is_one mark }
 {
     match mark {

@@ -3,7 +3,7 @@ ghost use Rattle.std.specs.Prelude.{◌≡◌, ◌<◌, [], length, Ok, MatchRes
 ghost use Rattle.model_sizes.specs.Sizes.{listings_checked, is_alone, IsFaultOf};
 ghost use Rattle.model_sizes.specs.Tables.{IsListed, AreSums, unlisted, addend_with, plus, with_extension};
 
-use alloy_syntax::tree::{Manner, Mark, Multiplicity};
+use alloy_syntax::tree::{Manner, Multiplicity, MultiplicityWord};
 use named_model::NameFault;
 use named_model::named::{Listing, Signature};
 use std::alloc::{AllocError, Global};
@@ -118,7 +118,7 @@ fn plus(sum: Sum, number: Option<u16>) -> Sum
 }
 
 /// Whether the word is `one` or `lone`.
-pub fn is_alone(mark: Option<Mark>) -> bool
+pub fn is_alone(mark: Option<MultiplicityWord>) -> bool
     ensures { result ≡ is_alone mark }
 {
     match mark {

@@ -1,7 +1,7 @@
 -- What a model declares, and the model with every name tied to its declaration.
 use Rattle.std.specs.Prelude.{ℕ, List, [], ◌∷◌, ◌++◌, map, length, flat_map, Bool, true, false, Option, None, option_map, unwrap_or}
 use Rattle.alloy_syntax.specs.declared.tree.Name.{Name}
-use Rattle.alloy_syntax.specs.declared.tree.Mark.{Mark}
+use Rattle.alloy_syntax.specs.declared.tree.MultiplicityWord.{MultiplicityWord}
 use Rattle.alloy_syntax.specs.declared.tree.Operator.TheVariants as operator
 use Rattle.alloy_syntax.specs.declared.tree.Parent.{Parent}
 use Rattle.alloy_syntax.specs.declared.tree.Entry.{Entry}
@@ -74,11 +74,11 @@ abbrev mutual
   arrows_resolved g (tree.more_arrows l p r b arrows) = more_links operator.Product p (bound_resolved g b) (arrows_resolved g arrows)
 
 -- the words beside the first arrow of a bound that is an arrow, in brackets or not
-abbrev pub words_of : BoundArrows → Option Mark × Option Mark
+abbrev pub words_of : BoundArrows → Option MultiplicityWord × Option MultiplicityWord
 words_of tree.no_arrows = (None, None)
 words_of (tree.more_arrows l p r b rest) = (l, r)
 
-abbrev pub words_beside : BoundTree → Option Mark × Option Mark
+abbrev pub words_beside : BoundTree → Option MultiplicityWord × Option MultiplicityWord
 words_beside (tree.bound_named n) = (None, None)
 words_beside (tree.bound_bracketed p b) = words_beside b
 words_beside (tree.bound_union b us) = (None, None)
@@ -103,7 +103,7 @@ fields_named g paragraph = []
 
 -- ---- signatures
 
-abbrev pub signature_named : Globals → Bool → Option Mark → Option Parent → Name → Signature
+abbrev pub signature_named : Globals → Bool → Option MultiplicityWord → Option Parent → Name → Signature
 signature_named g is_abstract mark parent n = record {
   name = n.text;
   place = n.place;

@@ -3,7 +3,7 @@
 use Rattle.std.specs.Prelude.{ℕ, List, Option}
 use Rattle.alloy_lex.specs.declared.token.Place.{Place}
 use Rattle.alloy_syntax.specs.declared.tree.Number.{Number}
-use Rattle.alloy_syntax.specs.declared.tree.Mark.{Mark}
+use Rattle.alloy_syntax.specs.declared.tree.MultiplicityWord.{MultiplicityWord}
 use Rattle.alloy_syntax.specs.declared.tree.CommandKind.{CommandKind}
 use Rattle.named_model.specs.declared.named.Signature.{Signature}
 use Rattle.named_model.specs.declared.named.Listing.{Listing}
@@ -15,9 +15,9 @@ pub record FieldTree : Type 0 where
   pub name : List ℕ
   pub place : Place
   pub owner : ℕ
-  pub mark : Option Mark
-  pub left : Option Mark
-  pub right : Option Mark
+  pub mark : Option MultiplicityWord
+  pub left : Option MultiplicityWord
+  pub right : Option MultiplicityWord
   pub bound : PhraseTree
 
 -- what a predicate or a function stands for: formulas, or a range and a body

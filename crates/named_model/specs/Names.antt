@@ -4,7 +4,7 @@ use Rattle.std.specs.Prelude.{ℕ, ◌+◌, ◌==◌, List, [], ◌∷◌, ◌++
 use Rattle.std.specs.List.{list_any}
 use Rattle.alloy_lex.specs.declared.token.Place.{Place}
 use Rattle.alloy_syntax.specs.declared.tree.Name.{Name}
-use Rattle.alloy_syntax.specs.declared.tree.Mark.{Mark}
+use Rattle.alloy_syntax.specs.declared.tree.MultiplicityWord.{MultiplicityWord}
 use Rattle.alloy_syntax.specs.declared.tree.Multiplicity.TheVariants as multiplicity
 use Rattle.alloy_syntax.specs.Tree as tree
 use Rattle.alloy_syntax.specs.Tree.{Tree, Trees, Links, Steps, Declarations, Bindings, DeclarationTree}
@@ -175,10 +175,10 @@ name_faults g p n (standing.Callee k) = if arguments_of (header_at g k) n == (he
 name_faults g p n other = []
 
 -- a word before a domain with which a variable need not be a single atom
-abbrev pub is_higher : Mark → Bool
+abbrev pub is_higher : MultiplicityWord → Bool
 is_higher mark = elim mark.multiplicity [ multiplicity.One ↦ false | multiplicity.Set ↦ true | multiplicity.Lone ↦ true | multiplicity.Some ↦ true ]
 
-abbrev pub mark_faults : Option Mark → List NameFault
+abbrev pub mark_faults : Option MultiplicityWord → List NameFault
 mark_faults None = []
 mark_faults (Some mark) = if is_higher mark then fault.HigherOrder mark.place ∷ [] else []
 

@@ -2,7 +2,7 @@
 use Rattle.std.specs.Prelude.{ℕ, List, [], ◌∷◌, Bool, Option}
 use Rattle.alloy_lex.specs.declared.token.Place.{Place}
 use Rattle.alloy_syntax.specs.declared.tree.Number.{Number}
-use Rattle.alloy_syntax.specs.declared.tree.Mark.{Mark}
+use Rattle.alloy_syntax.specs.declared.tree.MultiplicityWord.{MultiplicityWord}
 use Rattle.alloy_syntax.specs.declared.tree.Quantifier.{Quantifier}
 use Rattle.alloy_syntax.specs.declared.tree.Constant.{Constant}
 use Rattle.alloy_syntax.specs.declared.tree.Prefix.{Prefix}
@@ -46,7 +46,7 @@ mutual
   -- whether the variables are disjoint, how many they are, the word before their domain, and the domain
   pub data DomainTrees : Type 0 where
     no_domains : DomainTrees
-    more_domains : Bool → ℕ → Option Mark → PhraseTree → DomainTrees → DomainTrees
+    more_domains : Bool → ℕ → Option MultiplicityWord → PhraseTree → DomainTrees → DomainTrees
 
 -- an operator of a chain, and the operand behind it
 pub record LinkTree : Type 0 where
@@ -63,7 +63,7 @@ pub data StepTree : Type 0 where
 pub record DomainTree : Type 0 where
   pub disjoint : Bool
   pub count : ℕ
-  pub mark : Option Mark
+  pub mark : Option MultiplicityWord
   pub domain : PhraseTree
 
 abbrev pub phrases_of : List PhraseTree → PhraseTrees

@@ -10,7 +10,7 @@ use Rattle.alloy_syntax.specs.Readers as readers
 use Rattle.alloy_syntax.specs.Nodes as nodes
 use Rattle.alloy_syntax.specs.Bounds as bounds
 use Rattle.alloy_syntax.specs.Paragraphs as paragraphs
-use Rattle.alloy_syntax.specs.Seen.{seen_all}
+use Rattle.alloy_syntax.specs.ParserTokens.{seen_all}
 use Rattle.alloy_syntax.specs.Tree.{ModelTree}
 use Rattle.named_model.specs.declared.fault.NameFault.{NameFault}
 use Rattle.named_model.specs.Answers.{first_in}

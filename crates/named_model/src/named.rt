@@ -6,7 +6,7 @@ ghost use Rattle.named_model.specs.View.{command_view};
 
 use crate::phrase::{Domain, Phrase};
 use alloy_lex::{Place, Text};
-use alloy_syntax::tree::{CommandKind, Manner, Mark, Number};
+use alloy_syntax::tree::{CommandKind, Manner, MultiplicityWord, Number};
 
 /// A signature, with the number of its parent if it has one.
 #[derive(Drop)]
@@ -14,7 +14,7 @@ pub struct Signature {
     pub name: Text,
     pub place: Place,
     pub is_abstract: bool,
-    pub mark: Option<Mark>,
+    pub mark: Option<MultiplicityWord>,
     pub parent: Option<(Manner, usize)>,
 }
 
@@ -25,9 +25,9 @@ pub struct Field {
     pub name: Text,
     pub place: Place,
     pub owner: usize,
-    pub mark: Option<Mark>,
-    pub left: Option<Mark>,
-    pub right: Option<Mark>,
+    pub mark: Option<MultiplicityWord>,
+    pub left: Option<MultiplicityWord>,
+    pub right: Option<MultiplicityWord>,
     pub bound: Phrase,
 }
 

@@ -1,6 +1,8 @@
 // The tree of a part of a model, with every name tied to its declaration.
 use alloy_lex::Place;
-use alloy_syntax::tree::{Comparing, Constant, Mark, Number, Operator, Prefix, Quantifier};
+use alloy_syntax::tree::{
+    Comparing, Constant, MultiplicityWord, Number, Operator, Prefix, Quantifier,
+};
 
 /// What a name stands for that is no predicate and no function. Signatures and fields are numbered from 0 in order of
 /// declaration.
@@ -37,7 +39,7 @@ pub enum Step {
 pub struct Domain {
     pub disjoint: bool,
     pub count: usize,
-    pub mark: Option<Mark>,
+    pub mark: Option<MultiplicityWord>,
     pub domain: Phrase,
 }
 

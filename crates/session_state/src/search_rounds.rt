@@ -11,4 +11,4 @@ mod search;
 
 pub use crate::search_rounds::locals::locals_of;
 pub use crate::search_rounds::next::{Found, NextAt, next_at};
-pub use sat_core::Leaning;
+pub use sat_core::SavedPhases;

@@ -6,4 +6,4 @@ mod walk;
 
 pub use crate::watched_literals::back::back_to;
 pub use crate::watched_literals::pending::Pending;
-pub use crate::watched_literals::walk::draw_all;
+pub use crate::watched_literals::walk::propagate_queue;

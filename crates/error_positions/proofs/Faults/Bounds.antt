@@ -1,9 +1,9 @@
 -- Bounds of fields under two readers.
 use Rattle.std.proofs.Common.{◌≡◌, inl, inr, ℕ, zero, suc, Bool, true, false, not, IsTrue, ◌&&◌, if◌then◌else◌, List, Option, Some, None, Result, Ok, Err, refl, sym, ap, arith}
 use Rattle.alloy_syntax.specs.declared.class.Class.TheVariants as class
-use Rattle.alloy_syntax.specs.declared.seen.Seen.{Seen}
+use Rattle.alloy_syntax.specs.declared.parser_token.ParserToken.{ParserToken}
 use Rattle.std.proofs.lemmas.Bool.{or_parts}
-use Rattle.alloy_syntax.specs.Readers.{Stop, refused, next_is, after, expect, after_mark}
+use Rattle.alloy_syntax.specs.Readers.{ParseStopView, refused, next_is, after, expect, after_mark}
 use Rattle.alloy_syntax.specs.Bounds.{Standing, BoundReader, is_whole, word_round, operand_in, standing_beside, word_beside, refuse_word, side_over, begins_bound_arrow, bound_arrow_over, more_bound_arrows, bound_arrows_over, operand_over, bound_over, begins_bound, bound_within}
 use Rattle.alloy_grammar.proofs.Results.{either}
 use Rattle.error_positions.proofs.Faults.Follows.{Follows, same, excused, Relaxed, as_strict, relaxed, Roomier, less_room, onward, bind, choice, many_follows}
@@ -13,15 +13,15 @@ use Rattle.error_positions.proofs.Faults.Rooms.{name_refuses}
 abbrev pub BoundBelow : Bool → Bool → BoundReader → BoundReader → Type 0
 BoundBelow deep forms i j = (s : Standing) → Alike deep forms (i s) (j s)
 
-relaxed_word : {deep forms : Bool} → IsTrue forms → (w : Option (List Seen)) → Follows deep forms (refuse_word true w) (refuse_word false w)
+relaxed_word : {deep forms : Bool} → IsTrue forms → (w : Option (List ParserToken)) → Follows deep forms (refuse_word true w) (refuse_word false w)
 relaxed_word f None = same refl
 relaxed_word f (Some word) = excused _ refl f
 
-word_follows : {deep forms : Bool} (s t : Bool) → Relaxed forms s t → (w : Option (List Seen)) → Follows deep forms (refuse_word s w) (refuse_word t w)
+word_follows : {deep forms : Bool} (s t : Bool) → Relaxed forms s t → (w : Option (List ParserToken)) → Follows deep forms (refuse_word s w) (refuse_word t w)
 word_follows s t (as_strict e) w = same (ap (λ (b : Bool). refuse_word b w) e)
 word_follows s t (relaxed e f g) w = rw (e, f) (relaxed_word g w)
 
-abbrev word_here : Bool → Standing → Bool → List Seen → Result (Unit {0}) Stop
+abbrev word_here : Bool → Standing → Bool → List ParserToken → Result (Unit {0}) ParseStopView
 word_here strict standing has_arrow ts = if is_whole standing && not has_arrow then Ok tt else refuse_word strict (word_beside ts)
 
 module _ (deep forms s t : Bool) (r : Relaxed forms s t) (i j : BoundReader) (below : BoundBelow deep forms i j) where
@@ -29,10 +29,10 @@ module _ (deep forms s t : Bool) (r : Relaxed forms s t) (i j : BoundReader) (be
   unfolding side_over
   side_follows standing ts = choice (next_is class.LeftParen ts) (bind (below standing (after ts)) (λ x. same refl)) (same refl)
 
-  here_follows : (standing : Standing) (b : Bool) (ts : List Seen) → Follows deep forms (word_here s standing b ts) (word_here t standing b ts)
+  here_follows : (standing : Standing) (b : Bool) (ts : List ParserToken) → Follows deep forms (word_here s standing b ts) (word_here t standing b ts)
   here_follows standing b ts = choice (is_whole standing && not b) (same refl) (word_follows s t r (word_beside ts))
 
-  arrow_follows : (standing : Standing) (w : Option (List Seen)) (b : Bool) → Alike deep forms (bound_arrow_over s i standing w b) (bound_arrow_over t j standing w b)
+  arrow_follows : (standing : Standing) (w : Option (List ParserToken)) (b : Bool) → Alike deep forms (bound_arrow_over s i standing w b) (bound_arrow_over t j standing w b)
   unfolding bound_arrow_over
   arrow_follows standing w b ts =
       onward (expect class.Arrow (after_mark ts)) (λ a. bind (word_follows s t r (word_round standing)) (λ _. bind (word_follows s t r w) (λ _.
@@ -56,7 +56,7 @@ module _ (deep forms s t : Bool) (r : Relaxed forms s t) (i j : BoundReader) (be
       (bind (word_follows s t r x.0.marked) (λ _. bind (many_follows (next_is class.Plus) (operand_over s i standing) (operand_over t j standing) (operand_follows standing) x.1) (λ m. same refl)))
       (same refl))
 
-pub bound_refuses : (t : Bool) (j : BoundReader) (standing : Standing) (ts : List Seen) → begins_bound ts ≡ false → bound_over t j standing ts ≡ Err (refused ts)
+pub bound_refuses : (t : Bool) (j : BoundReader) (standing : Standing) (ts : List ParserToken) → begins_bound ts ≡ false → bound_over t j standing ts ≡ Err (refused ts)
 unfolding begins_bound bound_over bound_arrows_over side_over
 bound_refuses t j standing ts e = let p = or_parts (next_is class.LeftParen ts) (next_is class.Name ts) e in rw (p.0, name_refuses ts p.1) refl
 

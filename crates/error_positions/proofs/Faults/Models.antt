@@ -8,9 +8,9 @@ use Rattle.alloy_syntax.specs.declared.reading.Around.TheVariants as around
 use Rattle.alloy_syntax.specs.declared.reading.Form.{Form}
 use Rattle.alloy_syntax.specs.declared.tree.CommandKind.{CommandKind}
 use Rattle.alloy_syntax.specs.declared.tree.CommandKind.TheVariants as kind
-use Rattle.alloy_syntax.specs.declared.seen.Seen.{Seen}
+use Rattle.alloy_syntax.specs.declared.parser_token.ParserToken.{ParserToken}
 use Rattle.alloy_syntax.specs.Tree.{ModelTree}
-use Rattle.alloy_syntax.specs.Readers.{Stop, refused, too_deep, unsupported, next_is, after, place_at, expect, name_at, after_mark, many, names_at}
+use Rattle.alloy_syntax.specs.Readers.{ParseStopView, refused, too_deep, unsupported, next_is, after, place_at, expect, name_at, after_mark, many, names_at}
 use Rattle.alloy_syntax.specs.Nodes.{within}
 use Rattle.alloy_syntax.specs.Bounds.{whole}
 use Rattle.alloy_syntax.specs.Paragraphs.{own_block, field_at, fields_at, parent_at, qualified, signatures_at, fact_at, parameters_to, parameter_list, predicate_at, function_at, assertion_at, label_at, target_at, command_at, paragraph_at, is_left, heading_at, open_at, model_at}
@@ -88,7 +88,7 @@ module _ (deep forms s t : Bool) (r : Relaxed forms s t) (m n : ℕ) (room : Roo
       (choice (next_is class.Check ts) (command_follows kind.Check (place_at ts) (after ts))
       (signatures_follow ts))))))
 
-  pub model_follows : (ts : List Seen) → Follows deep forms (model_at s m ts) (model_at t n ts)
+  pub model_follows : (ts : List ParserToken) → Follows deep forms (model_at s m ts) (model_at t n ts)
   unfolding model_at
   model_follows ts = onward (heading_at ts) (λ h. onward (many (next_is class.Open) open_at h.1) (λ o. bind (many_follows is_left (paragraph_at s m) (paragraph_at t n) paragraph_follows o.1) (λ ps. same refl)))
 
@@ -97,14 +97,14 @@ module _ (deep forms s t : Bool) (r : Relaxed forms s t) (m n : ℕ) (room : Roo
 not_strict : {P : Type 0} → false ≡ true → P
 not_strict e = absurd cc
 
-abbrev failed : (A : Type 0) → Stop → Result A Stop
+abbrev failed : (A : Type 0) → ParseStopView → Result A ParseStopView
 failed A d = Err d
 
-stop_is : (A : Type 0) (d e : Stop) → failed A d ≡ failed A e → d ≡ e
+stop_is : (A : Type 0) (d e : ParseStopView) → failed A d ≡ failed A e → d ≡ e
 stop_is A d e is = cc
 
 -- what is read is read alike
-pub stays_read : {deep forms : Bool} (a b : Result ModelTree Stop) (m : ModelTree) → Follows deep forms a b → a ≡ Ok m → b ≡ Ok m
+pub stays_read : {deep forms : Bool} (a b : Result ModelTree ParseStopView) (m : ModelTree) → Follows deep forms a b → a ≡ Ok m → b ≡ Ok m
 stays_read a b m h e =
     elim h [
       | same is ↦ sym is ∙ e
@@ -112,37 +112,37 @@ stays_read a b m h e =
     ]
 
 -- a fault that isn't excused stands
-pub stays : {deep forms : Bool} (a b : Result ModelTree Stop) (d : Stop) → excuses deep forms d ≡ false → Follows deep forms a b → a ≡ Err d → b ≡ Err d
+pub stays : {deep forms : Bool} (a b : Result ModelTree ParseStopView) (d : ParseStopView) → excuses deep forms d ≡ false → Follows deep forms a b → a ≡ Err d → b ≡ Err d
 stays {deep} {forms} a b d quiet h e =
     elim h [
       | same is ↦ sym is ∙ e
       | excused c is t ↦ (
-          let here = subst (λ (s : Stop). IsTrue (excuses deep forms s)) (stop_is ModelTree c d (sym is ∙ e)) t in
+          let here = subst (λ (s : ParseStopView). IsTrue (excuses deep forms s)) (stop_is ModelTree c d (sym is ∙ e)) t in
           let clash : false ≡ true = sym quiet ∙ here in
           absurd cc)
     ]
 
 -- with more room, and forms as they are
-pub roomier : (strict : Bool) (limit more : ℕ) → limit ≤ more → (ts : List Seen) → Follows true false (model_at strict limit ts) (model_at strict more ts)
+pub roomier : (strict : Bool) (limit more : ℕ) → limit ≤ more → (ts : List ParserToken) → Follows true false (model_at strict limit ts) (model_at strict more ts)
 roomier strict limit more less ts = model_follows true false strict strict (as_strict refl) limit more (less, inl refl) ts
 
 -- with forms that may pass, and the same room
-pub passing : (limit : ℕ) (ts : List Seen) → Follows false true (model_at true limit ts) (model_at false limit ts)
+pub passing : (limit : ℕ) (ts : List ParserToken) → Follows false true (model_at true limit ts) (model_at false limit ts)
 passing limit ts = model_follows false true true false (relaxed refl refl refl) limit limit (omega arith, inr refl) ts
 
 -- both
-pub lenient : (limit more : ℕ) → limit ≤ more → (ts : List Seen) → Follows true true (model_at true limit ts) (model_at false more ts)
+pub lenient : (limit more : ℕ) → limit ≤ more → (ts : List ParserToken) → Follows true true (model_at true limit ts) (model_at false more ts)
 lenient limit more less ts = model_follows true true true false (relaxed refl refl refl) limit more (less, inl refl) ts
 
 -- ---- texts
 
-pub text_not_refused : (limit : ℕ) → 0 < limit → (ts rest : List Seen) (m : ModelTree) → model_at true limit ts ≡ Err (refused rest) → IsTextOf ts m → ⊥
+pub text_not_refused : (limit : ℕ) → 0 < limit → (ts rest : List ParserToken) (m : ModelTree) → model_at true limit ts ≡ Err (refused rest) → IsTextOf ts m → ⊥
 text_not_refused limit some ts rest m e text =
     let n = limit + depth_of_model m in
     let fails = stays (model_at true limit ts) (model_at false n ts) (refused rest) refl (lenient limit n (omega arith) ts) e in
     no_success (refused rest) m (sym fails ∙ model_full false n (omega arith) ts m text (omega arith) (λ is. not_strict is))
 
-pub text_too_deep : (limit : ℕ) → 0 < limit → (ts rest : List Seen) (m : ModelTree) → model_at true limit ts ≡ Err (too_deep rest) → IsTextOf ts m → limit < depth_of_model m
+pub text_too_deep : (limit : ℕ) → 0 < limit → (ts rest : List ParserToken) (m : ModelTree) → model_at true limit ts ≡ Err (too_deep rest) → IsTextOf ts m → limit < depth_of_model m
 text_too_deep limit some ts rest m e text =
     elim (cases_lt limit (depth_of_model m)) [
       | inl deeper ↦ deeper
@@ -151,7 +151,7 @@ text_too_deep limit some ts rest m e text =
           no_success (too_deep rest) m (sym fails ∙ model_full false limit some ts m text within_limit (λ is. not_strict is)))
     ]
 
-pub text_has_form : (limit : ℕ) → 0 < limit → (f : Form) (ts rest : List Seen) (m : ModelTree) → model_at true limit ts ≡ Err (unsupported f rest) → IsTextOf ts m → IsPlainModel m → ⊥
+pub text_has_form : (limit : ℕ) → 0 < limit → (f : Form) (ts rest : List ParserToken) (m : ModelTree) → model_at true limit ts ≡ Err (unsupported f rest) → IsTextOf ts m → IsPlainModel m → ⊥
 text_has_form limit some f ts rest m e text plain =
     let n = limit + depth_of_model m in
     let fails = stays (model_at true limit ts) (model_at true n ts) (unsupported f rest) refl (roomier true limit n (omega arith) ts) e in

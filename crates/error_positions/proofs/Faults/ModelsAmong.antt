@@ -7,9 +7,9 @@ use Rattle.alloy_syntax.specs.declared.reading.Form.TheVariants as form
 use Rattle.alloy_syntax.specs.declared.reading.Around.TheVariants as around
 use Rattle.alloy_syntax.specs.declared.tree.CommandKind.{CommandKind}
 use Rattle.alloy_syntax.specs.declared.tree.CommandKind.TheVariants as kind
-use Rattle.alloy_syntax.specs.declared.seen.Seen.{Seen}
+use Rattle.alloy_syntax.specs.declared.parser_token.ParserToken.{ParserToken}
 use Rattle.alloy_syntax.specs.Tree.{BoundArrowTree, ModelTree}
-use Rattle.alloy_syntax.specs.Readers.{Stop, refused, too_deep, unsupported, next_is, after, place_at, name_at, is_mark, after_mark}
+use Rattle.alloy_syntax.specs.Readers.{ParseStopView, refused, too_deep, unsupported, next_is, after, place_at, name_at, is_mark, after_mark}
 use Rattle.alloy_syntax.specs.Bounds.{Bounded, Standing, whole, part, beside, BoundReader, is_whole, word_round, operand_in, standing_beside, word_beside, refuse_word, side_over, begins_bound_arrow, bound_arrow_over, more_bound_arrows, bound_arrows_over, operand_over, bound_over, begins_bound, bound_within}
 use Rattle.alloy_syntax.specs.Nodes.{within}
 use Rattle.alloy_syntax.specs.Paragraphs.{own_block, field_at, fields_at, parent_at, after_qualifier, after_abstract, is_qualifier, qualified, signatures_at, label_at, fact_at, parameters_to, parameter_list, predicate_at, function_at, assertion_at, entry_at, entries_at, exceptions_at, has_default, scope_at, expected_at, target_at, command_at, paragraph_at, is_left, heading_at, ordering_at, open_at, model_at}
@@ -21,33 +21,33 @@ use Rattle.error_positions.proofs.Faults.NodesAmong.{block_lands, sum_lands, bra
 -- ---- bounds, and the words that may not stand in them
 
 -- a word stands among the tokens
-abbrev pub WordAmong : List Seen → Option (List Seen) → Type 0
+abbrev pub WordAmong : List ParserToken → Option (List ParserToken) → Type 0
 WordAmong base None = Unit {0}
 WordAmong base (Some word) = AreLast base word
 
-abbrev pub StandsAmong : List Seen → Standing → Type 0
+abbrev pub StandsAmong : List ParserToken → Standing → Type 0
 StandsAmong base whole = Unit {0}
 StandsAmong base part = Unit {0}
 StandsAmong base (beside word) = AreLast base word
 
-abbrev pub BoundLeaves : List Seen → Bounded × List Seen → Type 0
+abbrev pub BoundLeaves : List ParserToken → Bounded × List ParserToken → Type 0
 BoundLeaves base x = AreLast base x.1 × WordAmong base x.0.marked
 
-abbrev pub BoundLands : List Seen → Result (Bounded × List Seen) Stop → Type 0
+abbrev pub BoundLands : List ParserToken → Result (Bounded × List ParserToken) ParseStopView → Type 0
 BoundLands base r = Among base (BoundLeaves base) r
 
-abbrev pub BoundKeeps : List Seen → BoundReader → Type 0
-BoundKeeps base j = (s : Standing) → StandsAmong base s → (ts : List Seen) → AreLast base ts → BoundLands base (j s ts)
+abbrev pub BoundKeeps : List ParserToken → BoundReader → Type 0
+BoundKeeps base j = (s : Standing) → StandsAmong base s → (ts : List ParserToken) → AreLast base ts → BoundLands base (j s ts)
 
 abbrev Passed : Unit {0} → Type 0
 Passed u = Unit {0}
 
-module _ (base : List Seen) where
-  word_choice : (test : Bool) (u v : Option (List Seen)) → WordAmong base u → WordAmong base v → WordAmong base (if test then u else v)
+module _ (base : List ParserToken) where
+  word_choice : (test : Bool) (u v : Option (List ParserToken)) → WordAmong base u → WordAmong base v → WordAmong base (if test then u else v)
   word_choice true u v e f = e
   word_choice false u v e f = f
 
-  beside_among : (ts : List Seen) → AreLast base ts → WordAmong base (word_beside ts)
+  beside_among : (ts : List ParserToken) → AreLast base ts → WordAmong base (word_beside ts)
   unfolding word_beside
   beside_among ts e = word_choice (is_mark ts) (Some ts) (if is_mark (after ts) then Some (after ts) else None) e (word_choice (is_mark (after ts)) (Some (after ts)) None (after_last base ts e) tt)
 
@@ -57,7 +57,7 @@ module _ (base : List Seen) where
   round_among part e = tt
   round_among (beside word) e = e
 
-  side_among : (w : Option (List Seen)) → WordAmong base w → StandsAmong base (standing_beside w)
+  side_among : (w : Option (List ParserToken)) → WordAmong base w → StandsAmong base (standing_beside w)
   unfolding standing_beside
   side_among None e = tt
   side_among (Some word) e = e
@@ -68,7 +68,7 @@ module _ (base : List Seen) where
   operand_among part e = tt
   operand_among (beside word) e = e
 
-  pub word_lands : (strict : Bool) (w : Option (List Seen)) → WordAmong base w → Among base Passed (refuse_word strict w)
+  pub word_lands : (strict : Bool) (w : Option (List ParserToken)) → WordAmong base w → Among base Passed (refuse_word strict w)
   word_lands strict None e = read tt refl tt
   word_lands strict (Some word) e = among_choice strict (stops (unsupported form.ArrowMultiplicity word) refl e) (read tt refl tt)
 
@@ -80,7 +80,7 @@ module _ (base : List Seen) where
         (among_then (below s w (after ts) (after_last base ts e)) (λ x f. among_then (expect_lands base class.RightParen x.1 f.0) (λ c g. read _ refl (g, f.1))))
         (among_then (spelled_lands base class.Name ts e) (λ x f. read _ refl (f, tt)))
 
-    pub arrow_lands : (s : Standing) → StandsAmong base s → (marked : Option (List Seen)) → WordAmong base marked → (has_arrow : Bool) → Keeps base (bound_arrow_over strict j s marked has_arrow)
+    pub arrow_lands : (s : Standing) → StandsAmong base s → (marked : Option (List ParserToken)) → WordAmong base marked → (has_arrow : Bool) → Keeps base (bound_arrow_over strict j s marked has_arrow)
     unfolding bound_arrow_over
     arrow_lands s w marked m has_arrow ts e =
         among_then (expect_lands base class.Arrow (after_mark ts) (after_mark_last base ts e)) (λ a f.
@@ -114,7 +114,7 @@ module _ (base : List Seen) where
 
 -- ---- paragraphs
 
-module _ (base : List Seen) where
+module _ (base : List ParserToken) where
   pub name_lands : Keeps base name_at
   name_lands = spelled_lands base class.Name
 
@@ -125,13 +125,13 @@ module _ (base : List Seen) where
       (among_choice (next_is class.In ts) (among_then (name_lands (after ts) (after_last base ts e)) (λ x f. read _ refl f))
       (read _ refl e))
 
-  pub after_qualifier_last : (ts : List Seen) → AreLast base ts → AreLast base (after_qualifier ts)
+  pub after_qualifier_last : (ts : List ParserToken) → AreLast base ts → AreLast base (after_qualifier ts)
   after_qualifier_last ts e = choice_last base (is_qualifier ts) (after ts) ts (after_last base ts e) e
 
-  pub after_abstract_last : (ts : List Seen) → AreLast base ts → AreLast base (after_abstract ts)
+  pub after_abstract_last : (ts : List ParserToken) → AreLast base ts → AreLast base (after_abstract ts)
   after_abstract_last ts e = choice_last base (next_is class.Abstract ts) (after ts) ts (after_last base ts e) e
 
-  pub qualified_last : (ts : List Seen) → AreLast base ts → AreLast base (qualified ts).behind
+  pub qualified_last : (ts : List ParserToken) → AreLast base ts → AreLast base (qualified ts).behind
   unfolding qualified
   qualified_last ts e =
       elim (either (next_is class.Abstract ts)) [
@@ -252,21 +252,21 @@ module _ (base : List Seen) where
 abbrev Whole : ModelTree → Type 0
 Whole m = Unit {0}
 
-pub model_lands : (strict : Bool) (limit : ℕ) (ts : List Seen) → Among ts Whole (model_at strict limit ts)
+pub model_lands : (strict : Bool) (limit : ℕ) (ts : List ParserToken) → Among ts Whole (model_at strict limit ts)
 unfolding model_at
 model_lands strict limit ts =
     among_then (heading_lands ts ts (all_last ts)) (λ h e. among_then (many_lands ts (next_is class.Open) open_at (open_lands ts) h.1 e) (λ o f.
     among_then (many_lands ts is_left (paragraph_at strict limit) (paragraph_lands ts strict limit) o.1 f) (λ ps g. read _ refl tt)))
 
-abbrev failed : Stop → Result ModelTree Stop
+abbrev failed : ParseStopView → Result ModelTree ParseStopView
 failed d = Err d
 
-stop_is : (d e : Stop) → failed d ≡ failed e → d ≡ e
+stop_is : (d e : ParseStopView) → failed d ≡ failed e → d ≡ e
 stop_is d e same = cc
 
-pub stop_among : (strict : Bool) (limit : ℕ) (ts : List Seen) (d : Stop) → model_at strict limit ts ≡ Err d → AreLast ts (unread d)
+pub stop_among : (strict : Bool) (limit : ℕ) (ts : List ParserToken) (d : ParseStopView) → model_at strict limit ts ≡ Err d → AreLast ts (unread d)
 stop_among strict limit ts d e =
     elim (model_lands strict limit ts) [
       | read m f p ↦ no_success d m (sym e ∙ f)
-      | stops c f last ↦ subst (λ (s : Stop). AreLast ts (unread s)) (stop_is c d (sym f ∙ e)) last
+      | stops c f last ↦ subst (λ (s : ParseStopView). AreLast ts (unread s)) (stop_is c d (sym f ∙ e)) last
     ]

@@ -13,7 +13,7 @@ use Rattle.alloy_syntax.specs.declared.tree.Quantifier.{Quantifier}
 use Rattle.alloy_syntax.specs.declared.tree.Quantifier.TheVariants as quantifier
 use Rattle.alloy_syntax.specs.declared.tree.Prefix.{Prefix}
 use Rattle.alloy_syntax.specs.declared.tree.Prefix.TheVariants as prefix
-use Rattle.alloy_syntax.specs.declared.seen.Seen.{Seen}
+use Rattle.alloy_syntax.specs.declared.parser_token.ParserToken.{ParserToken}
 use Rattle.alloy_syntax.specs.Tree.{Tree}
 use Rattle.alloy_syntax.specs.Readers.{Parser, next_is, after, place_at, expect, name_at, is_mark, after_mark, repeated, listed, others, names_at}
 use Rattle.alloy_syntax.specs.Nodes.{Reader, is_comprehension, block_over, block_tree, is_inner, paren_over, is_constant, primary_over, behind_prefix, is_tightening, tightening_of, tight_over, arguments_over, brackets_over, begins_step, step_over, path_over, begins_link, link_over, chained, restrict_over, begins_arrow, arrow_over, arrows_over, meet_over, override_over, size_over, sum_over, braced_over, counting_of, is_counting, counted_over, begins_comparison, comparing_at, comparison_over, begins_declaration, quantifier_of, negation_over, and_over, implied_over, implication_over, iff_over, node_over, is_single, after_disj, one_name, are_several, one_alone, variable_names, variables_over, declaration_over, another_declaration, more_declarations, declarations_over, body_over, quantified_over, binding_over, bindings_over, let_over, inside_over}
@@ -21,7 +21,7 @@ use Rattle.error_positions.proofs.Faults.Follows.{Follows, same, excused, Relaxe
 use Rattle.alloy_grammar.proofs.Results.{success, stop, known, either}
 
 abbrev pub Alike : {A : Type 0} → Bool → Bool → Parser A → Parser A → Type 0
-Alike deep forms p q = (ts : List Seen) → Follows deep forms (p ts) (q ts)
+Alike deep forms p q = (ts : List ParserToken) → Follows deep forms (p ts) (q ts)
 
 -- the second reader follows the first
 abbrev pub Below : Bool → Bool → Reader → Reader → Type 0
@@ -147,7 +147,7 @@ module _ (deep forms : Bool) (i j : Reader) (below : Below deep forms i j) where
 
   -- ---- declarations, of one variable alone, or of several
 
-  one_follows : IsTrue forms → (ts : List Seen) → Follows deep forms (one_name ts) (names_at ts)
+  one_follows : IsTrue forms → (ts : List ParserToken) → Follows deep forms (one_name ts) (names_at ts)
   unfolding one_name names_at listed others repeated
   one_follows f ts =
       elim (known (name_at ts)) [
@@ -163,34 +163,34 @@ module _ (deep forms : Bool) (i j : Reader) (below : Below deep forms i j) where
             ])
       ]
 
-  relaxed_names : IsTrue forms → (ts : List Seen) → Follows deep forms (variable_names true ts) (variable_names false ts)
+  relaxed_names : IsTrue forms → (ts : List ParserToken) → Follows deep forms (variable_names true ts) (variable_names false ts)
   unfolding variable_names
   relaxed_names f ts = elim (either (next_is class.Disj ts)) [ inl is ↦ rw is (one_follows f (after ts)) | inr fails ↦ rw fails (same refl) ]
 
-  names_follow : (s t : Bool) → Relaxed forms s t → (ts : List Seen) → Follows deep forms (variable_names s ts) (variable_names t ts)
+  names_follow : (s t : Bool) → Relaxed forms s t → (ts : List ParserToken) → Follows deep forms (variable_names s ts) (variable_names t ts)
   names_follow s t (as_strict e) ts = same (ap (λ (b : Bool). variable_names b ts) e)
   names_follow s t (relaxed e f g) ts = rw (e, f) (relaxed_names g ts)
 
-  relaxed_alone : IsTrue forms → (ts : List Seen) (ns : List Name) (rest : List Seen) → Follows deep forms (one_alone true ts ns rest) (one_alone false ts ns rest)
+  relaxed_alone : IsTrue forms → (ts : List ParserToken) (ns : List Name) (rest : List ParserToken) → Follows deep forms (one_alone true ts ns rest) (one_alone false ts ns rest)
   relaxed_alone f ts ns rest = elim (either (are_several ns)) [ inl is ↦ rw is (excused _ refl f) | inr fails ↦ rw fails (same refl) ]
 
-  alone_follows : (s t : Bool) → Relaxed forms s t → (ts : List Seen) (ns : List Name) (rest : List Seen) → Follows deep forms (one_alone s ts ns rest) (one_alone t ts ns rest)
+  alone_follows : (s t : Bool) → Relaxed forms s t → (ts : List ParserToken) (ns : List Name) (rest : List ParserToken) → Follows deep forms (one_alone s ts ns rest) (one_alone t ts ns rest)
   alone_follows s t (as_strict e) ts ns rest = same (ap (λ (b : Bool). one_alone b ts ns rest) e)
   alone_follows s t (relaxed e f g) ts ns rest = rw (e, f) (relaxed_alone g ts ns rest)
 
-  variables_follow : (s t : Bool) → Relaxed forms s t → (ts : List Seen) → Follows deep forms (variables_over s ts) (variables_over t ts)
+  variables_follow : (s t : Bool) → Relaxed forms s t → (ts : List ParserToken) → Follows deep forms (variables_over s ts) (variables_over t ts)
   unfolding variables_over
   variables_follow s t r ts = bind (names_follow s t r ts) (λ ns. onward (expect class.Colon ns.1) (λ c. alone_follows s t r ts ns.0 c.1))
 
-  declaration_follows : (s t : Bool) → Relaxed forms s t → (ts : List Seen) → Follows deep forms (declaration_over i s ts) (declaration_over j t ts)
+  declaration_follows : (s t : Bool) → Relaxed forms s t → (ts : List ParserToken) → Follows deep forms (declaration_over i s ts) (declaration_over j t ts)
   unfolding declaration_over
   declaration_follows s t r ts = bind (variables_follow s t r ts) (λ ns. bind (sum_follows around.Parens (after_mark ns.1)) (λ d. same refl))
 
-  strict_another : (s : Bool) (ts : List Seen) → Follows deep forms (another_declaration i s ts) (another_declaration j s ts)
+  strict_another : (s : Bool) (ts : List ParserToken) → Follows deep forms (another_declaration i s ts) (another_declaration j s ts)
   unfolding another_declaration
   strict_another s ts = choice s (same refl) (declaration_follows false false (as_strict refl) (after ts))
 
-  relaxed_another : IsTrue forms → (ts : List Seen) → Follows deep forms (another_declaration i true ts) (another_declaration j false ts)
+  relaxed_another : IsTrue forms → (ts : List ParserToken) → Follows deep forms (another_declaration i true ts) (another_declaration j false ts)
   unfolding another_declaration declaration_over variables_over variable_names names_at listed
   relaxed_another f ts =
       elim (known (name_at (after_disj (after ts)))) [
@@ -198,11 +198,11 @@ module _ (deep forms : Bool) (i j : Reader) (below : Below deep forms i j) where
         | success x is ↦ rw is (excused _ refl f)
       ]
 
-  another_follows : (s t : Bool) → Relaxed forms s t → (ts : List Seen) → Follows deep forms (another_declaration i s ts) (another_declaration j t ts)
+  another_follows : (s t : Bool) → Relaxed forms s t → (ts : List ParserToken) → Follows deep forms (another_declaration i s ts) (another_declaration j t ts)
   another_follows s t (as_strict e) ts = subst (λ (b : Bool). Follows deep forms (another_declaration i s ts) (another_declaration j b ts)) e (strict_another s ts)
   another_follows s t (relaxed e f g) ts = rw (e, f) (relaxed_another g ts)
 
-  pub declarations_follow : (s t : Bool) → Relaxed forms s t → (ts : List Seen) → Follows deep forms (declarations_over i s ts) (declarations_over j t ts)
+  pub declarations_follow : (s t : Bool) → Relaxed forms s t → (ts : List ParserToken) → Follows deep forms (declarations_over i s ts) (declarations_over j t ts)
   unfolding declarations_over more_declarations
   declarations_follow s t r ts =
       bind (declaration_follows s t r ts) (λ d. bind (many_follows (next_is class.Comma) (another_declaration i s) (another_declaration j t) (another_follows s t r) d.1) (λ ds. same refl))

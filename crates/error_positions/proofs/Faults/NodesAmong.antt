@@ -13,17 +13,17 @@ use Rattle.alloy_syntax.specs.declared.tree.Quantifier.{Quantifier}
 use Rattle.alloy_syntax.specs.declared.tree.Quantifier.TheVariants as quantifier
 use Rattle.alloy_syntax.specs.declared.tree.Prefix.{Prefix}
 use Rattle.alloy_syntax.specs.declared.tree.Prefix.TheVariants as prefix
-use Rattle.alloy_syntax.specs.declared.seen.Seen.{Seen}
+use Rattle.alloy_syntax.specs.declared.parser_token.ParserToken.{ParserToken}
 use Rattle.alloy_syntax.specs.Tree.{Tree}
 use Rattle.alloy_syntax.specs.Readers.{refused, too_deep, unsupported, Parser, next_is, after, place_at, is_mark, after_mark}
 use Rattle.alloy_syntax.specs.Nodes.{Reader, begins, may_be_block, stop_at, is_comprehension, block_over, block_tree, is_inner, paren_over, is_constant, primary_over, behind_prefix, is_tightening, tightening_of, tight_over, arguments_over, brackets_over, begins_step, step_over, path_over, begins_link, link_over, chained, restrict_over, begins_arrow, arrow_over, arrows_over, meet_over, override_over, size_over, sum_over, braced_over, counting_of, is_counting, counted_over, begins_comparison, negated_comparing, comparing_at, comparison_over, begins_declaration, quantifier_of, negation_over, and_over, implied_over, implication_over, iff_over, node_over, is_single, after_disj, second_is_refused, one_name, are_several, variable_names, variables_over, declaration_over, another_declaration, more_declarations, declarations_over, body_over, quantified_over, binding_over, bindings_over, let_over, inside_over, within}
 use Rattle.error_positions.specs.Faults.Stops.{AreLast}
 use Rattle.error_positions.proofs.Faults.LastTokens.{Keeps, read, stops, after_last, choice_last, after_mark_last, among_then, among_choice, expect_lands, spelled_lands, number_lands, many_lands, listed_lands, names_land}
 
-abbrev pub Below : List Seen → Reader → Type 0
+abbrev pub Below : List ParserToken → Reader → Type 0
 Below base i = (a : Around) (part : Inside) → Keeps base (i a part)
 
-module _ (base : List Seen) where
+module _ (base : List ParserToken) where
   pub link_lands : (l : Level) (p : Parser Tree) → Keeps base p → Keeps base (link_over l p)
   unfolding link_over
   link_lands l p h ts e = among_then (h (after ts) (after_last base ts e)) (λ x f. read _ refl f)
@@ -54,7 +54,7 @@ module _ (base : List Seen) where
   unfolding one_name
   one_name_lands ts e = among_then (spelled_lands base class.Name ts e) (λ x f. among_choice (next_is class.Comma x.1) (second_lands (after x.1) (after_last base x.1 f)) (read _ refl f))
 
-  pub after_disj_last : (ts : List Seen) → AreLast base ts → AreLast base (after_disj ts)
+  pub after_disj_last : (ts : List ParserToken) → AreLast base ts → AreLast base (after_disj ts)
   after_disj_last ts e = choice_last base (next_is class.Disj ts) (after ts) ts (after_last base ts e) e
 
   pub variables_land : (single : Bool) → Keeps base (variables_over single)

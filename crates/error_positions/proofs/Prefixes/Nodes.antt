@@ -14,7 +14,7 @@ use Rattle.alloy_syntax.specs.declared.tree.Prefix.{Prefix}
 use Rattle.alloy_syntax.specs.declared.tree.Prefix.TheVariants as prefix
 use Rattle.alloy_syntax.specs.declared.tree.Operator.TheVariants as operator
 use Rattle.alloy_syntax.specs.declared.tree.Comparison.TheVariants as comparison
-use Rattle.alloy_syntax.specs.declared.seen.Seen.{Seen}
+use Rattle.alloy_syntax.specs.declared.parser_token.ParserToken.{ParserToken}
 use Rattle.alloy_syntax.specs.Tree.{Tree}
 use Rattle.alloy_syntax.specs.Readers.{refused, unsupported, Parser, next_is, after, place_at, is_mark}
 use Rattle.alloy_syntax.specs.Nodes.{Reader, block_over, block_tree, is_comprehension, is_inner, paren_over, is_constant, constant_of, primary_over, behind_prefix, is_tightening, tightening_of, tight_over, arguments_over, brackets_over, begins_step, step_over, path_over, begins_link, operator_of, link_over, chained, restrict_over, begins_arrow, arrow_over, arrows_over, meet_over, override_over, size_over, sum_over, braced_over, counting_of, is_counting, counted_over, is_plain_comparison, begins_comparison, negated_comparing, comparing_at, comparison_over, begins_declaration, quantifier_of, negation_over, and_over, implied_over, implication_over, iff_over, node_over}
@@ -31,7 +31,7 @@ use Rattle.error_positions.proofs.Prefixes.Openings.{close_node, close_sum, clos
 
 -- ---- operators and comparisons
 
-link_gives : (l : Level) (p : Parser Tree) → Goes p (Node (suc (number_of l))) → (ts : List Seen) → begins_link l ts ≡ true → Gives (Link (number_of l)) ts (link_over l p ts)
+link_gives : (l : Level) (p : Parser Tree) → Goes p (Node (suc (number_of l))) → (ts : List ParserToken) → begins_link l ts ≡ true → Gives (Link (number_of l)) ts (link_over l p ts)
 unfolding link_over
 link_gives l p h ts is = gives_map (link_text (number_of l) (operator_of l ts) (link_level l ts)) (gives_behind (moved_sign (link_sign l ts is)) (gives_last _ (h (after ts))))
 
@@ -41,11 +41,11 @@ chained_gives l p h ts =
     gives_map (chain_text (number_of l)) (gives_then (h ts) (close_none (Link (number_of l))) (λ x.
     gives_choice (begins_link l x.1) (λ _. gives_last _ (gives_many (begins_link l) (link_over l p) (link_gives l p h) x.1)) (λ _. gives_no_more (Link (number_of l)) x.0 x.1)))
 
-prefix_gives : (f : Prefix) (p : Parser Tree) (ts : List Seen) → Moved (Token (class_of_prefix f)) ts (after ts) → Goes p (Node (level_behind f)) → Gives (Node (level_of_prefix f)) ts (behind_prefix f p ts)
+prefix_gives : (f : Prefix) (p : Parser Tree) (ts : List ParserToken) → Moved (Token (class_of_prefix f)) ts (after ts) → Goes p (Node (level_behind f)) → Gives (Node (level_of_prefix f)) ts (behind_prefix f p ts)
 unfolding behind_prefix
 prefix_gives f p ts m h = gives_map (prefix_text f) (gives_behind m (gives_last _ (h (after ts))))
 
-plain_compare : (ts : List Seen) → is_plain_comparison ts ≡ true → Moved Compare ts (after ts)
+plain_compare : (ts : List ParserToken) → is_plain_comparison ts ≡ true → Moved Compare ts (after ts)
 unfolding is_plain_comparison
 plain_compare ts e =
     either_of e (λ e1. either_of e1 (λ e2. either_of e2 (λ e3. either_of e3 (λ e4. either_of e4 (λ e5. either_of e5
@@ -57,10 +57,10 @@ plain_compare ts e =
     (λ is. moved_map (λ us vs t. plain comparison.AtMost t) (moved_token class.AtMost ts is)))
     (λ is. moved_map (λ us vs t. plain comparison.AtLeast t) (moved_token class.AtLeast ts is))
 
-abbrev In_or_equal : List Seen → List Seen → Type 0
+abbrev In_or_equal : List ParserToken → List ParserToken → Type 0
 In_or_equal = Or (Token class.In) (Token class.Equal)
 
-compare_gives : (a : Around) (ts : List Seen) → begins_comparison a ts ≡ true → Gives Compare ts (comparing_at ts)
+compare_gives : (a : Around) (ts : List ParserToken) → begins_comparison a ts ≡ true → Gives Compare ts (comparing_at ts)
 unfolding comparing_at negated_comparing begins_comparison
 compare_gives a ts goes =
     gives_choice (next_is class.Not ts)
@@ -71,7 +71,7 @@ compare_gives a ts goes =
     (λ fails. gone _ refl (plain_compare ts (or_no (is_plain_comparison ts) (rw fails at goes))))
 
 -- an arrow stands behind the word
-behind_mark : (ts : List Seen) → begins_arrow ts ≡ true → is_mark ts ≡ true → next_is class.Arrow (after ts) ≡ true
+behind_mark : (ts : List ParserToken) → begins_arrow ts ≡ true → is_mark ts ≡ true → next_is class.Arrow (after ts) ≡ true
 unfolding begins_arrow is_mark is_class
 behind_mark ts goes is =
     either_of goes
@@ -142,7 +142,7 @@ module _ (i : Reader) (below : (a : Around) (part : Inside) → Goes (i a part) 
   unfolding restrict_over
   restrict_gives a = chained_gives level.Restrict (path_over i a) (path_gives a)
 
-  arrow_gives : (a : Around) (ts : List Seen) → begins_arrow ts ≡ true → Gives (Link product_level) ts (arrow_over i a ts)
+  arrow_gives : (a : Around) (ts : List ParserToken) → begins_arrow ts ≡ true → Gives (Link product_level) ts (arrow_over i a ts)
   unfolding arrow_over begins_arrow
   arrow_gives a ts goes =
       let close : Closing (Node restrict_level) = close_node restrict_level (omega arith) in

@@ -7,7 +7,7 @@ use Rattle.alloy_syntax.specs.declared.reading.Inside.TheVariants as inside
 use Rattle.alloy_syntax.specs.declared.tree.Prefix.TheVariants as prefix
 use Rattle.alloy_syntax.specs.declared.tree.Quantifier.TheVariants as quantifier
 use Rattle.alloy_syntax.specs.declared.tree.Constant.TheVariants as constants
-use Rattle.alloy_syntax.specs.declared.seen.Seen.{Seen}
+use Rattle.alloy_syntax.specs.declared.parser_token.ParserToken.{ParserToken}
 use Rattle.alloy_syntax.specs.Readers.{next_is}
 use Rattle.alloy_syntax.specs.Nodes.{begins_primary, is_tightening, begins_tight, begins_sum, is_counting, begins_node, is_comprehension, may_be_block, begins}
 use Rattle.alloy_grammar.specs.Fronts.{Front}
@@ -61,17 +61,17 @@ close_part (inside.Let p) = close_let
 
 -- ---- such that begin alike
 
-pub record Opens (F : Front) (ts : List Seen) : Type 0 where
+pub record Opens (F : Front) (ts : List ParserToken) : Type 0 where
   pub close : Closing F
-  pub alike : (rest : List Seen) → next_terminal (close.tokens rest) ≡ next_terminal ts
+  pub alike : (rest : List ParserToken) → next_terminal (close.tokens rest) ≡ next_terminal ts
 
-pub opens : {F : Front} {ts : List Seen} (c : Class) (close : Closing F) → ((rest : List Seen) → next_terminal (close.tokens rest) ≡ Some c) → next_is c ts ≡ true → Opens F ts
+pub opens : {F : Front} {ts : List ParserToken} (c : Class) (close : Closing F) → ((rest : List ParserToken) → next_terminal (close.tokens rest) ≡ Some c) → next_is c ts ≡ true → Opens F ts
 opens {F} {ts} c close first is = record { close = close; alike = λ rest. first rest ∙ sym (terminal_is c ts is) }
 
-opens_map : {F G : Front} {ts : List Seen} → ((us vs : List Seen) → F us vs → G us vs) → Opens F ts → Opens G ts
+opens_map : {F G : Front} {ts : List ParserToken} → ((us vs : List ParserToken) → F us vs → G us vs) → Opens F ts → Opens G ts
 opens_map to o = record { close = close_map to o.close; alike = o.alike }
 
-opens_primary : (ts : List Seen) → begins_primary ts ≡ true → Opens (Node primary_level) ts
+opens_primary : (ts : List ParserToken) → begins_primary ts ≡ true → Opens (Node primary_level) ts
 unfolding begins_primary
 opens_primary ts e =
     either_of e (λ e1. either_of e1 (λ e2. either_of e2 (λ e3. either_of e3 (λ e4. either_of e4 (λ e5. either_of e5 (λ e6. either_of e6
@@ -84,7 +84,7 @@ opens_primary ts e =
     (opens class.LeftParen (close_map paren_text (close_then (close_token class.LeftParen refl) (close_then (close_node 0 (omega arith)) (close_token class.RightParen refl)))) (λ rest. refl)))
     (opens class.LeftBrace (close_map block_text close_braces) (λ rest. refl))
 
-opens_tight : (ts : List Seen) → begins_tight ts ≡ true → Opens (Node tight_level) ts
+opens_tight : (ts : List ParserToken) → begins_tight ts ≡ true → Opens (Node tight_level) ts
 unfolding begins_tight is_tightening
 opens_tight ts e =
     let inner = close_node tight_level (omega arith) in
@@ -94,13 +94,13 @@ opens_tight ts e =
     (opens class.Star (close_map (prefix_text prefix.ReflexiveClosure) (close_then (close_token class.Star refl) inner)) (λ rest. refl)))
     (λ p. opens_map (lower tight_level (omega arith)) (opens_primary ts p))
 
-opens_size : (ts : List Seen) → begins_sum ts ≡ true → Opens (Node size_level) ts
+opens_size : (ts : List ParserToken) → begins_sum ts ≡ true → Opens (Node size_level) ts
 unfolding begins_sum
 opens_size ts e =
     either_of e (opens class.Hash (close_map (prefix_text prefix.Size) (close_then (close_token class.Hash refl) (close_node size_level (omega arith)))) (λ rest. refl))
     (λ t. opens_map (lower size_level (omega arith)) (opens_tight ts t))
 
-opens_node : (ts : List Seen) → begins_node ts ≡ true → Opens (Node negation_level) ts
+opens_node : (ts : List ParserToken) → begins_node ts ≡ true → Opens (Node negation_level) ts
 unfolding begins_node is_counting
 opens_node ts e =
     let down = lower {k = 6} negation_level (omega arith) in
@@ -119,7 +119,7 @@ abbrev with_disj : Closing Quantified
 with_disj = close_then (close_listed (close_then (close_then (close_map (λ us vs t. some t) (close_token class.Disj refl)) (close_then close_names (close_token class.Colon refl))) close_domain)) close_body
 
 -- a shortest text of a part under one construct more, where the next token may begin it
-pub opens_part : (part : Inside) (ts : List Seen) → begins part ts ≡ true → Opens (Part part) ts
+pub opens_part : (part : Inside) (ts : List ParserToken) → begins part ts ≡ true → Opens (Part part) ts
 unfolding begins
 opens_part inside.Node ts e = opens_map (lower 0 (omega arith)) (opens_node ts e)
 opens_part inside.Negation ts e = opens_node ts e
@@ -131,7 +131,7 @@ opens_part (inside.Quantified q p) ts e = either_of e (opens class.Disj with_dis
 opens_part (inside.Let p) ts e = opens class.Name close_let (λ rest. refl) e
 
 -- a block, where one may stand
-pub opens_block : (part : Inside) (ts : List Seen) → may_be_block part ≡ true → is_comprehension ts ≡ true → Opens (Part part) ts
+pub opens_block : (part : Inside) (ts : List ParserToken) → may_be_block part ≡ true → is_comprehension ts ≡ true → Opens (Part part) ts
 unfolding may_be_block is_comprehension
 opens_block inside.Node ts e is = opens class.LeftBrace (close_map (lower 0 (omega arith)) (close_map block_text close_braces)) (λ rest. refl) (and_left _ _ is)
 opens_block inside.Negation ts e is = opens class.LeftBrace (close_map (lower negation_level (omega arith)) (close_map block_text close_braces)) (λ rest. refl) (and_left _ _ is)

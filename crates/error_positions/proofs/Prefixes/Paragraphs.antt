@@ -6,7 +6,7 @@ use Rattle.alloy_syntax.specs.declared.class.Class.TheVariants as class
 use Rattle.alloy_syntax.specs.declared.reading.Around.TheVariants as around
 use Rattle.alloy_syntax.specs.declared.tree.CommandKind.{CommandKind}
 use Rattle.alloy_syntax.specs.declared.tree.CommandKind.TheVariants as kind
-use Rattle.alloy_syntax.specs.declared.seen.Seen.{Seen}
+use Rattle.alloy_syntax.specs.declared.parser_token.ParserToken.{ParserToken}
 use Rattle.alloy_syntax.specs.Readers.{next_is, after, place_at, is_mark, after_mark, multiplicity_of}
 use Rattle.alloy_syntax.specs.Nodes.{within}
 use Rattle.alloy_syntax.specs.Paragraphs.{own_block, field_at, fields_at, parent_at, is_qualifier as is_qualifier_next, after_qualifier, qualified, signatures_at, label_at, fact_at, parameters_to, parameter_list, predicate_at, function_at, assertion_at, entry_at, entries_at, exceptions_at, has_default, scope_at, expected_at, target_at, command_at, paragraph_at}
@@ -30,14 +30,14 @@ is_not : (b : Bool) → not b ≡ true → b ≡ false
 is_not true e = absurd cc
 is_not false e = refl
 
-not_set : (ts : List Seen) → next_is class.Set ts ≡ false → is_qualifier (multiplicity_of ts) ≡ true
+not_set : (ts : List ParserToken) → next_is class.Set ts ≡ false → is_qualifier (multiplicity_of ts) ≡ true
 not_set ts none_set =
     elim (either (next_is class.One ts)) [
       | inl is ↦ rw (none_set, is) refl
       | inr a ↦ elim (either (next_is class.Lone ts)) [ inl is ↦ rw (none_set, a, is) refl | inr b ↦ rw (none_set, a, b) refl ]
     ]
 
-moved_qualifier : (ts : List Seen) → Moved (Maybe Qualifier) ts (after_qualifier ts)
+moved_qualifier : (ts : List ParserToken) → Moved (Maybe Qualifier) ts (after_qualifier ts)
 unfolding is_qualifier_next
 moved_qualifier ts =
     elim (either (is_mark ts && not (next_is class.Set ts))) [
@@ -45,7 +45,7 @@ moved_qualifier ts =
       | inr fails ↦ rw fails (moved_maybe Qualifier ts)
     ]
 
-moved_qualifiers : (ts : List Seen) → Moved Qualifiers ts (qualified ts).behind
+moved_qualifiers : (ts : List ParserToken) → Moved Qualifiers ts (qualified ts).behind
 unfolding qualified
 moved_qualifiers ts =
     elim (either (next_is class.Abstract ts)) [
@@ -113,7 +113,7 @@ module _ (strict : Bool) (limit : ℕ) where
   unfolding fields_at
   fields_give ts = gives_choice (next_is class.RightBrace ts) (λ _. gives_none (Listed Field) [] ts) (λ _. gives_map (λ us vs t. some t) (gives_listed (field_at strict limit) field_gives ts))
 
-  signatures_sign : (ts : List Seen) → Signs Paragraph Signature ts (signatures_at strict limit ts)
+  signatures_sign : (ts : List ParserToken) → Signs Paragraph Signature ts (signatures_at strict limit ts)
   unfolding signatures_at
   signatures_sign ts =
       let close_fields = close_then (close_maybe (Listed Field)) (close_token class.RightBrace refl) in
@@ -185,7 +185,7 @@ module _ (strict : Bool) (limit : ℕ) where
       gives_then (target_gives ts) (close_then (close_maybe ScopeText) (close_maybe ExpectedText)) (λ t.
       gives_then (scope_gives t.1) (close_maybe ExpectedText) (λ s. gives_last _ (expected_gives s.1)))
 
-  pub paragraph_signs : (ts : List Seen) → Signs Paragraph Signature ts (paragraph_at strict limit ts)
+  pub paragraph_signs : (ts : List ParserToken) → Signs Paragraph Signature ts (paragraph_at strict limit ts)
   unfolding paragraph_at
   paragraph_signs ts =
       signs_choice (next_is class.Fact ts) (λ is. plainly (gives_map fact_text (gives_behind (moved_token class.Fact ts is) (fact_gives (after ts)))))

@@ -10,10 +10,10 @@ use Rattle.alloy_syntax.specs.declared.reading.Inside.{Inside}
 use Rattle.alloy_syntax.specs.declared.reading.Inside.TheVariants as inside
 use Rattle.alloy_syntax.specs.declared.tree.Name.{Name}
 use Rattle.alloy_syntax.specs.declared.tree.Quantifier.{Quantifier}
-use Rattle.alloy_syntax.specs.declared.seen.Seen.{Seen}
+use Rattle.alloy_syntax.specs.declared.parser_token.ParserToken.{ParserToken}
 use Rattle.alloy_syntax.specs.Class.{is_class}
 use Rattle.alloy_syntax.specs.Tree.{Tree}
-use Rattle.alloy_syntax.specs.Readers.{Stop, refused, too_deep, unsupported, ◌>>=◌, next_is, after, expect, spelled_at, name_at, is_mark, after_mark, multiplicity_of, names_at}
+use Rattle.alloy_syntax.specs.Readers.{ParseStopView, refused, too_deep, unsupported, ◌>>=◌, next_is, after, expect, spelled_at, name_at, is_mark, after_mark, multiplicity_of, names_at}
 use Rattle.alloy_syntax.specs.Nodes.{Reader, is_comprehension, may_be_block, begins, stop_at, node_over, is_single, after_disj, second_is_refused, one_name, are_several, one_alone, variable_names, variables_over, declaration_over, another_declaration, more_declarations, declarations_over, body_over, quantified_over, binding_over, bindings_over, let_over, inside_over, within}
 use Rattle.alloy_grammar.specs.Fronts.{Front, names}
 use Rattle.alloy_grammar.specs.Nodes.{begins_operator, unless_operator}
@@ -30,14 +30,14 @@ use Rattle.error_positions.proofs.Prefixes.Nodes.{block_tree_gives, negation_giv
 
 -- ---- words that may stand there
 
-pub moved_flag : (c : Class) (ts : List Seen) → Moved (Maybe (Token c)) ts (if next_is c ts then after ts else ts)
+pub moved_flag : (c : Class) (ts : List ParserToken) → Moved (Maybe (Token c)) ts (if next_is c ts then after ts else ts)
 moved_flag c ts =
     elim (either (next_is c ts)) [
       | inl is ↦ rw is (moved_map (λ us vs t. some t) (moved_token c ts is))
       | inr fails ↦ rw fails (moved_maybe (Token c) ts)
     ]
 
-pub moved_word : (ts : List Seen) → Moved (Maybe Word) ts (after_mark ts)
+pub moved_word : (ts : List ParserToken) → Moved (Maybe Word) ts (after_mark ts)
 unfolding after_mark
 moved_word ts =
     elim (either (is_mark ts)) [
@@ -48,7 +48,7 @@ moved_word ts =
 -- ---- variables
 
 -- where a second variable is refused, behind a comma, a text would go on with a name
-second_gives : {A : Type 0} {M F : Front} (close : Closing F) → ((rest : List Seen) → next_terminal (close.tokens rest) ≡ Some class.Name) → {ts : List Seen} (us : List Seen) → Moved M ts us → CommaBefore ts us
+second_gives : {A : Type 0} {M F : Front} (close : Closing F) → ((rest : List ParserToken) → next_terminal (close.tokens rest) ≡ Some class.Name) → {ts : List ParserToken} (us : List ParserToken) → Moved M ts us → CommaBefore ts us
     → Gives (Then M F) ts (second_is_refused {A = A} us)
 unfolding spelled_at next_is
 second_gives {A} {M} {F} close first [] m before = ended (refused []) refl (stopped_after m (refused []) close refl (λ s. not_there s) tt)
@@ -59,17 +59,17 @@ second_gives {A} {M} {F} close first (t ∷ us) m before =
     ]
 
 -- behind a comma, and a `disj` if one is there
-disj_between : (ts : List Seen) → (after ts ≡ after_disj (after ts)) ⊎ ((next_is class.Disj (after ts) ≡ true) × (after (after ts) ≡ after_disj (after ts)))
+disj_between : (ts : List ParserToken) → (after ts ≡ after_disj (after ts)) ⊎ ((next_is class.Disj (after ts) ≡ true) × (after (after ts) ≡ after_disj (after ts)))
 disj_between ts = elim (either (next_is class.Disj (after ts))) [ inl is ↦ inr (is, rw is refl) | inr fails ↦ inl (rw fails refl) ]
 
 -- what was read is one
-abbrev read_names : List Name → List Seen → Result (List Name × List Seen) Stop
+abbrev read_names : List Name → List ParserToken → Result (List Name × List ParserToken) ParseStopView
 read_names ns ts = Ok (ns, ts)
 
-same_read : (x y : List Name × List Seen) → done x ≡ done y → x ≡ y
+same_read : (x y : List Name × List ParserToken) → done x ≡ done y → x ≡ y
 same_read x y e = done_is x y e
 
-alone_is : (single : Bool) (ts : List Seen) (x : List Name × List Seen) → are_several x.0 ≡ false → one_alone single ts x.0 x.1 ≡ Ok x
+alone_is : (single : Bool) (ts : List ParserToken) (x : List Name × List ParserToken) → are_several x.0 ≡ false → one_alone single ts x.0 x.1 ≡ Ok x
 alone_is true ts x e = rw e refl
 alone_is false ts x e = refl
 
@@ -81,7 +81,7 @@ one_name_gives ts =
     (λ is. gives_map (λ us vs t. one_more vs t (no_more refl)) (second_gives close_name (λ rest. refl) (after x.1) (moved_token class.Comma x.1 is) (x.1, all_last x.1, is, inl refl)))
     (λ _. gives_no_more (Then (Token class.Comma) (Token class.Name)) (x.0 ∷ []) x.1))
 
-one_is_alone : (ts : List Seen) (x : List Name × List Seen) → one_name ts ≡ Ok x → are_several x.0 ≡ false
+one_is_alone : (ts : List ParserToken) (x : List Name × List ParserToken) → one_name ts ≡ Ok x → are_several x.0 ≡ false
 unfolding one_name
 one_is_alone ts x e =
     elim (known (name_at ts)) [
@@ -90,15 +90,15 @@ one_is_alone ts x e =
           let h = rw is at e in
           elim (either (next_is class.Comma n.1)) [
             | inl more ↦ elim (known (name_at (after n.1))) [ stop d fails ↦ no_success _ _ (rw (more, fails) at h) | success m second ↦ no_success _ _ (rw (more, second) at h) ]
-            | inr alone ↦ subst (λ (y : List Name × List Seen). are_several y.0 ≡ false) (same_read (n.0 ∷ [], n.1) x (rw alone at h)) refl
+            | inr alone ↦ subst (λ (y : List Name × List ParserToken). are_several y.0 ≡ false) (same_read (n.0 ∷ [], n.1) x (rw alone at h)) refl
           ])
     ]
 
 -- the names and their colon
-abbrev with_colon : Result (List Name × List Seen) Stop → Result (List Name × List Seen) Stop
+abbrev with_colon : Result (List Name × List ParserToken) ParseStopView → Result (List Name × List ParserToken) ParseStopView
 with_colon r = r >>= λ ns. expect class.Colon ns.1 >>= λ c. Ok (ns.0, c.1)
 
-names_of : (r : Result (List Name × List Seen) Stop) (x : List Name × List Seen) → with_colon r ≡ Ok x → (us : List Seen) × (r ≡ Ok (x.0, us))
+names_of : (r : Result (List Name × List ParserToken) ParseStopView) (x : List Name × List ParserToken) → with_colon r ≡ Ok x → (us : List ParserToken) × (r ≡ Ok (x.0, us))
 names_of r x e =
     elim (known r) [
       | stop d is ↦ no_success _ _ (rw is at e)
@@ -106,11 +106,11 @@ names_of r x e =
           let h = rw is at e in
           elim (known (expect class.Colon ns.1)) [
             | stop d fails ↦ no_success _ _ (rw fails at h)
-            | success c colon ↦ (ns.1, is ∙ ap (λ (m : List Name). read_names m ns.1) (ap (λ (y : List Name × List Seen). y.0) (same_read (ns.0, c.1) x (rw colon at h))))
+            | success c colon ↦ (ns.1, is ∙ ap (λ (m : List Name). read_names m ns.1) (ap (λ (y : List Name × List ParserToken). y.0) (same_read (ns.0, c.1) x (rw colon at h))))
           ])
     ]
 
-colon_then : (single : Bool) (ts : List Seen) (r : Result (List Name × List Seen) Stop)
+colon_then : (single : Bool) (ts : List ParserToken) (r : Result (List Name × List ParserToken) ParseStopView)
     → (r >>= λ ns. expect class.Colon ns.1 >>= λ c. one_alone single ts ns.0 c.1) ≡ (with_colon r >>= λ x. one_alone single ts x.0 x.1)
 colon_then single ts r =
     elim (known r) [
@@ -118,16 +118,16 @@ colon_then single ts r =
       | success ns is ↦ rw is (elim (known (expect class.Colon ns.1)) [ stop d fails ↦ rw fails refl | success c colon ↦ rw colon refl ])
     ]
 
-name_next : (t : Seen) (ts rest : List Seen) → ts ≡ t ∷ rest → t.class ≡ class.Name → next_is class.Name ts ≡ true
+name_next : (t : ParserToken) (ts rest : List ParserToken) → ts ≡ t ∷ rest → t.class ≡ class.Name → next_is class.Name ts ≡ true
 unfolding next_is is_class
 name_next t ts rest e is = ap (next_is class.Name) e ∙ ap (λ c. is_class c class.Name) is
 
-comma_next : (t : Seen) (ts rest : List Seen) → ts ≡ t ∷ rest → t.class ≡ class.Comma → next_is class.Comma ts ≡ true
+comma_next : (t : ParserToken) (ts rest : List ParserToken) → ts ≡ t ∷ rest → t.class ≡ class.Comma → next_is class.Comma ts ≡ true
 unfolding next_is is_class
 comma_next t ts rest e is = ap (next_is class.Comma) e ∙ ap (λ c. is_class c class.Comma) is
 
 -- the second of several names, behind the first and a comma
-second_stops : (ts : List Seen) (ns : List Name) (us : List Seen) → names ns ts us → are_several ns ≡ true → Stopped (Then Names (Token class.Colon)) ts (unsupported form.Several (after (after ts)))
+second_stops : (ts : List ParserToken) (ns : List Name) (us : List ParserToken) → names ns ts us → are_several ns ≡ true → Stopped (Then Names (Token class.Colon)) ts (unsupported form.Several (after (after ts)))
 second_stops ts [] us p e = absurd cc
 second_stops ts (n ∷ []) us p e = absurd cc
 second_stops ts (n ∷ m ∷ ms) us p e =
@@ -136,21 +136,21 @@ second_stops ts (n ∷ m ∷ ms) us p e =
     let second = p.2.1.2 in
     let here = p.2.1.0 in
     let d = unsupported form.Several here in
-    let behind : here ≡ after (after ts) = sym (ap (λ (vs : List Seen). after (after vs)) first.1 ∙ ap after comma.1) in
+    let behind : here ≡ after (after ts) = sym (ap (λ (vs : List ParserToken). after (after vs)) first.1 ∙ ap after comma.1) in
     let s = stopped_after (moved_one class.Comma comma.0 p.0 here comma.1 comma.2) d close_name refl (λ _ rest. sym (ap next_terminal second.1 ∙ ap (λ (c : Class). Some c) second.2))
     (name_next second.0 here p.2.0 second.1 second.2, (p.0, all_last p.0, comma_next comma.0 p.0 here comma.1 comma.2, inl (ap after comma.1))) in
     let t = stopped_map (λ vs ws x. one_more x.middle x.first x.second) (stopped_close s (close_none (Then (Token class.Comma) (Token class.Name)))) in
     subst (λ vs. Stopped (Then Names (Token class.Colon)) ts (unsupported form.Several vs)) behind (stopped_close (stopped_then (moved_one class.Name first.0 ts p.0 first.1 first.2) t) (close_token class.Colon refl))
 
-no_word : (c : Class) (ts : List Seen) → next_is c ts ≡ false → (if next_is c ts then after ts else ts) ≡ ts
+no_word : (c : Class) (ts : List ParserToken) → next_is c ts ≡ false → (if next_is c ts then after ts else ts) ≡ ts
 no_word c ts fails = rw fails refl
 
-colon_gives : {F : Front} {ts : List Seen} {r : Result (List Name × List Seen) Stop} → Gives F ts r → Gives (Then F (Token class.Colon)) ts (with_colon r)
+colon_gives : {F : Front} {ts : List ParserToken} {r : Result (List Name × List ParserToken) ParseStopView} → Gives F ts r → Gives (Then F (Token class.Colon)) ts (with_colon r)
 colon_gives h = gives_then h (close_token class.Colon refl) (λ x. gives_last _ (expect_gives class.Colon refl x.1))
 
 -- several names are refused at the second, where one alone may stand
-named_gives : (single : Bool) (ts : List Seen) (x : List Name × List Seen) → (single && next_is class.Disj ts) ≡ false → with_colon (names_at (after_disj ts)) ≡ Ok x
-    → {r : Result (List Name × List Seen) Stop} → r ≡ one_alone single ts x.0 x.1 → Moved Variables ts x.1 → Gives Variables ts r
+named_gives : (single : Bool) (ts : List ParserToken) (x : List Name × List ParserToken) → (single && next_is class.Disj ts) ≡ false → with_colon (names_at (after_disj ts)) ≡ Ok x
+    → {r : Result (List Name × List ParserToken) ParseStopView} → r ≡ one_alone single ts x.0 x.1 → Moved Variables ts x.1 → Gives Variables ts r
 named_gives false ts x other e is m = gone x is m
 named_gives true ts x other e is m =
     elim (either (are_several x.0)) [
@@ -168,19 +168,19 @@ variables_give single ts =
       | inl both ↦ rw both (subst (λ r. Gives Variables ts r) (sym (colon_then single ts (one_name (after ts))))
           (gives_behind (moved_map (λ us vs t. some t) (moved_token class.Disj ts (and_right single (next_is class.Disj ts) both)))
           (elim (colon_gives (one_name_gives (after ts))) [
-            | ended d e s ↦ ended d (ap (λ (r : Result (List Name × List Seen) Stop). r >>= λ x. one_alone single ts x.0 x.1) e) s
-            | gone x e m ↦ gone x (ap (λ (r : Result (List Name × List Seen) Stop). r >>= λ y. one_alone single ts y.0 y.1) e ∙ alone_is single ts x (one_is_alone (after ts) _ (names_of (one_name (after ts)) x e).1)) m
+            | ended d e s ↦ ended d (ap (λ (r : Result (List Name × List ParserToken) ParseStopView). r >>= λ x. one_alone single ts x.0 x.1) e) s
+            | gone x e m ↦ gone x (ap (λ (r : Result (List Name × List ParserToken) ParseStopView). r >>= λ y. one_alone single ts y.0 y.1) e ∙ alone_is single ts x (one_is_alone (after ts) _ (names_of (one_name (after ts)) x e).1)) m
           ])))
       | inr other ↦ rw other (subst (λ r. Gives Variables ts r) (sym (colon_then single ts (names_at (after_disj ts))))
           (elim (colon_gives (names_give (after_disj ts))) [
-            | ended d e s ↦ ended d (ap (λ (r : Result (List Name × List Seen) Stop). r >>= λ x. one_alone single ts x.0 x.1) e) (stopped_then (moved_flag class.Disj ts) s)
-            | gone x e m ↦ named_gives single ts x other e (ap (λ (r : Result (List Name × List Seen) Stop). r >>= λ y. one_alone single ts y.0 y.1) e) (moved_then (moved_flag class.Disj ts) m)
+            | ended d e s ↦ ended d (ap (λ (r : Result (List Name × List ParserToken) ParseStopView). r >>= λ x. one_alone single ts x.0 x.1) e) (stopped_then (moved_flag class.Disj ts) s)
+            | gone x e m ↦ named_gives single ts x other e (ap (λ (r : Result (List Name × List ParserToken) ParseStopView). r >>= λ y. one_alone single ts y.0 y.1) e) (moved_then (moved_flag class.Disj ts) m)
           ]))
     ]
 
 -- ---- declarations, lets and bodies
 
-then_first : {F G H : Front} (ts rest : List Seen) → Then F (Then G H) ts rest → Then (Then F G) H ts rest
+then_first : {F G H : Front} (ts rest : List ParserToken) → Then F (Then G H) ts rest → Then (Then F G) H ts rest
 then_first ts rest t = record { middle = t.second.middle; first = record { middle = t.middle; first = t.first; second = t.second.first }; second = t.second.second }
 
 module _ (i : Reader) (below : (a : Around) (part : Inside) → Goes (i a part) (Part part)) where
@@ -188,7 +188,7 @@ module _ (i : Reader) (below : (a : Around) (part : Inside) → Goes (i a part) 
   unfolding declaration_over
   declaration_gives single ts = gives_then (variables_give single ts) close_domain (λ ns. gives_behind (moved_word ns.1) (gives_last _ (sum_gives i below around.Parens (after_mark ns.1))))
 
-  another_gives : (single : Bool) (ts : List Seen) → next_is class.Comma ts ≡ true → Gives (Then (Token class.Comma) Declaration) ts (another_declaration i single ts)
+  another_gives : (single : Bool) (ts : List ParserToken) → next_is class.Comma ts ≡ true → Gives (Then (Token class.Comma) Declaration) ts (another_declaration i single ts)
   unfolding another_declaration
   another_gives single ts is =
       gives_choice single
@@ -207,7 +207,7 @@ module _ (i : Reader) (below : (a : Around) (part : Inside) → Goes (i a part) 
       gives_then (spelled_gives class.Name refl ts) (close_then (close_token class.Equal refl) close_sum) (λ n.
       gives_then (expect_gives class.Equal refl n.1) close_sum (λ q. gives_last _ (sum_gives i below around.Parens q.1)))
 
-  module _ (ends : (a : Around) (ts : List Seen) (x : Tree × List Seen) → node_over i a ts ≡ Ok x → begins_operator x.1 ≡ false) where
+  module _ (ends : (a : Around) (ts : List ParserToken) (x : Tree × List ParserToken) → node_over i a ts ≡ Ok x → begins_operator x.1 ≡ false) where
     abbrev close_unless_operator : Closing unless_operator
     close_unless_operator = record { tokens = λ rest. rest; calm = λ rest c. c; text = λ rest c. (refl, c.no_operator) }
 
@@ -254,7 +254,7 @@ stop_gives part ts =
     (λ is. let o = opens_part part ts is in ended (too_deep ts) refl (stopped_here (too_deep ts) o.close (λ _. o.alike) tt))
     (λ _. ended (refused ts) refl (stopped_here (refused ts) (close_part part) (λ s. not_there s) tt)))
 
-node_ends : (strict : Bool) (room : ℕ) (a : Around) (ts : List Seen) (x : Tree × List Seen) → node_over (within strict room) a ts ≡ Ok x → begins_operator x.1 ≡ false
+node_ends : (strict : Bool) (room : ℕ) (a : Around) (ts : List ParserToken) (x : Tree × List ParserToken) → node_over (within strict room) a ts ≡ Ok x → begins_operator x.1 ≡ false
 node_ends strict room a ts x e = (node_reads strict room (within strict room) (within_reads strict room) a ts x.0 x.1 e).1
 
 pub within_gives : (strict : Bool) (room : ℕ) (a : Around) (part : Inside) → Goes (within strict room a part) (Part part)

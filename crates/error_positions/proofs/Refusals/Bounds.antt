@@ -2,9 +2,9 @@
 use Rattle.std.proofs.Common.{◌≡◌, inl, inr, ℕ, zero, suc, Bool, true, false, not, ◌&&◌, ◌||◌, if◌then◌else◌, List, [], ◌∷◌, Option, Some, None, Result, Ok, Err, refl}
 use Rattle.alloy_syntax.specs.declared.class.Class.TheVariants as class
 use Rattle.alloy_syntax.specs.declared.reading.Around.TheVariants as around
-use Rattle.alloy_syntax.specs.declared.seen.Seen.{Seen}
+use Rattle.alloy_syntax.specs.declared.parser_token.ParserToken.{ParserToken}
 use Rattle.alloy_syntax.specs.Tree.{BoundArrowTree}
-use Rattle.alloy_syntax.specs.Readers.{Stop, refused, too_deep, Parser, ◌>>=◌, next_is, after, expect, is_mark, mark_at, after_mark, many}
+use Rattle.alloy_syntax.specs.Readers.{ParseStopView, refused, too_deep, Parser, ◌>>=◌, next_is, after, expect, is_mark, mark_at, after_mark, many}
 use Rattle.alloy_syntax.specs.Bounds.{Standing, BoundReader, is_whole, word_round, operand_in, standing_beside, word_beside, refuse_word, side_over, begins_bound_arrow, bound_arrow_over, more_bound_arrows, bound_arrows_over, operand_over, bound_over, begins_bound, bound_within}
 use Rattle.alloy_grammar.proofs.Results.{either}
 use Rattle.alloy_grammar.proofs.Lists.{Shortens}
@@ -14,11 +14,11 @@ use Rattle.error_positions.proofs.Refusals.Tests.{sees_bound_arrow}
 use Rattle.error_positions.proofs.Refusals.Nodes.{expect_law, name_law, mark_law}
 
 -- a word passes, where reading isn't strict
-pub word_passes : (w : Option (List Seen)) → refuse_word false w ≡ Ok tt
+pub word_passes : (w : Option (List ParserToken)) → refuse_word false w ≡ Ok tt
 word_passes None = refl
 word_passes (Some word) = refl
 
-here_passes : (b : Bool) (w : Option (List Seen)) → (if b then Ok tt else refuse_word false w) ≡ Ok tt
+here_passes : (b : Bool) (w : Option (List ParserToken)) → (if b then Ok tt else refuse_word false w) ≡ Ok tt
 here_passes true w = refl
 here_passes false w = word_passes w
 
@@ -28,13 +28,13 @@ BoundLaw s j = (p q : Standing) → Law s around.Parens (j p) (j q)
 
 -- what is read lands among the tokens, wherever the bound stands
 abbrev pub BoundsLand : BoundReader → Type 0
-BoundsLand j = (p : Standing) (base : List Seen) → Keeps base (j p)
+BoundsLand j = (p : Standing) (base : List ParserToken) → Keeps base (j p)
 
 or_none : (b : Bool) → (b || false) ≡ true → b ≡ true
 or_none true e = refl
 or_none false e = e
 
-arrow_taken : (t : Seen) (ts : List Seen) → next_is class.Arrow (t ∷ ts) ≡ true → expect class.Arrow (t ∷ ts) ≡ Ok (t.place, ts)
+arrow_taken : (t : ParserToken) (ts : List ParserToken) → next_is class.Arrow (t ∷ ts) ≡ true → expect class.Arrow (t ∷ ts) ≡ Ok (t.place, ts)
 unfolding expect next_is
 arrow_taken t ts e = rw e refl
 
@@ -50,7 +50,7 @@ module _ (j : BoundReader) (land : BoundsLand j) where
   abbrev pub plain_arrow : Standing → Parser BoundArrowTree
   plain_arrow p ts = expect class.Arrow (after_mark ts) >>= λ arrow. side_over j p (after_mark arrow.1) >>= λ side. Ok (record { left = mark_at ts; place = arrow.0; right = mark_at arrow.1; side = side.0.bound }, side.1)
 
-  pub arrow_is : (p : Standing) (w : Option (List Seen)) (b : Bool) (ts : List Seen) → bound_arrow_over false j p w b ts ≡ plain_arrow (standing_beside (word_beside ts)) ts
+  pub arrow_is : (p : Standing) (w : Option (List ParserToken)) (b : Bool) (ts : List ParserToken) → bound_arrow_over false j p w b ts ≡ plain_arrow (standing_beside (word_beside ts)) ts
   unfolding bound_arrow_over
   arrow_is p w b ts = rw (word_passes (word_round p), word_passes w, here_passes (is_whole p && not b) (word_beside ts)) refl
 
@@ -58,7 +58,7 @@ module _ (j : BoundReader) (land : BoundsLand j) where
   unfolding begins_bound_arrow is_mark next_is
   none_begins = refl
 
-  plain_from : (p : Standing) (t : Seen) (ts : List Seen) → begins_bound_arrow (t ∷ ts) ≡ true → Lands ts (plain_arrow p (t ∷ ts))
+  plain_from : (p : Standing) (t : ParserToken) (ts : List ParserToken) → begins_bound_arrow (t ∷ ts) ≡ true → Lands ts (plain_arrow p (t ∷ ts))
   unfolding begins_bound_arrow after_mark
   plain_from p t ts is =
       elim (either (is_mark (t ∷ ts))) [
@@ -68,10 +68,10 @@ module _ (j : BoundReader) (land : BoundsLand j) where
             rw (none, arrow_taken t ts arrow) (among_then (side_land p ts (after_mark ts) (after_mark_last ts ts (all_last ts))) (λ x f. read _ refl f)))
       ]
 
-  arrow_short : (p : Standing) (w : Option (List Seen)) (b : Bool) → Shortens begins_bound_arrow (bound_arrow_over false j p w b)
+  arrow_short : (p : Standing) (w : Option (List ParserToken)) (b : Bool) → Shortens begins_bound_arrow (bound_arrow_over false j p w b)
   arrow_short p w b = short_behind begins_bound_arrow (bound_arrow_over false j p w b) none_begins (λ t ts is. inl (rw (arrow_is p w b (t ∷ ts)) (plain_from (standing_beside (word_beside (t ∷ ts))) t ts is)))
 
-  pub arrow_land : (p : Standing) (w : Option (List Seen)) (b : Bool) (base : List Seen) → Keeps base (bound_arrow_over false j p w b)
+  pub arrow_land : (p : Standing) (w : Option (List ParserToken)) (b : Bool) (base : List ParserToken) → Keeps base (bound_arrow_over false j p w b)
   arrow_land p w b base ts e =
       rw (arrow_is p w b ts) (among_then (expect_lands base class.Arrow (after_mark ts) (after_mark_last base ts e)) (λ a f. among_then (side_land (standing_beside (word_beside ts)) base (after_mark a.1) (after_mark_last base a.1 f)) (λ x g. read _ refl g)))
 
@@ -83,7 +83,7 @@ module _ (j : BoundReader) (land : BoundsLand j) where
       among_then {P = LeavesLast {A = List BoundArrowTree} base} (among_then (many_lands base begins_bound_arrow (bound_arrow_over false j p (word_beside x.1) true) (arrow_land p (word_beside x.1) true base) a.1 g) (λ as' h. read _ refl h)) (λ m h. read _ refl h)))
       (read x refl f))
 
-  pub operand_land : (p : Standing) (base : List Seen) → Keeps base (operand_over false j p)
+  pub operand_land : (p : Standing) (base : List ParserToken) → Keeps base (operand_over false j p)
   unfolding operand_over
   operand_land p base ts e = among_then (arrows_land (operand_in p) base (after ts) (after_last base ts e)) (λ x f. read _ refl f)
 
@@ -114,10 +114,10 @@ module _ (s : Seam) (j : BoundReader) (law : BoundLaw s j) (land : BoundsLand j)
   plain_law p q ts us at =
       then_out at (mark_law s at _ _ (expect_law s around.Parens class.Arrow)) (λ a b here. then_out here (mark_law s here _ _ (side_law p q)) (λ x y there. stay there))
 
-  arrow_law : (p q : Standing) (w v : Option (List Seen)) (b c : Bool) → Law s around.Parens (bound_arrow_over false j p w b) (bound_arrow_over false j q v c)
+  arrow_law : (p q : Standing) (w v : Option (List ParserToken)) (b c : Bool) → Law s around.Parens (bound_arrow_over false j p w b) (bound_arrow_over false j q v c)
   arrow_law p q w v b c ts us at = rw (arrow_is j land p w b ts, arrow_is j land q v c us) (plain_law (standing_beside (word_beside ts)) (standing_beside (word_beside us)) ts us at)
 
-  more_law : (p q : Standing) (w v : Option (List Seen)) → Law s around.Parens (many begins_bound_arrow (bound_arrow_over false j p w true)) (many begins_bound_arrow (bound_arrow_over false j q v true))
+  more_law : (p q : Standing) (w v : Option (List ParserToken)) → Law s around.Parens (many begins_bound_arrow (bound_arrow_over false j p w true)) (many begins_bound_arrow (bound_arrow_over false j q v true))
   more_law p q w v = many_free s begins_bound_arrow (bound_arrow_over false j p w true) (bound_arrow_over false j q v true) sees_bound_arrow (arrow_short j land p w true) (arrow_law p q w v true true)
 
   arrows_law : BoundLaw s (bound_arrows_over false j)
@@ -132,7 +132,7 @@ module _ (s : Seam) (j : BoundReader) (law : BoundLaw s j) (land : BoundsLand j)
   unfolding operand_over
   operand_law p q ts us at = then_out at (at_after at _ _ (arrows_law (operand_in p) (operand_in q))) (λ x y here. stay here)
 
-  words_pass : {A : Type 0} {ts us : List Seen} (w v : Option (List Seen)) (at : At s ts us) {a b : Result (A × List Seen) Stop} → Out s around.Parens at a b → Out s around.Parens at (refuse_word false w >>= (λ _. a)) (refuse_word false v >>= (λ _. b))
+  words_pass : {A : Type 0} {ts us : List ParserToken} (w v : Option (List ParserToken)) (at : At s ts us) {a b : Result (A × List ParserToken) ParseStopView} → Out s around.Parens at a b → Out s around.Parens at (refuse_word false w >>= (λ _. a)) (refuse_word false v >>= (λ _. b))
   words_pass w v at h = rw (word_passes w, word_passes v) h
 
   pub bound_law : BoundLaw s (bound_over false j)
@@ -144,7 +144,7 @@ module _ (s : Seam) (j : BoundReader) (law : BoundLaw s j) (land : BoundsLand j)
 
 -- ---- brackets
 
-bound_stops : (standing : Standing) (ts : List Seen) → (d : Stop) × (bound_within false zero standing ts ≡ Err d)
+bound_stops : (standing : Standing) (ts : List ParserToken) → (d : ParseStopView) × (bound_within false zero standing ts ≡ Err d)
 unfolding bound_within
 bound_stops standing ts = elim (either (begins_bound ts)) [ inl is ↦ (too_deep ts, rw is refl) | inr none ↦ (refused ts, rw none refl) ]
 

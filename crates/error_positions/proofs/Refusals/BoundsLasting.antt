@@ -5,10 +5,10 @@ use Rattle.std.proofs.lemmas.Option.{same_Some}
 use Rattle.alloy_lex.specs.declared.token.Place.{Place}
 use Rattle.alloy_syntax.specs.declared.class.Class.TheVariants as class
 use Rattle.alloy_syntax.specs.declared.reading.Form.TheVariants as form
-use Rattle.alloy_syntax.specs.declared.seen.Seen.{Seen}
+use Rattle.alloy_syntax.specs.declared.parser_token.ParserToken.{ParserToken}
 use Rattle.alloy_syntax.specs.Class.{is_class}
 use Rattle.alloy_syntax.specs.Tree.{BoundArrowTree}
-use Rattle.alloy_syntax.specs.Readers.{Stop, refused, too_deep, unsupported, ◌>>=◌, next_is, after, expect, is_mark, mark_at, after_mark}
+use Rattle.alloy_syntax.specs.Readers.{ParseStopView, refused, too_deep, unsupported, ◌>>=◌, next_is, after, expect, is_mark, mark_at, after_mark}
 use Rattle.alloy_syntax.specs.Bounds.{Bounded, Standing, whole, part, beside, BoundReader, is_whole, word_round, operand_in, standing_beside, word_beside, refuse_word, side_over, begins_bound_arrow, bound_arrow_over, more_bound_arrows, bound_arrows_over, operand_over, bound_over, begins_bound, bound_within}
 use Rattle.alloy_grammar.proofs.Results.{either, done_is, no_success}
 use Rattle.error_positions.specs.Faults.Stops.{AreLast}
@@ -22,10 +22,10 @@ use Rattle.error_positions.proofs.Refusals.Lasting.{Later, Lasts, Lasting, same,
 -- ---- words that stand before tokens
 
 -- the tokens are the last of those that the word begins, if there is one
-abbrev pub Precedes : Option (List Seen) → List Seen → Type 0
-Precedes w ts = (v : List Seen) → w ≡ Some v → AreLast v ts
+abbrev pub Precedes : Option (List ParserToken) → List ParserToken → Type 0
+Precedes w ts = (v : List ParserToken) → w ≡ Some v → AreLast v ts
 
-none_precedes : (ts : List Seen) → Precedes None ts
+none_precedes : (ts : List ParserToken) → Precedes None ts
 none_precedes ts v e = absurd cc
 
 operand_word : (p : Standing) → word_round (operand_in p) ≡ word_round p
@@ -34,46 +34,46 @@ operand_word whole = refl
 operand_word part = refl
 operand_word (beside word) = refl
 
-side_word : (w : Option (List Seen)) → word_round (standing_beside w) ≡ w
+side_word : (w : Option (List ParserToken)) → word_round (standing_beside w) ≡ w
 unfolding standing_beside word_round
 side_word None = refl
 side_word (Some word) = refl
 
-arrow_leaves : (ts : List Seen) (a : Place × List Seen) → expect class.Arrow ts ≡ Ok a → AreLast (after ts) a.1
+arrow_leaves : (ts : List ParserToken) (a : Place × List ParserToken) → expect class.Arrow ts ≡ Ok a → AreLast (after ts) a.1
 unfolding expect
 arrow_leaves [] a e = no_success (refused []) a e
 arrow_leaves (t ∷ ts) a e =
     elim (either (is_class t.class class.Arrow)) [
-      | inl is ↦ subst (λ (x : Place × List Seen). AreLast ts x.1) (done_is (t.place, ts) a (rw is at e)) (all_last ts)
+      | inl is ↦ subst (λ (x : Place × List ParserToken). AreLast ts x.1) (done_is (t.place, ts) a (rw is at e)) (all_last ts)
       | inr none ↦ no_success (refused (t ∷ ts)) a (rw none at e)
     ]
 
 -- behind the arrow, a word beside it stands before the tokens
-beside_precedes : (ts : List Seen) (a : Place × List Seen) → expect class.Arrow (after_mark ts) ≡ Ok a → Precedes (word_beside ts) a.1
+beside_precedes : (ts : List ParserToken) (a : Place × List ParserToken) → expect class.Arrow (after_mark ts) ≡ Ok a → Precedes (word_beside ts) a.1
 unfolding word_beside after_mark
 beside_precedes ts a e v w =
     elim (either (is_mark ts)) [
       | inl mark ↦ (
           let here : ts ≡ v = same_Some ts v (rw mark at w) in
-          subst (λ (us : List Seen). AreLast us a.1) here (among_read (expect_lands ts class.Arrow (after ts) (after_last ts ts (all_last ts))) (rw mark at e)))
+          subst (λ (us : List ParserToken). AreLast us a.1) here (among_read (expect_lands ts class.Arrow (after ts) (after_last ts ts (all_last ts))) (rw mark at e)))
       | inr none ↦ elim (either (is_mark (after ts))) [
         | inr neither ↦ none_precedes a.1 v (rw (none, neither) at w)
         | inl mark ↦ (
             let here : after ts ≡ v = same_Some (after ts) v (rw (none, mark) at w) in
-            subst (λ (us : List Seen). AreLast us a.1) here (arrow_leaves ts a (rw none at e)))
+            subst (λ (us : List ParserToken). AreLast us a.1) here (arrow_leaves ts a (rw none at e)))
       ]
     ]
 
 -- ---- what stands behind a bound where words pass: its own word stands before it
 
-abbrev Leaves : List Seen → Bounded × List Seen → Type 0
+abbrev Leaves : List ParserToken → Bounded × List ParserToken → Type 0
 Leaves base x = AreLast base x.1 × Precedes x.0.marked x.1
 
-abbrev ArrowLeaves : List Seen → Option (List Seen) → BoundArrowTree × List Seen → Type 0
+abbrev ArrowLeaves : List ParserToken → Option (List ParserToken) → BoundArrowTree × List ParserToken → Type 0
 ArrowLeaves base w x = AreLast base x.1 × Precedes w x.1
 
 abbrev BoundsMark : BoundReader → Type 0
-BoundsMark j = (p : Standing) (base ts : List Seen) → AreLast base ts → Among base (Leaves base) (j p ts)
+BoundsMark j = (p : Standing) (base ts : List ParserToken) → AreLast base ts → Among base (Leaves base) (j p ts)
 
 module _ (j : BoundReader) (land : BoundsLand j) (marks : BoundsMark j) where
   side_marks : BoundsMark (side_over j)
@@ -84,21 +84,21 @@ module _ (j : BoundReader) (land : BoundsLand j) (marks : BoundsMark j) where
       (among_then (spelled_lands base class.Name ts e) (λ x f. read _ refl (f, none_precedes x.1)))
 
   -- what is read behind an arrow, where words pass
-  abbrev behind_arrow : List Seen → Place × List Seen → Result (BoundArrowTree × List Seen) Stop
+  abbrev behind_arrow : List ParserToken → Place × List ParserToken → Result (BoundArrowTree × List ParserToken) ParseStopView
   behind_arrow ts a = side_over j (standing_beside (word_beside ts)) (after_mark a.1) >>= λ side. Ok (record { left = mark_at ts; place = a.0; right = mark_at a.1; side = side.0.bound }, side.1)
 
-  behind_lands : (ts : List Seen) (a : Place × List Seen) (base : List Seen) → AreLast base a.1 → Lands base (behind_arrow ts a)
+  behind_lands : (ts : List ParserToken) (a : Place × List ParserToken) (base : List ParserToken) → AreLast base a.1 → Lands base (behind_arrow ts a)
   behind_lands ts a base e = among_then (side_land j land (standing_beside (word_beside ts)) base (after_mark a.1) (after_mark_last base a.1 e)) (λ x f. read _ refl f)
 
-  plain_marks : (base ts : List Seen) → AreLast base ts → Among base (ArrowLeaves base (word_beside ts)) (plain_arrow j land (standing_beside (word_beside ts)) ts)
+  plain_marks : (base ts : List ParserToken) → AreLast base ts → Among base (ArrowLeaves base (word_beside ts)) (plain_arrow j land (standing_beside (word_beside ts)) ts)
   plain_marks base ts e =
       among_known (expect_lands base class.Arrow (after_mark ts) (after_mark_last base ts e)) (λ a k f. among_known (side_land j land (standing_beside (word_beside ts)) base (after_mark a.1) (after_mark_last base a.1 f)) (λ x l g.
       read _ refl (g, λ v w. among_read (side_land j land (standing_beside (word_beside ts)) v (after_mark a.1) (after_mark_last v a.1 (beside_precedes ts a k v w))) l)))
 
-  arrow_marks : (p : Standing) (w : Option (List Seen)) (b : Bool) (base ts : List Seen) → AreLast base ts → Among base (ArrowLeaves base (word_beside ts)) (bound_arrow_over false j p w b ts)
+  arrow_marks : (p : Standing) (w : Option (List ParserToken)) (b : Bool) (base ts : List ParserToken) → AreLast base ts → Among base (ArrowLeaves base (word_beside ts)) (bound_arrow_over false j p w b ts)
   arrow_marks p w b base ts e = rw (arrow_is j land p w b ts) (plain_marks base ts e)
 
-  more_land : (p : Standing) (w : Option (List Seen)) (first : BoundArrowTree) (base : List Seen) → Keeps base (more_bound_arrows false j p w first)
+  more_land : (p : Standing) (w : Option (List ParserToken)) (first : BoundArrowTree) (base : List ParserToken) → Keeps base (more_bound_arrows false j p w first)
   unfolding more_bound_arrows
   more_land p w first base ts e = among_then (many_lands base begins_bound_arrow (bound_arrow_over false j p w true) (arrow_land j land p w true base) ts e) (λ as' f. read _ refl f)
 
@@ -124,20 +124,20 @@ bounds_mark (suc room) p base ts e = bound_marks (bound_within false room) (boun
 
 -- ---- a word that is refused, and what is read where it passes
 
-word_step : {A : Type 0} (strict deeper : Bool) (w : Option (List Seen)) {a b : Result (A × List Seen) Stop} → ((v : List Seen) → w ≡ Some v → Lands v b) → Lasts strict deeper a b → Lasts strict deeper (refuse_word strict w >>= (λ _. a)) b
+word_step : {A : Type 0} (strict deeper : Bool) (w : Option (List ParserToken)) {a b : Result (A × List ParserToken) ParseStopView} → ((v : List ParserToken) → w ≡ Some v → Lands v b) → Lasts strict deeper a b → Lasts strict deeper (refuse_word strict w >>= (λ _. a)) b
 word_step strict deeper None lands h = h
 word_step false deeper (Some v) lands h = h
 word_step true deeper (Some v) lands h = later (unsupported form.ArrowMultiplicity v) refl (lands v refl)
 
-here_step : {A : Type 0} (strict deeper test : Bool) (w : Option (List Seen)) {a b : Result (A × List Seen) Stop} → ((v : List Seen) → w ≡ Some v → Lands v b) → Lasts strict deeper a b → Lasts strict deeper ((if test then Ok tt else refuse_word strict w) >>= (λ _. a)) b
+here_step : {A : Type 0} (strict deeper test : Bool) (w : Option (List ParserToken)) {a b : Result (A × List ParserToken) ParseStopView} → ((v : List ParserToken) → w ≡ Some v → Lands v b) → Lasts strict deeper a b → Lasts strict deeper ((if test then Ok tt else refuse_word strict w) >>= (λ _. a)) b
 here_step strict deeper true w lands h = h
 here_step strict deeper false w lands h = word_step strict deeper w lands h
 
 abbrev BoundLasting : Bool → Bool → BoundReader → BoundReader → Type 0
-BoundLasting strict deeper i j = (p : Standing) (ts : List Seen) → Precedes (word_round p) ts → Lasts strict deeper (i p ts) (j p ts)
+BoundLasting strict deeper i j = (p : Standing) (ts : List ParserToken) → Precedes (word_round p) ts → Lasts strict deeper (i p ts) (j p ts)
 
 -- the words before the tokens: of the arrow round the bound, and of an arrow before this one
-abbrev Words : Standing → Option (List Seen) → List Seen → Type 0
+abbrev Words : Standing → Option (List ParserToken) → List ParserToken → Type 0
 Words p w ts = Precedes (word_round p) ts × Precedes w ts
 
 module _ (strict deeper : Bool) (i j : BoundReader) (below : BoundLasting strict deeper i j) (land : BoundsLand j) (marks : BoundsMark j) where
@@ -146,22 +146,22 @@ module _ (strict deeper : Bool) (i j : BoundReader) (below : BoundLasting strict
   side_lasts p ts round =
       lasts_choice (next_is class.LeftParen ts) (lasts_then (below p (after ts) (λ v w. after_last v ts (round v w))) (λ x. lasts_on (expect_calm class.RightParen x.1) (λ c. both_read)) (λ base x e. among_then (expect_lands base class.RightParen x.1 e) (λ c f. read _ refl f))) (lasts_on (spelled_calm class.Name ts) (λ x. both_read))
 
-  arrow_lasts : (p : Standing) (w : Option (List Seen)) (b : Bool) (ts : List Seen) → Words p w ts → Lasts strict deeper (bound_arrow_over strict i p w b ts) (bound_arrow_over false j p w b ts)
+  arrow_lasts : (p : Standing) (w : Option (List ParserToken)) (b : Bool) (ts : List ParserToken) → Words p w ts → Lasts strict deeper (bound_arrow_over strict i p w b ts) (bound_arrow_over false j p w b ts)
   unfolding bound_arrow_over
   arrow_lasts p w b ts words =
       rw (arrow_is j land p w b ts)
       (lasts_on_known (expect_calm class.Arrow (after_mark ts)) (λ a k.
-      let before : (v : List Seen) → AreLast v ts → Lands v (behind_arrow j land marks ts a) = λ v e. behind_lands j land marks ts a v (among_read (expect_lands v class.Arrow (after_mark ts) (after_mark_last v ts e)) k) in
+      let before : (v : List ParserToken) → AreLast v ts → Lands v (behind_arrow j land marks ts a) = λ v e. behind_lands j land marks ts a v (among_read (expect_lands v class.Arrow (after_mark ts) (after_mark_last v ts e)) k) in
       let here : Precedes (word_beside ts) a.1 = beside_precedes ts a k in
       word_step strict deeper (word_round p) (λ v e. before v (words.0 v e)) (word_step strict deeper w (λ v e. before v (words.1 v e))
       (here_step strict deeper (is_whole p && not b) (word_beside ts) (λ v e. behind_lands j land marks ts a v (here v e))
       (lasts_then (side_lasts (standing_beside (word_beside ts)) (after_mark a.1) (λ v e. after_mark_last v a.1 (here v (sym (side_word (word_beside ts)) ∙ e)))) (λ x. both_read) (λ base x e. read _ refl e))))))
 
   -- the words before an arrow stand before what follows it
-  words_kept : (p : Standing) (w u : Option (List Seen)) (b : Bool) (ts : List Seen) (x : BoundArrowTree × List Seen) → bound_arrow_over false j p u b ts ≡ Ok x → Precedes w ts → Precedes w x.1
+  words_kept : (p : Standing) (w u : Option (List ParserToken)) (b : Bool) (ts : List ParserToken) (x : BoundArrowTree × List ParserToken) → bound_arrow_over false j p u b ts ≡ Ok x → Precedes w ts → Precedes w x.1
   words_kept p w u b ts x k words v e = among_read (arrow_land j land p u b v ts (words v e)) k
 
-  more_last : (p : Standing) (w : Option (List Seen)) (first : BoundArrowTree) (ts : List Seen) → Words p w ts → Lasts strict deeper (more_bound_arrows strict i p w first ts) (more_bound_arrows false j p w first ts)
+  more_last : (p : Standing) (w : Option (List ParserToken)) (first : BoundArrowTree) (ts : List ParserToken) → Words p w ts → Lasts strict deeper (more_bound_arrows strict i p w first ts) (more_bound_arrows false j p w first ts)
   unfolding more_bound_arrows
   more_last p w first ts words =
       lasts_then (many_last (Words p w) begins_bound_arrow (bound_arrow_over strict i p w true) (bound_arrow_over false j p w true) (arrow_land j land p w true)
@@ -180,7 +180,7 @@ module _ (strict deeper : Bool) (i j : BoundReader) (below : BoundLasting strict
       (among_then (arrow_land j land p x.0.marked x.0.has_arrow base x.1 e) (λ a f. among_then (more_land j land marks p (word_beside x.1) a.0 base a.1 f) (λ m g. read _ refl g)))
       (read x refl e))
 
-  operand_lasts : (p : Standing) (ts : List Seen) → Precedes (word_round p) ts → Lasts strict deeper (operand_over strict i p ts) (operand_over false j p ts)
+  operand_lasts : (p : Standing) (ts : List ParserToken) → Precedes (word_round p) ts → Lasts strict deeper (operand_over strict i p ts) (operand_over false j p ts)
   unfolding operand_over
   operand_lasts p ts round =
       lasts_then (arrows_last (operand_in p) (after ts) (λ v e. after_last v ts (round v (sym (operand_word p) ∙ e)))) (λ x. both_read) (λ base x e. read _ refl e)
@@ -204,7 +204,7 @@ unfolding begins_bound next_is
 none_bound = refl
 
 -- more room lets reading go on where it lay too deep
-deep_lasts : (strict : Bool) (room : ℕ) (p : Standing) (ts : List Seen) → begins_bound ts ≡ true → Later strict LeavesLast (too_deep ts) (bound_over false (bound_within false room) p ts)
+deep_lasts : (strict : Bool) (room : ℕ) (p : Standing) (ts : List ParserToken) → begins_bound ts ≡ true → Later strict LeavesLast (too_deep ts) (bound_over false (bound_within false room) p ts)
 deep_lasts true room p ts begun = bound_land (bound_within false room) (bounds_land room) p ts ts (all_last ts)
 deep_lasts false room p [] begun = let none = none_bound in absurd cc
 deep_lasts false room p (t ∷ us) begun = (t, us, refl, bound_beyond t us (bound_within false room) (bounds_land room) p begun)

@@ -8,10 +8,10 @@ use Rattle.alloy_syntax.specs.declared.reading.Form.TheVariants as form
 use Rattle.alloy_syntax.specs.declared.reading.Around.TheVariants as around
 use Rattle.alloy_syntax.specs.declared.tree.CommandKind.{CommandKind}
 use Rattle.alloy_syntax.specs.declared.tree.CommandKind.TheVariants as kind
-use Rattle.alloy_syntax.specs.declared.seen.Seen.{Seen}
+use Rattle.alloy_syntax.specs.declared.parser_token.ParserToken.{ParserToken}
 use Rattle.alloy_syntax.specs.Class.{is_class}
 use Rattle.alloy_syntax.specs.Tree.{ModelTree, ScopeTree}
-use Rattle.alloy_syntax.specs.Readers.{Stop, refused, unsupported, Parser, ◌>>=◌, next_is, after, place_at, spelled_at, name_at, number_at, many}
+use Rattle.alloy_syntax.specs.Readers.{ParseStopView, refused, unsupported, Parser, ◌>>=◌, next_is, after, place_at, spelled_at, name_at, number_at, many}
 use Rattle.alloy_syntax.specs.Bounds.{whole}
 use Rattle.alloy_syntax.specs.Nodes.{within}
 use Rattle.alloy_syntax.specs.Paragraphs.{own_block, field_at, fields_at, parent_at, after_qualifier, after_abstract, is_qualifier, qualified, signatures_at, label_at, fact_at, parameters_to, parameter_list, predicate_at, function_at, assertion_at, entry_at, entries_at, exceptions_at, has_default, scope_at, expected_at, target_at, command_at, paragraph_at, is_left, heading_at, ordering_at, open_at, model_at}
@@ -64,7 +64,7 @@ module _ (s : Seam) where
   unfolding number_at next_is
   number_taken e = rw e (went _ refl (all_last s.later))
 
-  default_test : (ws : List Seen) → (has_default (ws ++ rest_of s) ≡ has_default (ws ++ tail_of s)) ⊎ ((ws ≡ []) × (next_is class.Number (rest_of s) ≡ true))
+  default_test : (ws : List ParserToken) → (has_default (ws ++ rest_of s) ≡ has_default (ws ++ tail_of s)) ⊎ ((ws ≡ []) × (next_is class.Number (rest_of s) ≡ true))
   unfolding has_default
   default_test [] =
       elim (either (next_is class.Number (rest_of s))) [
@@ -78,7 +78,7 @@ module _ (s : Seam) where
       if has_default ts then (number_at ts >>= λ n. exceptions_at n.1 >>= λ es. Ok (Some (record { default = Some n.0; entries = es.0 }), es.1))
       else (entries_at ts >>= λ es. Ok (Some (record { default = None; entries = es.0 }), es.1))
 
-  sizes_past : (ts : List Seen) → Past s (number_at ts) → Past s (entries_at ts) → Past s (sizes_at ts)
+  sizes_past : (ts : List ParserToken) → Past s (number_at ts) → Past s (entries_at ts) → Past s (sizes_at ts)
   sizes_past ts h g =
       past_choice (has_default ts) (past_then h (λ n last. past_then (landed (among.exceptions_land s.later n.1 last)) (λ es end. went _ refl end))) (past_then g (λ es last. went _ refl last))
 
@@ -91,13 +91,13 @@ module _ (s : Seam) where
   entries_taken e =
       listed_past s entry_at (among.entry_lands s.later) (rest_of s) (rw (no_exactly e) (past_then (number_taken e) (λ n last. past_then (landed (spelled_lands s.later class.Name n.1 last)) (λ x end. went _ refl end))))
 
-  sizes_near : (ws : List Seen) → Parted s around.Parens (sizes_at (ws ++ rest_of s)) (sizes_at (ws ++ tail_of s))
+  sizes_near : (ws : List ParserToken) → Parted s around.Parens (sizes_at (ws ++ rest_of s)) (sizes_at (ws ++ tail_of s))
   sizes_near ws =
       elim (default_test ws) [
         | inl e ↦ same_choice (has_default (ws ++ rest_of s)) (has_default (ws ++ tail_of s)) e
             (of_near (then_out {l = around.Parens} (near ws refl refl) (number_law s around.Parens (ws ++ rest_of s) (ws ++ tail_of s) (near ws refl refl)) (λ n m here. then_out here (exceptions_law n.1 m.1 here) (λ es fs there. stay there))))
             (of_near (then_out {l = around.Parens} (near ws refl refl) (entries_law (ws ++ rest_of s) (ws ++ tail_of s) (near ws refl refl)) (λ es fs there. stay there)))
-        | inr m ↦ kept (leaves (subst (λ (us : List Seen). Past s (sizes_at us)) (sym (ap (λ (us : List Seen). us ++ rest_of s) m.0)) (sizes_past (rest_of s) (number_taken m.1) (entries_taken m.1))))
+        | inr m ↦ kept (leaves (subst (λ (us : List ParserToken). Past s (sizes_at us)) (sym (ap (λ (us : List ParserToken). us ++ rest_of s) m.0)) (sizes_past (rest_of s) (number_taken m.1) (entries_taken m.1))))
       ]
 
   sizes_law : Law s around.Parens sizes_at sizes_at
@@ -112,7 +112,7 @@ module _ (s : Seam) where
   unfolding heading_at
   heading_law ts us at = choose (next_is class.Module) (sees_class class.Module) at (then_out at (at_after at _ _ (name_law s around.Parens)) (λ x y here. stay here)) (stay at)
 
-  ordering_near : (ws : List Seen) → Parted s around.Parens (ordering_at (ws ++ rest_of s)) (ordering_at (ws ++ tail_of s))
+  ordering_near : (ws : List ParserToken) → Parted s around.Parens (ordering_at (ws ++ rest_of s)) (ordering_at (ws ++ tail_of s))
   unfolding ordering_at spelled_at
   ordering_near [] =
       elim (either (is_class s.token.class class.Path)) [
@@ -135,7 +135,7 @@ module _ (s : Seam) where
       then_out at (at_after at _ _ ordering_law) (λ p q here1. then_out here1 (expect_law s around.Parens class.LeftBracket p.1 q.1 here1) (λ o r here2. then_out here2 (name_law s around.Parens o.1 r.1 here2) (λ n m here3.
       then_out here3 (expect_law s around.Parens class.RightBracket n.1 m.1 here3) (λ c d here4. then_out here4 (expect_law s around.Parens class.As c.1 d.1 here4) (λ w v here5. then_out here5 (name_law s around.Parens w.1 v.1 here5) (λ a b here6. stay here6))))))
 
-  open_from : (t : Seen) (ts : List Seen) → Lands ts (open_at (t ∷ ts))
+  open_from : (t : ParserToken) (ts : List ParserToken) → Lands ts (open_at (t ∷ ts))
   unfolding open_at
   open_from t ts =
       among_then (among.ordering_lands ts ts (all_last ts)) (λ p e. among_then (expect_lands ts class.LeftBracket p.1 e) (λ o f. among_then (spelled_lands ts class.Name o.1 f) (λ n g.
@@ -146,7 +146,7 @@ module _ (s : Seam) where
   opens_law = many_free s (next_is class.Open) open_at open_at (sees_class class.Open) (short_behind (next_is class.Open) open_at refl (λ t ts is. inl (open_from t ts))) open_law
 
   -- the qualifiers before `sig`
-  qualified_law : {A : Type 0} {ts us : List Seen} (at : At s ts us) (p q : Parser A) → Law s around.Parens p q → Out s around.Parens at (p (qualified ts).behind) (q (qualified us).behind)
+  qualified_law : {A : Type 0} {ts us : List ParserToken} (at : At s ts us) (p q : Parser A) → Law s around.Parens p q → Out s around.Parens at (p (qualified ts).behind) (q (qualified us).behind)
   unfolding qualified
   qualified_law {A} {ts} {us} (past last) p q law = out (of_past (law (qualified ts).behind (qualified us).behind (past (among.qualified_last s.later ts last))))
   qualified_law {A} {ts} {us} (near ws e f) p q law =
@@ -210,10 +210,10 @@ module _ (s : Seam) where
     unfolding assertion_at
     assertion_law ts us at = then_out at (name_law s around.Parens ts us at) (λ l m here. then_out here (own_block_law l.1 m.1 here) (λ x y there. stay there))
 
-    abbrev named_target : List Seen → Bool
+    abbrev named_target : List ParserToken → Bool
     named_target ts = next_is class.Name ts && not (next_is class.LeftBrace (after ts))
 
-    target_test : (ws : List Seen) → (named_target (ws ++ rest_of s) ≡ named_target (ws ++ tail_of s)) ⊎ ((ws ≡ []) × (next_is class.Name (rest_of s) ≡ true))
+    target_test : (ws : List ParserToken) → (named_target (ws ++ rest_of s) ≡ named_target (ws ++ tail_of s)) ⊎ ((ws ≡ []) × (next_is class.Name (rest_of s) ≡ true))
     target_test [] =
         elim (either (next_is class.Name (rest_of s))) [
           | inl is ↦ inr (refl, is)
@@ -221,7 +221,7 @@ module _ (s : Seam) where
         ]
     target_test (w ∷ ws) = inl (rw (sees_near s (next_is class.Name) (sees_class class.Name) (w ∷ ws), sees_near s (next_is class.LeftBrace) (sees_class class.LeftBrace) ws) refl)
 
-    target_past : (ts : List Seen) → Past s (name_at ts) → Past s (label_at ts) → Past s (target_at false n ts)
+    target_past : (ts : List ParserToken) → Past s (name_at ts) → Past s (label_at ts) → Past s (target_at false n ts)
     unfolding target_at
     target_past ts h g =
         past_choice (named_target ts) (past_then h (λ x last. went _ refl last)) (past_then g (λ l last. past_then (landed (among.own_block_lands s.later false n l.1 last)) (λ b end. went _ refl end)))
@@ -234,14 +234,14 @@ module _ (s : Seam) where
     unfolding label_at
     label_taken e = rw e (past_then (name_taken e) (λ x last. went _ refl last))
 
-    target_near : (ws : List Seen) → Parted s around.Parens (target_at false n (ws ++ rest_of s)) (target_at false n (ws ++ tail_of s))
+    target_near : (ws : List ParserToken) → Parted s around.Parens (target_at false n (ws ++ rest_of s)) (target_at false n (ws ++ tail_of s))
     unfolding target_at
     target_near ws =
         elim (target_test ws) [
           | inl e ↦ same_choice (named_target (ws ++ rest_of s)) (named_target (ws ++ tail_of s)) e
               (of_near (then_out {l = around.Parens} (near ws refl refl) (name_law s around.Parens (ws ++ rest_of s) (ws ++ tail_of s) (near ws refl refl)) (λ x y here. stay here)))
               (of_near (then_out {l = around.Parens} (near ws refl refl) (label_law (ws ++ rest_of s) (ws ++ tail_of s) (near ws refl refl)) (λ l m here. then_out here (own_block_law l.1 m.1 here) (λ x y there. stay there))))
-          | inr m ↦ kept (leaves (subst (λ (us : List Seen). Past s (target_at false n us)) (sym (ap (λ (us : List Seen). us ++ rest_of s) m.0)) (target_past (rest_of s) (name_taken m.1) (label_taken m.1))))
+          | inr m ↦ kept (leaves (subst (λ (us : List ParserToken). Past s (target_at false n us)) (sym (ap (λ (us : List ParserToken). us ++ rest_of s) m.0)) (target_past (rest_of s) (name_taken m.1) (label_taken m.1))))
         ]
 
     target_law : Law s around.Parens (target_at false n) (target_at false n)
@@ -270,58 +270,58 @@ module _ (s : Seam) where
 -- ---- models
 
 -- where the first is refused at the seam, the second stops
-abbrev VerdictOf : {s : Seam} {ts us : List Seen} → At s ts us → Result ModelTree Stop → Result ModelTree Stop → Type 0
-VerdictOf {s} (near ws e f) a b = a ≡ Err (refused (rest_of s)) → (d : Stop) × (b ≡ Err d)
+abbrev VerdictOf : {s : Seam} {ts us : List ParserToken} → At s ts us → Result ModelTree ParseStopView → Result ModelTree ParseStopView → Type 0
+VerdictOf {s} (near ws e f) a b = a ≡ Err (refused (rest_of s)) → (d : ParseStopView) × (b ≡ Err d)
 VerdictOf {s} (past last) a b = a ≡ Err (refused (rest_of s)) → ⊥
 
-data Verdict {ts us : List Seen} (s : Seam) (at : At s ts us) (a b : Result ModelTree Stop) : Type 0 where
+data Verdict {ts us : List ParserToken} (s : Seam) (at : At s ts us) (a b : Result ModelTree ParseStopView) : Type 0 where
   verdict : VerdictOf at a b → Verdict s at a b
 
-verdict_near : {ts us : List Seen} {s : Seam} {ws : List Seen} {e : ts ≡ ws ++ rest_of s} {f : us ≡ ws ++ tail_of s} {a b : Result ModelTree Stop} → Verdict s (near ws e f) a b → a ≡ Err (refused (rest_of s)) → (d : Stop) × (b ≡ Err d)
+verdict_near : {ts us : List ParserToken} {s : Seam} {ws : List ParserToken} {e : ts ≡ ws ++ rest_of s} {f : us ≡ ws ++ tail_of s} {a b : Result ModelTree ParseStopView} → Verdict s (near ws e f) a b → a ≡ Err (refused (rest_of s)) → (d : ParseStopView) × (b ≡ Err d)
 verdict_near (verdict p) = p
 
-verdict_past : {ts us : List Seen} {s : Seam} {last : AreLast s.later ts} {a b : Result ModelTree Stop} → Verdict {ts = ts} {us = us} s (past last) a b → a ≡ Err (refused (rest_of s)) → ⊥
+verdict_past : {ts us : List ParserToken} {s : Seam} {last : AreLast s.later ts} {a b : Result ModelTree ParseStopView} → Verdict {ts = ts} {us = us} s (past last) a b → a ≡ Err (refused (rest_of s)) → ⊥
 verdict_past (verdict p) = p
 
-abbrev failed : Stop → Result ModelTree Stop
+abbrev failed : ParseStopView → Result ModelTree ParseStopView
 failed d = Err d
 
-stop_is : (d e : Stop) → failed d ≡ failed e → d ≡ e
+stop_is : (d e : ParseStopView) → failed d ≡ failed e → d ≡ e
 stop_is d e same = cc
 
 not_here : (s : Seam) → AreLast s.later (rest_of s) → ⊥
 not_here s last = absurd (omega (arith, ap length last.1, length-append last.0 (rest_of s)))
 
-not_else : (s : Seam) (d : Stop) → IsElse s d → failed d ≡ failed (refused (rest_of s)) → ⊥
-not_else s d apart e = not_here s (subst (λ (c : Stop). IsElse s c) (stop_is d (refused (rest_of s)) e) apart)
+not_else : (s : Seam) (d : ParseStopView) → IsElse s d → failed d ≡ failed (refused (rest_of s)) → ⊥
+not_else s d apart e = not_here s (subst (λ (c : ParseStopView). IsElse s c) (stop_is d (refused (rest_of s)) e) apart)
 
-past_verdict : {A : Type 0} {s : Seam} {a : Result (A × List Seen) Stop} {f : A × List Seen → Result ModelTree Stop} → Past s a → ((x : A × List Seen) → AreLast s.later x.1 → f x ≡ Err (refused (rest_of s)) → ⊥) → (a >>= f) ≡ Err (refused (rest_of s)) → ⊥
+past_verdict : {A : Type 0} {s : Seam} {a : Result (A × List ParserToken) ParseStopView} {f : A × List ParserToken → Result ModelTree ParseStopView} → Past s a → ((x : A × List ParserToken) → AreLast s.later x.1 → f x ≡ Err (refused (rest_of s)) → ⊥) → (a >>= f) ≡ Err (refused (rest_of s)) → ⊥
 past_verdict {A} {s} {a} {f} h to e =
     elim h [
-      | went x is last ↦ to x last (sym (ap (λ (c : Result (A × List Seen) Stop). c >>= f) is) ∙ e)
-      | faulty d is apart ↦ not_else s d apart (sym (ap (λ (c : Result (A × List Seen) Stop). c >>= f) is) ∙ e)
+      | went x is last ↦ to x last (sym (ap (λ (c : Result (A × List ParserToken) ParseStopView). c >>= f) is) ∙ e)
+      | faulty d is apart ↦ not_else s d apart (sym (ap (λ (c : Result (A × List ParserToken) ParseStopView). c >>= f) is) ∙ e)
     ]
 
-then_verdict : {A : Type 0} {s : Seam} {ts us : List Seen} (at : At s ts us) {a b : Result (A × List Seen) Stop} {f g : A × List Seen → Result ModelTree Stop}
-    → Out s around.Parens at a b → ((x y : A × List Seen) (here : At s x.1 y.1) → Verdict s here (f x) (g y)) → Verdict s at (a >>= f) (b >>= g)
+then_verdict : {A : Type 0} {s : Seam} {ts us : List ParserToken} (at : At s ts us) {a b : Result (A × List ParserToken) ParseStopView} {f g : A × List ParserToken → Result ModelTree ParseStopView}
+    → Out s around.Parens at a b → ((x y : A × List ParserToken) (here : At s x.1 y.1) → Verdict s here (f x) (g y)) → Verdict s at (a >>= f) (b >>= g)
 then_verdict {A} {s} {ts} {us} (past last) {a} {b} {f} {g} h to = verdict (past_verdict (of_past h) (λ x here. verdict_past (to x x (past here))))
 then_verdict {A} {s} {ts} {us} (near ws e0 f0) {a} {b} {f} {g} h to = verdict (λ is.
     elim (of_near h) [
       | both x y e1 e2 vs e f' ↦ (
-          let d = verdict_near (to x y (near vs e f')) (sym (ap (λ (c : Result (A × List Seen) Stop). c >>= f) e1) ∙ is) in
-          (d.0, ap (λ (c : Result (A × List Seen) Stop). c >>= g) e2 ∙ d.1))
+          let d = verdict_near (to x y (near vs e f')) (sym (ap (λ (c : Result (A × List ParserToken) ParseStopView). c >>= f) e1) ∙ is) in
+          (d.0, ap (λ (c : Result (A × List ParserToken) ParseStopView). c >>= g) e2 ∙ d.1))
       | kept k ↦ elim k [
         | holds x e held ↦ absurd held
         | leaves p ↦ absurd (past_verdict p (λ x here. verdict_past (to x x (past here))) is)
       ]
-      | ended d e ↦ (d, ap (λ (c : Result (A × List Seen) Stop). c >>= g) e)
+      | ended d e ↦ (d, ap (λ (c : Result (A × List ParserToken) ParseStopView). c >>= g) e)
     ])
 
-read_verdict : {s : Seam} {ts us : List Seen} (at : At s ts us) (x y : ModelTree) → Verdict s at (Ok x) (Ok y)
+read_verdict : {s : Seam} {ts us : List ParserToken} (at : At s ts us) (x y : ModelTree) → Verdict s at (Ok x) (Ok y)
 read_verdict {s} (near ws e f) x y = verdict (λ is. no_success (refused (rest_of s)) x (sym is))
 read_verdict {s} (past last) x y = verdict (λ is. no_success (refused (rest_of s)) x (sym is))
 
-models_verdict : (s : Seam) (n : ℕ) → 0 < n → (ts us : List Seen) (at : At s ts us) → Verdict s at (model_at false n ts) (model_at false n us)
+models_verdict : (s : Seam) (n : ℕ) → 0 < n → (ts us : List ParserToken) (at : At s ts us) → Verdict s at (model_at false n ts) (model_at false n us)
 unfolding model_at
 models_verdict s n some ts us at =
     then_verdict at (heading_law s ts us at) (λ h k here. then_verdict here (opens_law s h.1 k.1 here) (λ o p there. then_verdict there (paragraphs_law s n some o.1 p.1 there) (λ ps qs end. read_verdict end _ _)))
@@ -329,7 +329,7 @@ models_verdict s n some ts us at =
 -- ---- texts
 
 -- what is refused under a limit is refused under a greater one, where forms pass
-refused_more : (strict : Bool) (limit more : ℕ) → limit ≤ more → (ts rest : List Seen) → model_at strict limit ts ≡ Err (refused rest) → model_at false more ts ≡ Err (refused rest)
+refused_more : (strict : Bool) (limit more : ℕ) → limit ≤ more → (ts rest : List ParserToken) → model_at strict limit ts ≡ Err (refused rest) → model_at false more ts ≡ Err (refused rest)
 refused_more true limit more less ts rest e = stays (model_at true limit ts) (model_at false more ts) (refused rest) refl (lenient limit more less ts) e
 refused_more false limit more less ts rest e = stays (model_at false limit ts) (model_at false more ts) (refused rest) refl (roomier false limit more less ts) e
 
@@ -343,16 +343,16 @@ abbrev option_or : Option Class → Class → Class
 option_or None c = c
 option_or (Some d) c = d
 
-reads_text : (n : ℕ) (ts : List Seen) (m : ModelTree) (d : Stop) → IsTextOf ts m → depth_of_model m < n → model_at false n ts ≡ Err d → ⊥
+reads_text : (n : ℕ) (ts : List ParserToken) (m : ModelTree) (d : ParseStopView) → IsTextOf ts m → depth_of_model m < n → model_at false n ts ≡ Err d → ⊥
 reads_text n ts m d text deep e = no_success d m (sym e ∙ model_full false n (omega (arith, deep)) ts m text (omega (arith, deep)) (λ is. not_strict is))
 
-no_token : {P : Type 0} (t : Seen) → next_terminal [] ≡ Some t.class → P
+no_token : {P : Type 0} (t : ParserToken) → next_terminal [] ≡ Some t.class → P
 no_token t e = absurd cc
 
-terminal_is : (t u : Seen) → terminal t.class ≡ terminal u.class → t.class ≡ u.class
+terminal_is : (t u : ParserToken) → terminal t.class ≡ terminal u.class → t.class ≡ u.class
 terminal_is t u e = ap (λ (o : Option Class). option_or o t.class) e
 
-no_text : (strict : Bool) (limit : ℕ) (before rest tail : List Seen) (m : ModelTree) → model_at strict limit (before ++ rest) ≡ Err (refused rest) → next_terminal tail ≡ next_terminal rest → IsTextOf (before ++ tail) m → ⊥
+no_text : (strict : Bool) (limit : ℕ) (before rest tail : List ParserToken) (m : ModelTree) → model_at strict limit (before ++ rest) ≡ Err (refused rest) → next_terminal tail ≡ next_terminal rest → IsTextOf (before ++ tail) m → ⊥
 no_text strict limit before [] [] m e same text =
     let n = suc (limit + depth_of_model m) in
     reads_text n (before ++ []) m (refused []) text (omega arith) (refused_more strict limit n (omega arith) (before ++ []) [] e)
@@ -364,5 +364,5 @@ no_text strict limit before (t ∷ ts) (u ∷ us) m e same text =
     let d = verdict_near (models_verdict s n (omega arith) (before ++ (t ∷ ts)) (before ++ (u ∷ us)) (near before refl refl)) (refused_more strict limit n (omega arith) (before ++ (t ∷ ts)) (t ∷ ts) e) in
     reads_text n (before ++ (u ∷ us)) m d.0 text (omega arith) d.1
 
-pub goes_nowhere : (strict : Bool) (limit : ℕ) (before rest : List Seen) → model_at strict limit (before ++ rest) ≡ Err (refused rest) → GoesOn before rest → ⊥
+pub goes_nowhere : (strict : Bool) (limit : ℕ) (before rest : List ParserToken) → model_at strict limit (before ++ rest) ≡ Err (refused rest) → GoesOn before rest → ⊥
 goes_nowhere strict limit before rest e on = no_text strict limit before rest on.tail on.model e on.alike on.text

@@ -8,9 +8,9 @@ use Rattle.alloy_syntax.specs.declared.class.Class.TheVariants as class
 use Rattle.alloy_syntax.specs.declared.reading.Around.TheVariants as around
 use Rattle.alloy_syntax.specs.declared.tree.CommandKind.{CommandKind}
 use Rattle.alloy_syntax.specs.declared.tree.CommandKind.TheVariants as kind
-use Rattle.alloy_syntax.specs.declared.seen.Seen.{Seen}
+use Rattle.alloy_syntax.specs.declared.parser_token.ParserToken.{ParserToken}
 use Rattle.alloy_syntax.specs.Tree.{ModelTree}
-use Rattle.alloy_syntax.specs.Readers.{Stop, refused, too_deep, unsupported, next_is, after, place_at, after_mark}
+use Rattle.alloy_syntax.specs.Readers.{ParseStopView, refused, too_deep, unsupported, next_is, after, place_at, after_mark}
 use Rattle.alloy_syntax.specs.Nodes.{within}
 use Rattle.alloy_syntax.specs.Paragraphs.{own_block, field_at, fields_at, qualified, signatures_at, fact_at, parameters_to, parameter_list, predicate_at, function_at, assertion_at, target_at, command_at, paragraph_at, is_left, open_at, model_at}
 use Rattle.alloy_grammar.proofs.Results.{no_success}
@@ -26,7 +26,7 @@ use Rattle.error_positions.proofs.Refusals.NodesLasting.{Below, block_lasts, sum
 
 -- ---- paragraphs
 
-abbrev Whole : List Seen → ModelTree → Type 0
+abbrev Whole : List ParserToken → ModelTree → Type 0
 Whole ts t = Unit {0}
 
 -- The brackets of parameters are the first that nest, so that one construct less may nest in them.
@@ -105,7 +105,7 @@ module _ (strict deeper : Bool) (m n : ℕ) (room : Room deeper m n) (fewer : Ro
       (lasts_choice (next_is class.Check ts) (command_lasts kind.Check (place_at ts) (after ts))
       (signatures_lasts ts))))))
 
-  model_lasts : (ts : List Seen) → Outlasts strict deeper Whole (model_at strict m ts) (model_at false n ts)
+  model_lasts : (ts : List ParserToken) → Outlasts strict deeper Whole (model_at strict m ts) (model_at false n ts)
   unfolding model_at
   model_lasts ts =
       lasts_on (heading_calm ts) (λ h. lasts_on (many_calm (next_is class.Open) open_at open_calm h.1) (λ o.
@@ -113,47 +113,47 @@ module _ (strict deeper : Bool) (m n : ℕ) (room : Room deeper m n) (fewer : Ro
 
 -- ---- faults
 
-abbrev failed : Stop → Result ModelTree Stop
+abbrev failed : ParseStopView → Result ModelTree ParseStopView
 failed d = Err d
 
-stop_is : (d e : Stop) → failed d ≡ failed e → d ≡ e
+stop_is : (d e : ParseStopView) → failed d ≡ failed e → d ≡ e
 stop_is d e equal = cc
 
-stops_among : {P : ModelTree → Type 0} (base : List Seen) (d : Stop) {r : Result ModelTree Stop} → Among base P r → r ≡ Err d → AreLast base (unread d)
+stops_among : {P : ModelTree → Type 0} (base : List ParserToken) (d : ParseStopView) {r : Result ModelTree ParseStopView} → Among base P r → r ≡ Err d → AreLast base (unread d)
 stops_among base d h f =
     elim h [
       | read t k p ↦ no_success d t (sym f ∙ k)
-      | stops x k last ↦ subst (λ (y : Stop). AreLast base (unread y)) (stop_is x d (sym k ∙ f)) last
+      | stops x k last ↦ subst (λ (y : ParseStopView). AreLast base (unread y)) (stop_is x d (sym k ∙ f)) last
     ]
 
 -- where strict reading stops, reading stops there or behind it, if it stops
 -- where strict reading stops, reading stops there or behind it, if it stops
-pub first_of_all : (limit more : ℕ) → limit ≤ more → (ts : List Seen) (d c : Stop) → model_at true limit ts ≡ Err d → model_at false more ts ≡ Err c → AreLast (unread d) (unread c)
+pub first_of_all : (limit more : ℕ) → limit ≤ more → (ts : List ParserToken) (d c : ParseStopView) → model_at true limit ts ≡ Err d → model_at false more ts ≡ Err c → AreLast (unread d) (unread c)
 first_of_all limit more less ts d c e f =
     elim (model_lasts true false limit more less (omega (arith, less)) ts) [
-      | same equal shallow ↦ subst (λ (x : Stop). AreLast (unread d) (unread x)) (stop_is d c (sym e ∙ (equal ∙ f))) (all_last (unread d))
+      | same equal shallow ↦ subst (λ (x : ParseStopView). AreLast (unread d) (unread x)) (stop_is d c (sym e ∙ (equal ∙ f))) (all_last (unread d))
       | later b g h ↦ (
           let here = stop_is b d (sym g ∙ e) in
-          subst (λ (x : Stop). AreLast (unread x) (unread c)) here (stops_among (unread b) c h f))
+          subst (λ (x : ParseStopView). AreLast (unread x) (unread c)) here (stops_among (unread b) c h f))
     ]
 
 -- ---- what lies too deep
 
 -- reading stops behind the first of the tokens
-abbrev StopsBehind : List Seen → Stop → Type 0
-StopsBehind rest d = (t : Seen) × (us : List Seen) × (rest ≡ t ∷ us) × AreLast us (unread d)
+abbrev StopsBehind : List ParserToken → ParseStopView → Type 0
+StopsBehind rest d = (t : ParserToken) × (us : List ParserToken) × (rest ≡ t ∷ us) × AreLast us (unread d)
 
-lands_behind : (r : Result ModelTree Stop) (rest : List Seen) (b d : Stop) → b ≡ too_deep rest → Later false Whole b r → r ≡ Err d → StopsBehind rest d
+lands_behind : (r : Result ModelTree ParseStopView) (rest : List ParserToken) (b d : ParseStopView) → b ≡ too_deep rest → Later false Whole b r → r ≡ Err d → StopsBehind rest d
 lands_behind r rest b d deep on f = (on.0, on.1, ap unread (sym deep) ∙ on.2, stops_among on.1 d on.3 f)
 
-behind_none : (t : Seen) (us : List Seen) → AreLast us (t ∷ us) → ⊥
+behind_none : (t : ParserToken) (us : List ParserToken) → AreLast us (t ∷ us) → ⊥
 behind_none t us last = (let longer = ap length last.1 in let parts = length-append last.0 (t ∷ us) in omega (arith, longer, parts))
 
-not_there : (rest : List Seen) (d : Stop) → StopsBehind rest d → unread d ≡ rest → ⊥
-not_there rest d on there = behind_none on.0 on.1 (subst (λ (us : List Seen). AreLast on.1 us) (there ∙ on.2) on.3)
+not_there : (rest : List ParserToken) (d : ParseStopView) → StopsBehind rest d → unread d ≡ rest → ⊥
+not_there rest d on there = behind_none on.0 on.1 (subst (λ (us : List ParserToken). AreLast on.1 us) (there ∙ on.2) on.3)
 
 -- where forms may pass, and a token lies too deep, it does so under each greater limit, or isn't at fault
-deep_alone : (limit more : ℕ) → limit ≤ more → (ts rest : List Seen) (d : Stop) → model_at false limit ts ≡ Err (too_deep rest) → model_at false more ts ≡ Err d → unread d ≡ rest → d ≡ too_deep rest
+deep_alone : (limit more : ℕ) → limit ≤ more → (ts rest : List ParserToken) (d : ParseStopView) → model_at false limit ts ≡ Err (too_deep rest) → model_at false more ts ≡ Err d → unread d ≡ rest → d ≡ too_deep rest
 deep_alone limit more less ts rest d e f there =
     elim (model_lasts false false limit more less (omega (arith, less)) ts) [
       | same equal shallow ↦ stop_is d (too_deep rest) (sym f ∙ (sym equal ∙ e))
@@ -161,12 +161,12 @@ deep_alone limit more less ts rest d e f there =
     ]
 
 -- under a lesser limit, a fault of another kind would stand under the greater one too
-shallow_alone : (limit less : ℕ) → less ≤ limit → (ts rest : List Seen) (d : Stop) → model_at false limit ts ≡ Err (too_deep rest) → model_at false less ts ≡ Err d → unread d ≡ rest → d ≡ too_deep rest
+shallow_alone : (limit less : ℕ) → less ≤ limit → (ts rest : List ParserToken) (d : ParseStopView) → model_at false limit ts ≡ Err (too_deep rest) → model_at false less ts ≡ Err d → unread d ≡ rest → d ≡ too_deep rest
 shallow_alone limit less lower ts rest (too_deep us) e f there = ap too_deep there
 shallow_alone limit less lower ts rest (refused us) e f there = stop_is (refused us) (too_deep rest) (sym (stays (model_at false less ts) (model_at false limit ts) (refused us) refl (roomier false less limit lower ts) f) ∙ e)
 shallow_alone limit less lower ts rest (unsupported g us) e f there = stop_is (unsupported g us) (too_deep rest) (sym (stays (model_at false less ts) (model_at false limit ts) (unsupported g us) refl (roomier false less limit lower ts) f) ∙ e)
 
-lenient_alone : (limit other : ℕ) (ts rest : List Seen) (d : Stop) → model_at false limit ts ≡ Err (too_deep rest) → model_at false other ts ≡ Err d → unread d ≡ rest → d ≡ too_deep rest
+lenient_alone : (limit other : ℕ) (ts rest : List ParserToken) (d : ParseStopView) → model_at false limit ts ≡ Err (too_deep rest) → model_at false other ts ≡ Err d → unread d ≡ rest → d ≡ too_deep rest
 lenient_alone limit other ts rest d e f there =
     elim (cases_lt other limit) [
       | inl lower ↦ shallow_alone limit other (omega (arith, lower)) ts rest d e f there
@@ -174,16 +174,16 @@ lenient_alone limit other ts rest d e f there =
     ]
 
 -- forms pass in either
-lenient_deep : (strict : Bool) (limit : ℕ) (ts rest : List Seen) → model_at strict limit ts ≡ Err (too_deep rest) → model_at false limit ts ≡ Err (too_deep rest)
+lenient_deep : (strict : Bool) (limit : ℕ) (ts rest : List ParserToken) → model_at strict limit ts ≡ Err (too_deep rest) → model_at false limit ts ≡ Err (too_deep rest)
 lenient_deep false limit ts rest e = e
 lenient_deep true limit ts rest e = stays (model_at true limit ts) (model_at false limit ts) (too_deep rest) refl (passing limit ts) e
 
-pub no_other_there : (strict : Bool) (limit other : ℕ) (ts rest : List Seen) (d : Stop) → model_at strict limit ts ≡ Err (too_deep rest) → model_at false other ts ≡ Err d → unread d ≡ rest → d ≡ too_deep rest
+pub no_other_there : (strict : Bool) (limit other : ℕ) (ts rest : List ParserToken) (d : ParseStopView) → model_at strict limit ts ≡ Err (too_deep rest) → model_at false other ts ≡ Err d → unread d ≡ rest → d ≡ too_deep rest
 no_other_there strict limit other ts rest d e f there = lenient_alone limit other ts rest d (lenient_deep strict limit ts rest e) f there
 
 -- Under each greater limit, reading stops behind what lay too deep. The lesser limit isn't 0: under 0 and 1 alike, nothing may nest
 -- in the brackets of parameters.
-pub deeper_behind : (strict : Bool) (limit more : ℕ) → 0 < limit → limit < more → (ts rest : List Seen) (d : Stop) → model_at strict limit ts ≡ Err (too_deep rest) → model_at false more ts ≡ Err d → StopsBehind rest d
+pub deeper_behind : (strict : Bool) (limit more : ℕ) → 0 < limit → limit < more → (ts rest : List ParserToken) (d : ParseStopView) → model_at strict limit ts ≡ Err (too_deep rest) → model_at false more ts ≡ Err d → StopsBehind rest d
 deeper_behind strict limit more some less ts rest d e f =
     let deep = lenient_deep strict limit ts rest e in
     elim (model_lasts false true limit more less (omega (arith, some, less)) ts) [

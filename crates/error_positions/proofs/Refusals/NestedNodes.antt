@@ -10,10 +10,10 @@ use Rattle.alloy_syntax.specs.declared.reading.Level.TheVariants as level
 use Rattle.alloy_syntax.specs.declared.reading.Inside.{Inside}
 use Rattle.alloy_syntax.specs.declared.reading.Inside.TheVariants as inside
 use Rattle.alloy_syntax.specs.declared.tree.Quantifier.{Quantifier}
-use Rattle.alloy_syntax.specs.declared.seen.Seen.{Seen}
+use Rattle.alloy_syntax.specs.declared.parser_token.ParserToken.{ParserToken}
 use Rattle.alloy_syntax.specs.Class.{is_class}
 use Rattle.alloy_syntax.specs.Tree.{Tree, named}
-use Rattle.alloy_syntax.specs.Readers.{Stop, refused, too_deep, unsupported, Parser, next_is, after, place_at, spelled_at, name_at, after_mark, behind, others, listed, names_at}
+use Rattle.alloy_syntax.specs.Readers.{ParseStopView, refused, too_deep, unsupported, Parser, next_is, after, place_at, spelled_at, name_at, after_mark, behind, others, listed, names_at}
 use Rattle.alloy_syntax.specs.Nodes.{Reader, begins_primary, begins_tight, begins_sum, begins_node, begins, may_be_block, stop_at, is_comprehension, is_tightening, primary_over, tight_over, path_over, begins_step, step_over, begins_link, chained, restrict_over, arrows_over, meet_over, override_over, behind_prefix, size_over, sum_over, is_counting, counted_over, comparison_over, negation_over, and_over, implication_over, iff_over, node_over, after_disj, variable_names, variables_over, declaration_over, another_declaration, more_declarations, declarations_over, quantified_over, inside_over, within}
 use Rattle.alloy_grammar.proofs.Results.{either, no_success}
 use Rattle.alloy_grammar.proofs.Quantified.{within_reads}
@@ -26,7 +26,7 @@ use Rattle.error_positions.proofs.Refusals.Nodes.{NameRead, named_so, deeper, St
 -- ---- where no construct may nest more
 
 module _ (s : Seam) where
-  stops_always : (part : Inside) (ts : List Seen) → (d : Stop) × (stop_at {A = Tree} part ts ≡ Err d)
+  stops_always : (part : Inside) (ts : List ParserToken) → (d : ParseStopView) × (stop_at {A = Tree} part ts ≡ Err d)
   unfolding stop_at
   stops_always part ts =
       elim (either (may_be_block part && is_comprehension ts)) [
@@ -39,7 +39,7 @@ module _ (s : Seam) where
   stop_in a p q ts us (past last) = out (landed (among.stop_lands s.later p ts last))
 
   -- what begins such a part lies too deep, or is a form that is refused
-  deep_else : (part : Inside) (ts : List Seen) → begins part ts ≡ true → (d : Stop) × (stop_at {A = Tree} part ts ≡ Err d) × IsElse s d
+  deep_else : (part : Inside) (ts : List ParserToken) → begins part ts ≡ true → (d : ParseStopView) × (stop_at {A = Tree} part ts ≡ Err d) × IsElse s d
   unfolding stop_at
   deep_else part ts is =
       elim (either (may_be_block part && is_comprehension ts)) [
@@ -47,13 +47,13 @@ module _ (s : Seam) where
         | inr fails ↦ (too_deep ts, rw (fails, is) refl, tt)
       ]
 
-  deep_past : (part : Inside) (ts : List Seen) → begins part ts ≡ true → Past s (stop_at {A = Tree} part ts)
+  deep_past : (part : Inside) (ts : List ParserToken) → begins part ts ≡ true → Past s (stop_at {A = Tree} part ts)
   deep_past part ts is = let d = deep_else part ts is in faulty d.0 d.1 d.2
 
-  deep_named : (part : Inside) (ts us : List Seen) → begins part ts ≡ true → NameRead s (stop_at {A = Tree} part ts) us
+  deep_named : (part : Inside) (ts us : List ParserToken) → begins part ts ≡ true → NameRead s (stop_at {A = Tree} part ts) us
   deep_named part ts us is = let d = deep_else part ts is in deeper d.0 d.1 d.2
 
-name_begins : (part : Inside) (t : Seen) (ts : List Seen) → t.class ≡ class.Name → begins part (t ∷ ts) ≡ true
+name_begins : (part : Inside) (t : ParserToken) (ts : List ParserToken) → t.class ≡ class.Name → begins part (t ∷ ts) ≡ true
 unfolding begins begins_node begins_sum begins_tight begins_primary is_tightening is_counting next_is is_class
 name_begins inside.Node t ts e = rw e refl
 name_begins inside.Negation t ts e = rw e refl
@@ -64,7 +64,7 @@ name_begins inside.Tight t ts e = rw e refl
 name_begins (inside.Quantified q p) t ts e = rw e refl
 name_begins (inside.Let p) t ts e = rw e refl
 
-not_begins_node : (t : Seen) (ts : List Seen) → t.class ≡ class.Not → begins inside.Node (t ∷ ts) ≡ true
+not_begins_node : (t : ParserToken) (ts : List ParserToken) → t.class ≡ class.Not → begins inside.Node (t ∷ ts) ≡ true
 unfolding begins begins_node next_is is_class
 not_begins_node t ts e = rw e refl
 
@@ -87,19 +87,19 @@ steady_zero s = record {
 
 -- ---- a name before a comma is read as it
 
-chained_one : (l : Level) (item : Parser Tree) (ts : List Seen) (x : Tree) (rest : List Seen) → item ts ≡ Ok (x, rest) → begins_link l rest ≡ false → chained l item ts ≡ Ok (x, rest)
+chained_one : (l : Level) (item : Parser Tree) (ts : List ParserToken) (x : Tree) (rest : List ParserToken) → item ts ≡ Ok (x, rest) → begins_link l rest ≡ false → chained l item ts ≡ Ok (x, rest)
 unfolding chained
 chained_one l item ts x rest e ends = rw (e, ends) refl
 
-tight_read : (i : Reader) (a : Around) (n : Seen) (ts : List Seen) → n.class ≡ class.Name → tight_over i a (n ∷ ts) ≡ Ok (named (record { text = n.text; place = n.place }), ts)
+tight_read : (i : Reader) (a : Around) (n : ParserToken) (ts : List ParserToken) → n.class ≡ class.Name → tight_over i a (n ∷ ts) ≡ Ok (named (record { text = n.text; place = n.place }), ts)
 unfolding tight_over primary_over is_tightening next_is spelled_at is_class
 tight_read i a n ts e = rw e refl
 
-module _ (i : Reader) (a : Around) (n c : Seen) (ts : List Seen) (e : n.class ≡ class.Name) (f : c.class ≡ class.Comma) where
-  abbrev here : List Seen
+module _ (i : Reader) (a : Around) (n c : ParserToken) (ts : List ParserToken) (e : n.class ≡ class.Name) (f : c.class ≡ class.Comma) where
+  abbrev here : List ParserToken
   here = n ∷ c ∷ ts
 
-  abbrev rest : List Seen
+  abbrev rest : List ParserToken
   rest = c ∷ ts
 
   abbrev it : Tree
@@ -144,7 +144,7 @@ module _ (i : Reader) (a : Around) (n c : Seen) (ts : List Seen) (e : n.class �
   unfolding counted_over
   counted_named = rw no_word.1 sum_read
 
-node_read : (i : Reader) (n c : Seen) (ts : List Seen) → n.class ≡ class.Name → c.class ≡ class.Comma → node_over i around.Brackets (n ∷ c ∷ ts) ≡ Ok (named (record { text = n.text; place = n.place }), c ∷ ts)
+node_read : (i : Reader) (n c : ParserToken) (ts : List ParserToken) → n.class ≡ class.Name → c.class ≡ class.Comma → node_over i around.Brackets (n ∷ c ∷ ts) ≡ Ok (named (record { text = n.text; place = n.place }), c ∷ ts)
 unfolding node_over iff_over implication_over and_over negation_over comparison_over is_class
 node_read i n c ts e f =
     let w = no_word i around.Brackets n c ts e f in
@@ -160,16 +160,16 @@ node_read i n c ts e f =
 -- ---- under one construct more
 
 module _ (s : Seam) (i : Reader) (st : Steady s i) where
-  path_past : (a : Around) (ts : List Seen) → Past s (tight_over i a ts) → Past s (path_over i a ts)
+  path_past : (a : Around) (ts : List ParserToken) → Past s (tight_over i a ts) → Past s (path_over i a ts)
   unfolding path_over
   path_past a ts h =
       past_then h (λ x last. past_choice (begins_step x.1) (past_then (landed (many_lands s.later begins_step (step_over i a) (among.step_lands s.later i (st.lands s.later) a) x.1 last)) (λ xs end. went _ refl end)) (went x refl last))
 
-  arrows_past : (a : Around) (ts : List Seen) → Past s (restrict_over i a ts) → Past s (arrows_over i a ts)
+  arrows_past : (a : Around) (ts : List ParserToken) → Past s (restrict_over i a ts) → Past s (arrows_over i a ts)
   unfolding arrows_over
   arrows_past a ts h = past_then h (λ x last. of_past (arrows_more s i st a x x (past last)))
 
-  override_past : (a : Around) (ts : List Seen) → Past s (tight_over i a ts) → Past s (override_over i a ts)
+  override_past : (a : Around) (ts : List ParserToken) → Past s (tight_over i a ts) → Past s (override_over i a ts)
   unfolding override_over meet_over restrict_over
   override_past a ts h =
       chained_past s level.Override (meet_over i a) ts (among.meet_lands s.later i (st.lands s.later) a)
@@ -188,12 +188,12 @@ module _ (s : Seam) (i : Reader) (st : Steady s i) where
   sum_name a e =
       chained_past s level.Sum (size_over i a) (rest_of s) (among.size_lands s.later i (st.lands s.later) a) (rw (no_words e).0 (override_past a (rest_of s) (tight_name a e)))
 
-  implication_past : (a : Around) (ts : List Seen) → Past s (and_over i a ts) → Past s (implication_over i a ts)
+  implication_past : (a : Around) (ts : List ParserToken) → Past s (and_over i a ts) → Past s (implication_over i a ts)
   unfolding implication_over
   implication_past a ts h =
       past_then h (λ x last. past_choice (next_is class.Implies x.1) (landed (among.implied_lands s.later i (st.lands s.later) a x.0 (place_at x.1) (after x.1) (after_last s.later x.1 last))) (went x refl last))
 
-  node_past : (a : Around) (ts : List Seen) → Past s (negation_over i a ts) → Past s (node_over i a ts)
+  node_past : (a : Around) (ts : List ParserToken) → Past s (negation_over i a ts) → Past s (node_over i a ts)
   unfolding node_over iff_over and_over
   node_past a ts h =
       chained_past s level.Or (iff_over i a) ts (among.iff_lands s.later i (st.lands s.later) a)
@@ -211,7 +211,7 @@ module _ (s : Seam) (i : Reader) (st : Steady s i) where
   node_not e =
       node_past around.Braces (rest_of s) (rw (class_next s.token s.later class.Not e) (past_then (landed (st.lands s.later around.Braces inside.Negation s.later (all_last s.later))) (λ x last. went _ refl last)))
 
-  names_past : (a : Around) (q : Quantifier) (p : Place) (ts : List Seen) → next_is class.Disj ts ≡ false → Past s (names_at ts) → Past s (quantified_over false i a q p ts)
+  names_past : (a : Around) (q : Quantifier) (p : Place) (ts : List ParserToken) → next_is class.Disj ts ≡ false → Past s (names_at ts) → Past s (quantified_over false i a q p ts)
   unfolding quantified_over declarations_over more_declarations declaration_over variables_over variable_names
   names_past a q p ts d h =
       let first_names : Past s (names_at (after_disj ts)) = rw d h in
@@ -229,16 +229,16 @@ module _ (s : Seam) (i : Reader) (st : Steady s i) where
   quantified_name a q p e =
       names_past a q p (rest_of s) (no_words e).5 (past_then (name_past e) (λ x last. past_then (landed (many_lands s.later (next_is class.Comma) (behind name_at) (behind_lands s.later name_at (spelled_lands s.later class.Name)) x.1 last)) (λ xs end. went _ refl end)))
 
-  name_is : (n : Seen) (ts : List Seen) → n.class ≡ class.Name → name_at (n ∷ ts) ≡ Ok (record { text = n.text; place = n.place }, ts)
+  name_is : (n : ParserToken) (ts : List ParserToken) → n.class ≡ class.Name → name_at (n ∷ ts) ≡ Ok (record { text = n.text; place = n.place }, ts)
   unfolding spelled_at next_is
   name_is n ts e = rw (class_next n ts class.Name e) refl
 
-  names_run : (n : Seen) (ts : List Seen) → n.class ≡ class.Name → Runs s ts → Past s (names_at (n ∷ ts))
+  names_run : (n : ParserToken) (ts : List ParserToken) → n.class ≡ class.Name → Runs s ts → Past s (names_at (n ∷ ts))
   unfolding names_at listed others
   names_run n ts e more =
       rw (name_is n ts e) (past_then (runs_taken s i st name_at (λ us last. landed (spelled_lands s.later class.Name us last)) name_past (λ m c us g h. inl (record { text = m.text; place = m.place }, name_is m (c ∷ us) g)) (suc (length ts)) ts (omega arith) more) (λ xs end. went _ refl end))
 
-  no_disj : (n : Seen) (ts : List Seen) → n.class ≡ class.Name → next_is class.Disj (n ∷ ts) ≡ false
+  no_disj : (n : ParserToken) (ts : List ParserToken) → n.class ≡ class.Name → next_is class.Disj (n ∷ ts) ≡ false
   unfolding next_is is_class
   no_disj n ts e = rw e refl
 
@@ -253,7 +253,7 @@ module _ (s : Seam) (i : Reader) (st : Steady s i) where
   parts_law a (inside.Quantified q p) = quantified_law s i st a q q p p
   parts_law a (inside.Let p) = let_law s i st a p p
 
-  steady_more : ((ts : List Seen) (x : Tree) (rest : List Seen) → node_over i around.Braces ts ≡ Ok (x, rest) → length rest < length ts) → Steady s (inside_over false i)
+  steady_more : ((ts : List ParserToken) (x : Tree) (rest : List ParserToken) → node_over i around.Braces ts ≡ Ok (x, rest) → length rest < length ts) → Steady s (inside_over false i)
   unfolding inside_over
   steady_more short = record {
     parts = parts_law;
@@ -270,7 +270,7 @@ module _ (s : Seam) (i : Reader) (st : Steady s i) where
     names_taken = λ q p n ts e more. names_past around.Brackets q p (n ∷ ts) (no_disj n ts e) (names_run n ts e more);
   }
 
-node_short : (room : ℕ) (ts : List Seen) (x : Tree) (rest : List Seen) → node_over (within false room) around.Braces ts ≡ Ok (x, rest) → length rest < length ts
+node_short : (room : ℕ) (ts : List ParserToken) (x : Tree) (rest : List ParserToken) → node_over (within false room) around.Braces ts ≡ Ok (x, rest) → length rest < length ts
 unfolding within inside_over
 node_short room ts x rest e = ((within_reads false (suc room)).node around.Braces ts x rest e).0.shorter
 

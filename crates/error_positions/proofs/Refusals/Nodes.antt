@@ -14,10 +14,10 @@ use Rattle.alloy_syntax.specs.declared.tree.Quantifier.{Quantifier}
 use Rattle.alloy_syntax.specs.declared.tree.Quantifier.TheVariants as quantifier
 use Rattle.alloy_syntax.specs.declared.tree.Prefix.{Prefix}
 use Rattle.alloy_syntax.specs.declared.tree.Prefix.TheVariants as prefix
-use Rattle.alloy_syntax.specs.declared.seen.Seen.{Seen}
+use Rattle.alloy_syntax.specs.declared.parser_token.ParserToken.{ParserToken}
 use Rattle.alloy_syntax.specs.Class.{is_class}
 use Rattle.alloy_syntax.specs.Tree.{Tree, chain, compared, links_of}
-use Rattle.alloy_syntax.specs.Readers.{Stop, refused, unsupported, Parser, ◌>>=◌, next_is, after, place_at, one, expect, spelled_at, name_at, number_at, is_mark, after_mark, repeated, many, behind, others, listed, names_at, colon_after_names}
+use Rattle.alloy_syntax.specs.Readers.{ParseStopView, refused, unsupported, Parser, ◌>>=◌, next_is, after, place_at, one, expect, spelled_at, name_at, number_at, is_mark, after_mark, repeated, many, behind, others, listed, names_at, colon_after_names}
 use Rattle.alloy_syntax.specs.Nodes.{Reader, in_braces, in_brackets_too, is_comprehension, block_over, block_tree, is_inner, paren_over, is_constant, primary_over, behind_prefix, is_tightening, tightening_of, tight_over, arguments_over, brackets_over, begins_step, step_over, path_over, begins_link, link_over, chained, restrict_over, begins_arrow, arrow_over, arrows_over, meet_over, override_over, size_over, sum_over, braced_over, counting_of, is_counting, counted_over, is_plain_comparison, begins_comparison, negated_comparing, comparing_at, comparison_over, begins_declaration, quantifier_of, negation_over, and_over, implied_over, implication_over, iff_over, node_over, after_disj, variable_names, variables_over, declaration_over, another_declaration, more_declarations, declarations_over, body_over, quantified_over, binding_over, bindings_over, let_over}
 use Rattle.alloy_grammar.proofs.Results.{either}
 use Rattle.alloy_grammar.proofs.Tokens.{class_is}
@@ -34,7 +34,7 @@ pub other_is : (s : Seam) (c : Class) (b : Bool) → is_class s.token.class c �
 other_is s c b e = subst (λ (k : Class). is_class k c ≡ b) s.alike e
 
 module _ (s : Seam) where
-  one_near : {A : Type 0} (k : Around) (c : Class) (f : Seen → A) (ws : List Seen) → Parted s k (one c f (ws ++ rest_of s)) (one c f (ws ++ tail_of s))
+  one_near : {A : Type 0} (k : Around) (c : Class) (f : ParserToken → A) (ws : List ParserToken) → Parted s k (one c f (ws ++ rest_of s)) (one c f (ws ++ tail_of s))
   one_near k c f [] =
       elim (either (is_class s.token.class c)) [
         | inl is ↦ rw is (kept (leaves (went _ refl (all_last s.later))))
@@ -46,7 +46,7 @@ module _ (s : Seam) where
         | inr fails ↦ rw fails (ended _ refl)
       ]
 
-  one_law : {A : Type 0} (k : Around) (c : Class) (f : Seen → A) → Law s k (one c f) (one c f)
+  one_law : {A : Type 0} (k : Around) (c : Class) (f : ParserToken → A) → Law s k (one c f) (one c f)
   one_law k c f ts us (near ws e g) = out (rw (e, g) (one_near k c f ws))
   one_law k c f ts us (past last) = out (landed (one_lands s.later c f ts last))
 
@@ -69,11 +69,11 @@ module _ (s : Seam) where
   unfolding names_at
   names_law = listed_free s name_at (λ base. spelled_lands base class.Name) (name_law around.Parens)
 
-  pub mark_law : {A : Type 0} {k : Around} {ts us : List Seen} (at : At s ts us) (p q : Parser A) → Law s k p q → Out s k at (p (after_mark ts)) (q (after_mark us))
+  pub mark_law : {A : Type 0} {k : Around} {ts us : List ParserToken} (at : At s ts us) (p q : Parser A) → Law s k p q → Out s k at (p (after_mark ts)) (q (after_mark us))
   unfolding after_mark
   mark_law at p q law = at_choice is_mark sees_mark at p q law
 
-  pub disj_law : {A : Type 0} {k : Around} {ts us : List Seen} (at : At s ts us) (p q : Parser A) → Law s k p q → Out s k at (p (after_disj ts)) (q (after_disj us))
+  pub disj_law : {A : Type 0} {k : Around} {ts us : List ParserToken} (at : At s ts us) (p q : Parser A) → Law s k p q → Out s k at (p (after_disj ts)) (q (after_disj us))
   disj_law at p q law = at_choice (next_is class.Disj) (sees_class class.Disj) at p q law
 
   -- ---- chains and prefixes
@@ -92,11 +92,11 @@ module _ (s : Seam) where
   no_link level.Meet = refl
   no_link level.Restrict = refl
 
-  link_short : (l : Level) (p : Parser Tree) → ((base : List Seen) → Keeps base p) → Shortens (begins_link l) (link_over l p)
+  link_short : (l : Level) (p : Parser Tree) → ((base : List ParserToken) → Keeps base p) → Shortens (begins_link l) (link_over l p)
   unfolding link_over
   link_short l p lands = short_behind (begins_link l) (link_over l p) (no_link l) (λ t ts is. inl (among_then (lands ts ts (all_last ts)) (λ x f. read _ refl f)))
 
-  pub chained_law : (k : Around) (l : Level) (p : Parser Tree) → ((base : List Seen) → Keeps base p) → Law s k p p → Law s k (chained l p) (chained l p)
+  pub chained_law : (k : Around) (l : Level) (p : Parser Tree) → ((base : List ParserToken) → Keeps base p) → Law s k p p → Law s k (chained l p) (chained l p)
   unfolding chained
   chained_law k l p lands law ts us at =
       then_held at (law ts us at) (λ x y here. choose (begins_link l) (sees_link l) here
@@ -105,7 +105,7 @@ module _ (s : Seam) where
       (λ x held. rw (quiet_held s k x.1 (begins_link l) (quiet_link l) held) (holds x refl held))
 
   -- where the first operand is read past the seam
-  pub chained_past : (l : Level) (p : Parser Tree) (ts : List Seen) → Keeps s.later p → Past s (p ts) → Past s (chained l p ts)
+  pub chained_past : (l : Level) (p : Parser Tree) (ts : List ParserToken) → Keeps s.later p → Past s (p ts) → Past s (chained l p ts)
   unfolding chained
   chained_past l p ts lands h =
       past_then h (λ x last. past_choice (begins_link l x.1) (past_then (landed (many_lands s.later (begins_link l) (link_over l p) (among.link_lands s.later l p lands) x.1 last)) (λ xs there. went _ refl there)) (went x refl last))
@@ -116,10 +116,10 @@ module _ (s : Seam) where
 
   -- ---- comparisons
 
-  in_or_equal : (ws : List Seen) → (next_is class.In (ws ++ rest_of s) || next_is class.Equal (ws ++ rest_of s)) ≡ (next_is class.In (ws ++ tail_of s) || next_is class.Equal (ws ++ tail_of s))
+  in_or_equal : (ws : List ParserToken) → (next_is class.In (ws ++ rest_of s) || next_is class.Equal (ws ++ rest_of s)) ≡ (next_is class.In (ws ++ tail_of s) || next_is class.Equal (ws ++ tail_of s))
   in_or_equal ws = rw (sees_near s (next_is class.In) (sees_class class.In) ws, sees_near s (next_is class.Equal) (sees_class class.Equal) ws) refl
 
-  negated_near : (ws : List Seen) → Parted s around.Parens (negated_comparing (ws ++ rest_of s)) (negated_comparing (ws ++ tail_of s))
+  negated_near : (ws : List ParserToken) → Parted s around.Parens (negated_comparing (ws ++ rest_of s)) (negated_comparing (ws ++ tail_of s))
   unfolding negated_comparing
   negated_near [] = kept (leaves (past_choice (next_is class.In s.later || next_is class.Equal s.later) (went _ refl (after_last s.later s.later (all_last s.later))) (faulty (refused s.later) refl (all_last s.later))))
   negated_near (w ∷ ws) =
@@ -127,7 +127,7 @@ module _ (s : Seam) where
       (of_near (stay_after {s = s} {k = around.Parens} {ts = ws ++ rest_of s} {us = ws ++ tail_of s} (near ws refl refl)))
       (ended _ refl)
 
-  negated_past : (ts : List Seen) → AreLast s.later ts → Past s (negated_comparing ts)
+  negated_past : (ts : List ParserToken) → AreLast s.later ts → Past s (negated_comparing ts)
   unfolding negated_comparing
   negated_past ts last =
       past_choice (next_is class.In (after ts) || next_is class.Equal (after ts)) (went _ refl (after_last s.later (after ts) (after_last s.later ts last))) (faulty (refused (after ts)) refl (after_last s.later ts last))
@@ -143,16 +143,16 @@ module _ (s : Seam) where
 -- ---- the rules, over a reader of what stands under one construct more
 
 -- a name before a comma is read as it, or lies too deep
-pub data NameRead (s : Seam) (r : Result (Tree × List Seen) Stop) (ts : List Seen) : Type 0 where
+pub data NameRead (s : Seam) (r : Result (Tree × List ParserToken) ParseStopView) (ts : List ParserToken) : Type 0 where
   named_so : (x : Tree) → r ≡ Ok (x, ts) → NameRead s r ts
-  deeper : (d : Stop) → r ≡ Err d → IsElse s d → NameRead s r ts
+  deeper : (d : ParseStopView) → r ≡ Err d → IsElse s d → NameRead s r ts
 
 pub record Steady (s : Seam) (i : Reader) : Type 0 where
   pub parts : (a : Around) (part : Inside) → Law s a (i a part) (i a part)
   pub quantified : (a : Around) (q r : Quantifier) (p o : Place) → Law s a (i a (inside.Quantified q p)) (i a (inside.Quantified r o))
   pub bound_by_let : (a : Around) (p o : Place) → Law s a (i a (inside.Let p)) (i a (inside.Let o))
-  pub lands : (base : List Seen) → among.Below base i
-  pub short : (ts : List Seen) (x : Tree) (rest : List Seen) → i around.Braces inside.Node ts ≡ Ok (x, rest) → length rest < length ts
+  pub lands : (base : List ParserToken) → among.Below base i
+  pub short : (ts : List ParserToken) (x : Tree) (rest : List ParserToken) → i around.Braces inside.Node ts ≡ Ok (x, rest) → length rest < length ts
   -- a `!` at the seam is taken by the next node in braces
   pub not_taken : s.token.class ≡ class.Not → Past s (i around.Braces inside.Node (rest_of s))
   -- a name at the seam is taken
@@ -160,29 +160,29 @@ pub record Steady (s : Seam) (i : Reader) : Type 0 where
   pub sum_taken : (a : Around) → s.token.class ≡ class.Name → Past s (i a inside.Sum (rest_of s))
   pub quantified_taken : (a : Around) (q : Quantifier) (p : Place) → s.token.class ≡ class.Name → Past s (i a (inside.Quantified q p) (rest_of s))
   -- names with commas are read up to the seam and past it
-  pub node_named : (n c : Seen) (ts : List Seen) → n.class ≡ class.Name → c.class ≡ class.Comma → NameRead s (i around.Brackets inside.Node (n ∷ c ∷ ts)) (c ∷ ts)
-  pub sum_named : (n c : Seen) (ts : List Seen) → n.class ≡ class.Name → c.class ≡ class.Comma → NameRead s (i around.Brackets inside.Sum (n ∷ c ∷ ts)) (c ∷ ts)
-  pub names_taken : (q : Quantifier) (p : Place) (n : Seen) (ts : List Seen) → n.class ≡ class.Name → Runs s ts → Past s (i around.Brackets (inside.Quantified q p) (n ∷ ts))
+  pub node_named : (n c : ParserToken) (ts : List ParserToken) → n.class ≡ class.Name → c.class ≡ class.Comma → NameRead s (i around.Brackets inside.Node (n ∷ c ∷ ts)) (c ∷ ts)
+  pub sum_named : (n c : ParserToken) (ts : List ParserToken) → n.class ≡ class.Name → c.class ≡ class.Comma → NameRead s (i around.Brackets inside.Sum (n ∷ c ∷ ts)) (c ∷ ts)
+  pub names_taken : (q : Quantifier) (p : Place) (n : ParserToken) (ts : List ParserToken) → n.class ≡ class.Name → Runs s ts → Past s (i around.Brackets (inside.Quantified q p) (n ∷ ts))
 
 -- ---- tests that look at two tokens
 
 -- whether a quantifier's declarations begin is seen alike; or a name stands at the seam; or names with commas run to it
-data Declared (s : Seam) (a : Around) (ws : List Seen) : Type 0 where
+data Declared (s : Seam) (a : Around) (ws : List ParserToken) : Type 0 where
   alike : begins_declaration a (ws ++ rest_of s) ≡ begins_declaration a (ws ++ tail_of s) → Declared s a ws
   name_here : ws ≡ [] → s.token.class ≡ class.Name → Declared s a ws
-  runs : a ≡ around.Brackets → (n : Seen) (vs : List Seen) → ws ++ rest_of s ≡ n ∷ vs → n.class ≡ class.Name → Runs s vs → Declared s a ws
+  runs : a ≡ around.Brackets → (n : ParserToken) (vs : List ParserToken) → ws ++ rest_of s ≡ n ∷ vs → n.class ≡ class.Name → Runs s vs → Declared s a ws
 
-data Colons (s : Seam) (ws : List Seen) : Type 0 where
+data Colons (s : Seam) (ws : List ParserToken) : Type 0 where
   names_alike : colon_after_names (ws ++ rest_of s) ≡ colon_after_names (ws ++ tail_of s) → Colons s ws
   names_name : ws ≡ [] → s.token.class ≡ class.Name → Colons s ws
-  names_run : (n : Seen) (vs : List Seen) → ws ++ rest_of s ≡ n ∷ vs → n.class ≡ class.Name → Runs s vs → Colons s ws
+  names_run : (n : ParserToken) (vs : List ParserToken) → ws ++ rest_of s ≡ n ∷ vs → n.class ≡ class.Name → Runs s vs → Colons s ws
 
-not_names : (t : Seen) (ts : List Seen) → is_class t.class class.Name ≡ false → colon_after_names (t ∷ ts) ≡ false
+not_names : (t : ParserToken) (ts : List ParserToken) → is_class t.class class.Name ≡ false → colon_after_names (t ∷ ts) ≡ false
 unfolding colon_after_names
 not_names t [] e = refl
 not_names t (m ∷ ts) e = rw e refl
 
-pub token_class : (t : Seen) (ts : List Seen) (c : Class) → next_is c (t ∷ ts) ≡ true → t.class ≡ c
+pub token_class : (t : ParserToken) (ts : List ParserToken) (c : Class) → next_is c (t ∷ ts) ≡ true → t.class ≡ c
 unfolding next_is
 token_class t ts c e = class_is t.class c e
 
@@ -190,7 +190,7 @@ module _ (s : Seam) where
   colon_same : is_class s.token.class class.Colon ≡ is_class s.other.class class.Colon
   colon_same = ap (λ (k : Class). is_class k class.Colon) s.alike
 
-  colons : (ws : List Seen) → Colons s ws
+  colons : (ws : List ParserToken) → Colons s ws
   unfolding colon_after_names
   colons [] =
       elim (either (is_class s.token.class class.Name)) [
@@ -211,26 +211,26 @@ module _ (s : Seam) where
         | names_name none is ↦ elim (either (is_class w.class class.Name)) [
           | inr fails ↦ names_alike (rw fails refl)
           | inl named ↦ elim (either (is_class v.class class.Comma)) [
-            | inl comma ↦ names_run w (v ∷ rest_of s) (ap (λ (vs : List Seen). w ∷ v ∷ vs ++ rest_of s) none) (class_is w.class class.Name named) (name_next v (v ∷ rest_of s) (class_is v.class class.Comma comma) is refl)
+            | inl comma ↦ names_run w (v ∷ rest_of s) (ap (λ (vs : List ParserToken). w ∷ v ∷ vs ++ rest_of s) none) (class_is w.class class.Name named) (name_next v (v ∷ rest_of s) (class_is v.class class.Comma comma) is refl)
             | inr fails ↦ names_alike (rw fails refl)
           ]
         ]
         | names_run n vs equal is more ↦ elim (either (is_class w.class class.Name)) [
           | inr fails ↦ names_alike (rw fails refl)
           | inl named ↦ elim (either (is_class v.class class.Comma)) [
-            | inl comma ↦ names_run w (v ∷ n ∷ vs) (ap (λ (us : List Seen). w ∷ v ∷ us) equal) (class_is w.class class.Name named) (name_then v n vs (v ∷ n ∷ vs) (class_is v.class class.Comma comma) is more refl)
+            | inl comma ↦ names_run w (v ∷ n ∷ vs) (ap (λ (us : List ParserToken). w ∷ v ∷ us) equal) (class_is w.class class.Name named) (name_then v n vs (v ∷ n ∷ vs) (class_is v.class class.Comma comma) is more refl)
             | inr fails ↦ names_alike (rw fails refl)
           ]
         ]
       ]
 
-  two_tokens : (ws : List Seen) → (next_is class.Comma (ws ++ rest_of s) || next_is class.Colon (ws ++ rest_of s)) ≡ (next_is class.Comma (ws ++ tail_of s) || next_is class.Colon (ws ++ tail_of s))
+  two_tokens : (ws : List ParserToken) → (next_is class.Comma (ws ++ rest_of s) || next_is class.Colon (ws ++ rest_of s)) ≡ (next_is class.Comma (ws ++ tail_of s) || next_is class.Colon (ws ++ tail_of s))
   two_tokens ws = rw (sees_near s (next_is class.Comma) (sees_class class.Comma) ws, sees_near s (next_is class.Colon) (sees_class class.Colon) ws) refl
 
-  disj_same : (ws : List Seen) → next_is class.Disj (ws ++ rest_of s) ≡ next_is class.Disj (ws ++ tail_of s)
+  disj_same : (ws : List ParserToken) → next_is class.Disj (ws ++ rest_of s) ≡ next_is class.Disj (ws ++ tail_of s)
   disj_same = sees_near s (next_is class.Disj) (sees_class class.Disj)
 
-  short_declared : (a : Around) → in_brackets_too a ≡ false → (ws : List Seen) → Declared s a ws
+  short_declared : (a : Around) → in_brackets_too a ≡ false → (ws : List ParserToken) → Declared s a ws
   unfolding begins_declaration next_is
   short_declared a round [] =
       elim (either (is_class s.token.class class.Name)) [
@@ -239,7 +239,7 @@ module _ (s : Seam) where
       ]
   short_declared a round (w ∷ ws) = alike (rw (round, two_tokens ws) refl)
 
-  declared : (a : Around) (ws : List Seen) → Declared s a ws
+  declared : (a : Around) (ws : List ParserToken) → Declared s a ws
   unfolding begins_declaration in_brackets_too next_is
   declared around.Brackets ws =
       elim (colons ws) [
@@ -251,7 +251,7 @@ module _ (s : Seam) where
   declared around.Parens ws = short_declared around.Parens refl ws
 
 -- no comparison goes on at a comma
-pub comma_compares_not : (t : Seen) (ts : List Seen) → t.class ≡ class.Comma → begins_comparison around.Brackets (t ∷ ts) ≡ false
+pub comma_compares_not : (t : ParserToken) (ts : List ParserToken) → t.class ≡ class.Comma → begins_comparison around.Brackets (t ∷ ts) ≡ false
 unfolding begins_comparison is_plain_comparison next_is is_class
 comma_compares_not t ts e = rw e refl
 
@@ -264,10 +264,10 @@ module _ (s : Seam) (i : Reader) (st : Steady s i) where
   unfolding is_inner next_is is_class
   not_inner e = rw e refl
 
-  inner_hold : (n : ℕ) (ts : List Seen) → length ts < n → Held s around.Braces ts → Kept s around.Parens (repeated is_inner (i around.Braces inside.Node) n ts)
+  inner_hold : (n : ℕ) (ts : List ParserToken) → length ts < n → Held s around.Braces ts → Kept s around.Parens (repeated is_inner (i around.Braces inside.Node) n ts)
   inner_hold zero ts enough held = absurd (omega (arith, enough))
   inner_hold (suc n) ts enough held =
-      subst (λ (us : List Seen). Kept s around.Parens (repeated is_inner (i around.Braces inside.Node) (suc n) us)) (sym held.0)
+      subst (λ (us : List ParserToken). Kept s around.Parens (repeated is_inner (i around.Braces inside.Node) (suc n) us)) (sym held.0)
       (leaves (more_past s is_inner (i around.Braces inside.Node) (λ us last. landed (st.lands s.later around.Braces inside.Node us last)) n (rest_of s) (not_inner held.1) (st.not_taken held.1)))
 
   inner_law : Law s around.Parens (many is_inner (i around.Braces inside.Node)) (many is_inner (i around.Braces inside.Node))
@@ -306,34 +306,34 @@ module _ (s : Seam) (i : Reader) (st : Steady s i) where
 
   -- an argument's names go on to the seam, and past it
   module _ {A : Type 0} (p : Parser A) (onward : Onward s p) (taken : s.token.class ≡ class.Name → Past s (p (rest_of s)))
-      (named : (n c : Seen) (ts : List Seen) → n.class ≡ class.Name → c.class ≡ class.Comma → ((x : A) × (p (n ∷ c ∷ ts) ≡ Ok (x, c ∷ ts))) ⊎ ((d : Stop) × (p (n ∷ c ∷ ts) ≡ Err d) × IsElse s d)) where
-    name_more : (n : ℕ) (c m : Seen) (us : List Seen) → c.class ≡ class.Comma → m.class ≡ class.Name → Runs s us → length us < n → Past s (repeated (next_is class.Comma) (behind p) n us) → Past s (repeated (next_is class.Comma) (behind p) (suc n) (c ∷ m ∷ us))
+      (named : (n c : ParserToken) (ts : List ParserToken) → n.class ≡ class.Name → c.class ≡ class.Comma → ((x : A) × (p (n ∷ c ∷ ts) ≡ Ok (x, c ∷ ts))) ⊎ ((d : ParseStopView) × (p (n ∷ c ∷ ts) ≡ Err d) × IsElse s d)) where
+    name_more : (n : ℕ) (c m : ParserToken) (us : List ParserToken) → c.class ≡ class.Comma → m.class ≡ class.Name → Runs s us → length us < n → Past s (repeated (next_is class.Comma) (behind p) n us) → Past s (repeated (next_is class.Comma) (behind p) (suc n) (c ∷ m ∷ us))
     unfolding repeated
     name_more n c m us e g more enough h =
         let f = runs_first s us more in
         let is : next_is class.Comma (c ∷ m ∷ us) ≡ true = class_next c (m ∷ us) class.Comma e in
-        let k = subst (λ (vs : List Seen). ((x : A) × (p (m ∷ vs) ≡ Ok (x, vs))) ⊎ ((d : Stop) × (p (m ∷ vs) ≡ Err d) × IsElse s d)) (sym f.2) (named m f.0 f.1 g f.3) in
+        let k = subst (λ (vs : List ParserToken). ((x : A) × (p (m ∷ vs) ≡ Ok (x, vs))) ⊎ ((d : ParseStopView) × (p (m ∷ vs) ≡ Err d) × IsElse s d)) (sym f.2) (named m f.0 f.1 g f.3) in
         rw is (elim k [
           | inl x ↦ rw x.1 (past_then h (λ xs last. went _ refl last))
           | inr d ↦ faulty d.0 (rw d.1 refl) d.2
         ])
 
-    pub runs_taken : (n : ℕ) (ts : List Seen) → length ts < n → Runs s ts → Past s (repeated (next_is class.Comma) (behind p) n ts)
+    pub runs_taken : (n : ℕ) (ts : List ParserToken) → length ts < n → Runs s ts → Past s (repeated (next_is class.Comma) (behind p) n ts)
     runs_taken zero ts enough r = absurd (omega (arith, enough))
     runs_taken (suc n) _ enough (comma_here ts e f) =
-        subst (λ (us : List Seen). Past s (repeated (next_is class.Comma) (behind p) (suc n) us)) (sym f)
+        subst (λ (us : List ParserToken). Past s (repeated (next_is class.Comma) (behind p) (suc n) us)) (sym f)
         (more_past s (next_is class.Comma) (behind p) (λ us last. onward (after us) (after_last s.later us last)) n (rest_of s) (class_next s.token s.later class.Comma e) (onward s.later (all_last s.later)))
     runs_taken (suc n) _ enough (name_next c ts e g f) =
-        subst (λ (us : List Seen). Past s (repeated (next_is class.Comma) (behind p) (suc n) us)) (sym f)
+        subst (λ (us : List ParserToken). Past s (repeated (next_is class.Comma) (behind p) (suc n) us)) (sym f)
         (more_past s (next_is class.Comma) (behind p) (λ us last. onward (after us) (after_last s.later us last)) n (c ∷ rest_of s) (class_next c (rest_of s) class.Comma e) (taken g))
     runs_taken (suc n) _ enough (name_then c m us ts e g more f) =
-        subst (λ (vs : List Seen). Past s (repeated (next_is class.Comma) (behind p) (suc n) vs)) (sym f)
+        subst (λ (vs : List ParserToken). Past s (repeated (next_is class.Comma) (behind p) (suc n) vs)) (sym f)
         (name_more n c m us e g more (omega (arith, ap length f, enough)) (runs_taken n us (omega (arith, ap length f, enough)) more))
 
-  node_named : (n c : Seen) (ts : List Seen) → n.class ≡ class.Name → c.class ≡ class.Comma → ((x : Tree) × (i around.Brackets inside.Node (n ∷ c ∷ ts) ≡ Ok (x, c ∷ ts))) ⊎ ((d : Stop) × (i around.Brackets inside.Node (n ∷ c ∷ ts) ≡ Err d) × IsElse s d)
+  node_named : (n c : ParserToken) (ts : List ParserToken) → n.class ≡ class.Name → c.class ≡ class.Comma → ((x : Tree) × (i around.Brackets inside.Node (n ∷ c ∷ ts) ≡ Ok (x, c ∷ ts))) ⊎ ((d : ParseStopView) × (i around.Brackets inside.Node (n ∷ c ∷ ts) ≡ Err d) × IsElse s d)
   node_named n c ts e f = elim (st.node_named n c ts e f) [ named_so x r ↦ inl (x, r) | deeper d r apart ↦ inr (d, r, apart) ]
 
-  arguments_hold : (n : ℕ) (ts : List Seen) → length ts < n → Held s around.Brackets ts → Kept s around.Parens (repeated (next_is class.Comma) (behind (i around.Brackets inside.Node)) n ts)
+  arguments_hold : (n : ℕ) (ts : List ParserToken) → length ts < n → Held s around.Brackets ts → Kept s around.Parens (repeated (next_is class.Comma) (behind (i around.Brackets inside.Node)) n ts)
   arguments_hold n ts enough held =
       leaves (runs_taken (i around.Brackets inside.Node) (λ us last. landed (st.lands s.later around.Brackets inside.Node us last)) st.node_taken node_named n ts enough held)
 
@@ -363,7 +363,7 @@ module _ (s : Seam) (i : Reader) (st : Steady s i) where
   unfolding begins_step next_is
   no_step = refl
 
-  step_from : (a : Around) (t : Seen) (ts : List Seen) → begins_step (t ∷ ts) ≡ true → Lands ts (step_over i a (t ∷ ts))
+  step_from : (a : Around) (t : ParserToken) (ts : List ParserToken) → begins_step (t ∷ ts) ≡ true → Lands ts (step_over i a (t ∷ ts))
   unfolding step_over brackets_over expect begins_step next_is
   step_from a t ts is =
       elim (either (is_class t.class class.Dot)) [
@@ -399,7 +399,7 @@ module _ (s : Seam) (i : Reader) (st : Steady s i) where
   unfolding begins_arrow is_mark next_is
   no_arrow = refl
 
-  arrow_from : (a : Around) (t : Seen) (ts : List Seen) → Lands ts (arrow_over i a (t ∷ ts)) ⊎ ((d : Stop) × (arrow_over i a (t ∷ ts) ≡ Err d))
+  arrow_from : (a : Around) (t : ParserToken) (ts : List ParserToken) → Lands ts (arrow_over i a (t ∷ ts)) ⊎ ((d : ParseStopView) × (arrow_over i a (t ∷ ts) ≡ Err d))
   unfolding arrow_over
   arrow_from a t ts =
       elim (either (is_mark (t ∷ ts))) [
@@ -415,18 +415,18 @@ module _ (s : Seam) (i : Reader) (st : Steady s i) where
 
   -- ---- arrows
 
-  marked_stops : (a : Around) (ts : List Seen) → is_mark ts ≡ true → arrow_over i a ts ≡ Err (unsupported form.ArrowMultiplicity ts)
+  marked_stops : (a : Around) (ts : List ParserToken) → is_mark ts ≡ true → arrow_over i a ts ≡ Err (unsupported form.ArrowMultiplicity ts)
   unfolding arrow_over
   marked_stops a ts m = rw m refl
 
-  abbrev arrows_rest : Around → Tree × List Seen → Result (Tree × List Seen) Stop
+  abbrev arrows_rest : Around → Tree × List ParserToken → Result (Tree × List ParserToken) ParseStopView
   arrows_rest a x = if begins_arrow x.1 then many begins_arrow (arrow_over i a) x.1 >>= (λ xs. Ok (chain x.0 (links_of xs.0), xs.1)) else Ok x
 
-  marked_rest : (a : Around) (x : Tree × List Seen) → begins_arrow x.1 ≡ true → is_mark x.1 ≡ true → arrows_rest a x ≡ Err (unsupported form.ArrowMultiplicity x.1)
+  marked_rest : (a : Around) (x : Tree × List ParserToken) → begins_arrow x.1 ≡ true → is_mark x.1 ≡ true → arrows_rest a x ≡ Err (unsupported form.ArrowMultiplicity x.1)
   unfolding repeated
   marked_rest a x b m = rw (b, marked_stops a x.1 m) refl
 
-  arrow_tests : (ws : List Seen) → (begins_arrow (ws ++ rest_of s) ≡ begins_arrow (ws ++ tail_of s)) ⊎ ((ws ≡ []) × (is_mark (rest_of s) ≡ true))
+  arrow_tests : (ws : List ParserToken) → (begins_arrow (ws ++ rest_of s) ≡ begins_arrow (ws ++ tail_of s)) ⊎ ((ws ≡ []) × (is_mark (rest_of s) ≡ true))
   unfolding begins_arrow
   arrow_tests [] =
       elim (either (is_mark (rest_of s))) [
@@ -436,12 +436,12 @@ module _ (s : Seam) (i : Reader) (st : Steady s i) where
   arrow_tests (w ∷ ws) =
       inl (rw (sees_near s (next_is class.Arrow) (sees_class class.Arrow) (w ∷ ws), sees_near s is_mark sees_mark (w ∷ ws), sees_near s (next_is class.Arrow) (sees_class class.Arrow) ws) refl)
 
-  arrows_tested : (a : Around) (ws : List Seen) → Tested s begins_arrow (arrow_over i a) (arrow_over i a) ws
+  arrows_tested : (a : Around) (ws : List ParserToken) → Tested s begins_arrow (arrow_over i a) (arrow_over i a) ws
   arrows_tested a ws =
       elim (arrow_tests ws) [
         | inl e ↦ same e
         | inr m ↦ (
-            let here : is_mark (ws ++ rest_of s) ≡ true = ap (λ (us : List Seen). is_mark (us ++ rest_of s)) m.0 ∙ m.1 in
+            let here : is_mark (ws ++ rest_of s) ≡ true = ap (λ (us : List ParserToken). is_mark (us ++ rest_of s)) m.0 ∙ m.1 in
             let there : is_mark (ws ++ tail_of s) ≡ true = sym (sees_near s is_mark sees_mark ws) ∙ here in
             elim (either (begins_arrow (ws ++ rest_of s))) [
               | inl b ↦ first b (faulty _ (marked_stops a (ws ++ rest_of s) here) tt)
@@ -455,7 +455,7 @@ module _ (s : Seam) (i : Reader) (st : Steady s i) where
   more_arrows : (a : Around) → Law s a (many begins_arrow (arrow_over i a)) (many begins_arrow (arrow_over i a))
   more_arrows a = many_out s a a begins_arrow (arrow_over i a) (arrow_over i a) (arrow_law a) (arrow_short a) (hold_quiet s a begins_arrow (arrow_over i a) quiet_arrow) (arrows_tested a)
 
-  pub arrows_more : (a : Around) (x y : Tree × List Seen) (here : At s x.1 y.1) → Out s a here (arrows_rest a x) (arrows_rest a y)
+  pub arrows_more : (a : Around) (x y : Tree × List ParserToken) (here : At s x.1 y.1) → Out s a here (arrows_rest a x) (arrows_rest a y)
   arrows_more a x y (past last) =
       out (past_choice (begins_arrow x.1) (past_then (of_past (more_arrows a x.1 x.1 (past last))) (λ xs end. went _ refl end)) (went x refl last))
   arrows_more a x y (near ws e f) =
@@ -464,7 +464,7 @@ module _ (s : Seam) (i : Reader) (st : Steady s i) where
             (of_near (then_held {k = a} {l = a} (near ws e f) (more_arrows a x.1 y.1 (near ws e f)) (λ xs ys there. stay there) (λ xs held. holds _ refl held)))
             (both x y refl refl ws e f)
         | inr m ↦ (
-            let here : is_mark x.1 ≡ true = ap is_mark e ∙ (ap (λ (us : List Seen). is_mark (us ++ rest_of s)) m.0 ∙ m.1) in
+            let here : is_mark x.1 ≡ true = ap is_mark e ∙ (ap (λ (us : List ParserToken). is_mark (us ++ rest_of s)) m.0 ∙ m.1) in
             let there : is_mark y.1 ≡ true = ap is_mark f ∙ (sym (sees_near s is_mark sees_mark ws) ∙ (sym (ap is_mark e) ∙ here)) in
             elim (either (begins_arrow x.1)) [
               | inl b ↦ kept (leaves (faulty _ (marked_rest a x b here) tt))
@@ -506,10 +506,10 @@ module _ (s : Seam) (i : Reader) (st : Steady s i) where
   unfolding counted_over
   counted_law a ts us at = choose is_counting sees_counting at (prefix_law s a (counting_of ts) (counting_of us) (i a inside.Sum) (st.parts a inside.Sum) ts us at) (sum_law a ts us at)
 
-  abbrev compared_rest : Around → Tree × List Seen → Result (Tree × List Seen) Stop
+  abbrev compared_rest : Around → Tree × List ParserToken → Result (Tree × List ParserToken) ParseStopView
   compared_rest a x = if begins_comparison a x.1 then comparing_at x.1 >>= (λ c. counted_over i a c.1 >>= λ y. Ok (compared x.0 c.0 y.0, y.1)) else Ok x
 
-  compared_past : (a : Around) (x : Tree × List Seen) → AreLast s.later x.1 → Past s (compared_rest a x)
+  compared_past : (a : Around) (x : Tree × List ParserToken) → AreLast s.later x.1 → Past s (compared_rest a x)
   compared_past a x last =
       past_choice (begins_comparison a x.1) (past_then (landed (among.comparing_lands s.later x.1 last)) (λ c here. past_then (landed (among.counted_lands s.later i (st.lands s.later) a c.1 here)) (λ y end. went _ refl end))) (went x refl last)
 
@@ -544,15 +544,15 @@ module _ (s : Seam) (i : Reader) (st : Steady s i) where
         | inr none ↦ compared_bare a x e none
       ]
 
-  no_comparison : (ts : List Seen) → Held s around.Brackets ts → begins_comparison around.Brackets ts ≡ false
+  no_comparison : (ts : List ParserToken) → Held s around.Brackets ts → begins_comparison around.Brackets ts ≡ false
   no_comparison ts held = let f = runs_first s ts held in ap (begins_comparison around.Brackets) f.2 ∙ comma_compares_not f.0 f.1 f.3
 
-  compared_held : (a : Around) (x : Tree × List Seen) → Held s a x.1 → Kept s a (compared_rest a x)
-  compared_held around.Braces x held = subst (λ (us : List Seen). Kept s around.Braces (compared_rest around.Braces (x.0, us))) (sym held.0) (compared_not around.Braces x.0 held.1)
+  compared_held : (a : Around) (x : Tree × List ParserToken) → Held s a x.1 → Kept s a (compared_rest a x)
+  compared_held around.Braces x held = subst (λ (us : List ParserToken). Kept s around.Braces (compared_rest around.Braces (x.0, us))) (sym held.0) (compared_not around.Braces x.0 held.1)
   compared_held around.Brackets x held = rw (no_comparison x.1 held) (holds x refl held)
   compared_held around.Parens x held = absurd held
 
-  compared_test : (a : Around) (ws : List Seen) → (begins_comparison a (ws ++ rest_of s) ≡ begins_comparison a (ws ++ tail_of s)) ⊎ ((ws ≡ []) × (s.token.class ≡ class.Not))
+  compared_test : (a : Around) (ws : List ParserToken) → (begins_comparison a (ws ++ rest_of s) ≡ begins_comparison a (ws ++ tail_of s)) ⊎ ((ws ≡ []) × (s.token.class ≡ class.Not))
   unfolding begins_comparison
   compared_test a [] =
       elim (either (next_is class.Not (rest_of s))) [
@@ -562,7 +562,7 @@ module _ (s : Seam) (i : Reader) (st : Steady s i) where
   compared_test a (w ∷ ws) =
       inl (rw (sees_near s is_plain_comparison sees_plain (w ∷ ws), sees_near s (next_is class.Not) (sees_class class.Not) (w ∷ ws), sees_near s (next_is class.In) (sees_class class.In) ws, sees_near s (next_is class.Equal) (sees_class class.Equal) ws) refl)
 
-  compared_more : (a : Around) (x y : Tree × List Seen) (here : At s x.1 y.1) → Out s a here (compared_rest a x) (compared_rest a y)
+  compared_more : (a : Around) (x y : Tree × List ParserToken) (here : At s x.1 y.1) → Out s a here (compared_rest a x) (compared_rest a y)
   compared_more a x y (past last) = out (compared_past a x last)
   compared_more a x y (near ws e f) =
       out (elim (compared_test a ws) [
@@ -570,52 +570,52 @@ module _ (s : Seam) (i : Reader) (st : Steady s i) where
             (of_near (then_out {l = a} (near ws e f) (comparing_law s x.1 y.1 (near ws e f)) (λ c d there. then_held there (counted_law a c.1 d.1 there) (λ z o end. stay end) (λ z held. holds _ refl held))))
             (both x y refl refl ws e f)
         | inr m ↦ (
-            let here : x.1 ≡ rest_of s = e ∙ ap (λ (us : List Seen). us ++ rest_of s) m.0 in
-            kept (subst (λ (us : List Seen). Kept s a (compared_rest a (x.0, us))) (sym here) (compared_not a x.0 m.1)))
+            let here : x.1 ≡ rest_of s = e ∙ ap (λ (us : List ParserToken). us ++ rest_of s) m.0 in
+            kept (subst (λ (us : List ParserToken). Kept s a (compared_rest a (x.0, us))) (sym here) (compared_not a x.0 m.1)))
       ])
 
   comparison_law : (a : Around) → Law s a (comparison_over i a) (comparison_over i a)
   unfolding comparison_over
   comparison_law a ts us at = then_held at (counted_law a ts us at) (compared_more a) (compared_held a)
 
-  pub comparison_past : (a : Around) (ts : List Seen) → Past s (counted_over i a ts) → Past s (comparison_over i a ts)
+  pub comparison_past : (a : Around) (ts : List ParserToken) → Past s (counted_over i a ts) → Past s (comparison_over i a ts)
   unfolding comparison_over
   comparison_past a ts h = past_then h (compared_past a)
 
   -- ---- negations and quantifiers
 
   -- a counting word, and what is read behind it
-  counted_word : (a : Around) (ts : List Seen) → is_counting ts ≡ true → Past s (i a inside.Sum (after ts)) → Past s (comparison_over i a ts)
+  counted_word : (a : Around) (ts : List ParserToken) → is_counting ts ≡ true → Past s (i a inside.Sum (after ts)) → Past s (comparison_over i a ts)
   unfolding counted_over behind_prefix
   counted_word a ts is h = comparison_past a ts (rw is (past_then h (λ x last. went _ refl last)))
 
-  abbrev word_rest : Around → List Seen → Result (Tree × List Seen) Stop
+  abbrev word_rest : Around → List ParserToken → Result (Tree × List ParserToken) ParseStopView
   word_rest a ts = if is_counting ts && begins_declaration a (after ts) then i a (inside.Quantified (quantifier_of ts) (place_at ts)) (after ts) else comparison_over i a ts
 
-  word_past : (a : Around) (ts : List Seen) → is_counting ts ≡ true → Past s (i a (inside.Quantified (quantifier_of ts) (place_at ts)) (after ts)) → Past s (i a inside.Sum (after ts)) → Past s (word_rest a ts)
+  word_past : (a : Around) (ts : List ParserToken) → is_counting ts ≡ true → Past s (i a (inside.Quantified (quantifier_of ts) (place_at ts)) (after ts)) → Past s (i a inside.Sum (after ts)) → Past s (word_rest a ts)
   word_past a ts is q h = past_choice (is_counting ts && begins_declaration a (after ts)) q (counted_word a ts is h)
 
   -- names with commas run to the seam: they are variables, or the first is an argument, and the comma behind it waits
-  word_runs : (w n : Seen) (vs : List Seen) → is_counting (w ∷ n ∷ vs) ≡ true → n.class ≡ class.Name → Runs s vs → Kept s around.Brackets (word_rest around.Brackets (w ∷ n ∷ vs))
+  word_runs : (w n : ParserToken) (vs : List ParserToken) → is_counting (w ∷ n ∷ vs) ≡ true → n.class ≡ class.Name → Runs s vs → Kept s around.Brackets (word_rest around.Brackets (w ∷ n ∷ vs))
   unfolding comparison_over counted_over behind_prefix
   word_runs w n vs is named more =
       elim (either (begins_declaration around.Brackets (n ∷ vs))) [
         | inl d ↦ rw (is, d) (leaves (st.names_taken _ _ n vs named more))
         | inr none ↦ (
             let f = runs_first s vs more in
-            let h = subst (λ (us : List Seen). NameRead s (i around.Brackets inside.Sum (n ∷ us)) us) (sym f.2) (st.sum_named n f.0 f.1 named f.3) in
+            let h = subst (λ (us : List ParserToken). NameRead s (i around.Brackets inside.Sum (n ∷ us)) us) (sym f.2) (st.sum_named n f.0 f.1 named f.3) in
             rw (is, none) (elim h [
               | named_so x e ↦ rw e (compared_held around.Brackets _ more)
               | deeper d e apart ↦ leaves (faulty d (rw e refl) apart)
             ]))
       ]
 
-  word_kept : (a : Around) → a ≡ around.Brackets → (w : Seen) (ts : List Seen) (n : Seen) (vs : List Seen) → ts ≡ n ∷ vs → is_counting (w ∷ ts) ≡ true → n.class ≡ class.Name → Runs s vs → Kept s a (word_rest a (w ∷ ts))
+  word_kept : (a : Around) → a ≡ around.Brackets → (w : ParserToken) (ts : List ParserToken) (n : ParserToken) (vs : List ParserToken) → ts ≡ n ∷ vs → is_counting (w ∷ ts) ≡ true → n.class ≡ class.Name → Runs s vs → Kept s a (word_rest a (w ∷ ts))
   word_kept a bracket w ts n vs e is named more =
       let here : is_counting (w ∷ n ∷ vs) ≡ true = sees_counting w w (n ∷ vs) ts refl ∙ is in
-      subst (λ (b : Around). Kept s b (word_rest b (w ∷ ts))) (sym bracket) (subst (λ (us : List Seen). Kept s around.Brackets (word_rest around.Brackets (w ∷ us))) (sym e) (word_runs w n vs here named more))
+      subst (λ (b : Around). Kept s b (word_rest b (w ∷ ts))) (sym bracket) (subst (λ (us : List ParserToken). Kept s around.Brackets (word_rest around.Brackets (w ∷ us))) (sym e) (word_runs w n vs here named more))
 
-  word_near : (a : Around) (ws : List Seen) → Parted s a (word_rest a (ws ++ rest_of s)) (word_rest a (ws ++ tail_of s))
+  word_near : (a : Around) (ws : List ParserToken) → Parted s a (word_rest a (ws ++ rest_of s)) (word_rest a (ws ++ tail_of s))
   word_near a [] =
       elim (either (is_counting (rest_of s))) [
         | inl is ↦ kept (leaves (word_past a (rest_of s) is (landed (st.lands s.later a _ s.later (all_last s.later))) (landed (st.lands s.later a inside.Sum s.later (all_last s.later)))))
@@ -629,10 +629,10 @@ module _ (s : Seam) (i : Reader) (st : Steady s i) where
               (of_near (st.quantified a _ _ _ _ (ws ++ rest_of s) (ws ++ tail_of s) (near ws refl refl)))
               (of_near (comparison_law a (w ∷ ws ++ rest_of s) (w ∷ ws ++ tail_of s) (near (w ∷ ws) refl refl)))
           | name_here none named ↦ (
-              let here : ws ++ rest_of s ≡ rest_of s = ap (λ (us : List Seen). us ++ rest_of s) none in
+              let here : ws ++ rest_of s ≡ rest_of s = ap (λ (us : List ParserToken). us ++ rest_of s) none in
               kept (leaves (word_past a (w ∷ ws ++ rest_of s) is
-              (subst (λ (us : List Seen). Past s (i a (inside.Quantified (quantifier_of (w ∷ ws ++ rest_of s)) (place_at (w ∷ ws ++ rest_of s))) us)) (sym here) (st.quantified_taken a _ _ named))
-              (subst (λ (us : List Seen). Past s (i a inside.Sum us)) (sym here) (st.sum_taken a named)))))
+              (subst (λ (us : List ParserToken). Past s (i a (inside.Quantified (quantifier_of (w ∷ ws ++ rest_of s)) (place_at (w ∷ ws ++ rest_of s))) us)) (sym here) (st.quantified_taken a _ _ named))
+              (subst (λ (us : List ParserToken). Past s (i a inside.Sum us)) (sym here) (st.sum_taken a named)))))
           | runs bracket n vs e named more ↦ kept (word_kept a bracket w (ws ++ rest_of s) n vs e is named more)
         ]
       ]

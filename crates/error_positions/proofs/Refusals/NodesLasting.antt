@@ -15,9 +15,9 @@ use Rattle.alloy_syntax.specs.declared.tree.Quantifier.{Quantifier}
 use Rattle.alloy_syntax.specs.declared.tree.Quantifier.TheVariants as quantifier
 use Rattle.alloy_syntax.specs.declared.tree.Prefix.{Prefix}
 use Rattle.alloy_syntax.specs.declared.tree.Prefix.TheVariants as prefix
-use Rattle.alloy_syntax.specs.declared.seen.Seen.{Seen}
+use Rattle.alloy_syntax.specs.declared.parser_token.ParserToken.{ParserToken}
 use Rattle.alloy_syntax.specs.Tree.{Tree}
-use Rattle.alloy_syntax.specs.Readers.{Stop, refused, too_deep, unsupported, Parser, ◌>>=◌, next_is, after, place_at, expect, spelled_at, name_at, is_mark, after_mark, repeated, behind, others, listed, names_at}
+use Rattle.alloy_syntax.specs.Readers.{ParseStopView, refused, too_deep, unsupported, Parser, ◌>>=◌, next_is, after, place_at, expect, spelled_at, name_at, is_mark, after_mark, repeated, behind, others, listed, names_at}
 use Rattle.alloy_syntax.specs.Nodes.{Reader, may_be_block, begins_primary, begins_tight, begins_sum, begins_node, begins, stop_at, is_comprehension, block_over, block_tree, is_inner, paren_over, is_constant, primary_over, behind_prefix, is_tightening, tightening_of, tight_over, arguments_over, brackets_over, begins_step, step_over, path_over, begins_link, link_over, chained, restrict_over, begins_arrow, arrow_over, arrows_over, meet_over, override_over, size_over, sum_over, braced_over, counting_of, is_counting, counted_over, begins_comparison, comparison_over, begins_declaration, quantifier_of, negation_over, and_over, implied_over, implication_over, iff_over, node_over, is_single, after_disj, one_name, are_several, one_alone, variable_names, variables_over, declaration_over, another_declaration, more_declarations, declarations_over, body_over, quantified_over, binding_over, bindings_over, let_over, inside_over, within}
 use Rattle.alloy_grammar.proofs.Results.{success, stop, known, either, done_is, no_success}
 use Rattle.error_positions.specs.Faults.Stops.{AreLast}
@@ -32,7 +32,7 @@ link_lasts : {strict deeper : Bool} (l : Level) (p q : Parser Tree) → Lasting 
 unfolding link_over
 link_lasts l p q h ts = lasts_then (h (after ts)) (λ x. both_read) (λ base x e. read _ refl e)
 
-chained_lasts : {strict deeper : Bool} (l : Level) (p q : Parser Tree) → ((base : List Seen) → Keeps base q) → Lasting strict deeper p q → Lasting strict deeper (chained l p) (chained l q)
+chained_lasts : {strict deeper : Bool} (l : Level) (p q : Parser Tree) → ((base : List ParserToken) → Keeps base q) → Lasting strict deeper p q → Lasting strict deeper (chained l p) (chained l q)
 unfolding chained
 chained_lasts l p q lands h ts =
     lasts_then (h ts) (λ x. lasts_choice (begins_link l x.1) (lasts_then (many_lasts (begins_link l) (link_over l p) (link_over l q) (λ base. among.link_lands base l q (lands base)) (link_lasts l p q h) x.1) (λ xs. both_read) (λ base xs e. read _ refl e)) both_read)
@@ -48,10 +48,10 @@ none_several : {P : Type 0} (n : Name) → are_several (n ∷ []) ≡ true → P
 none_several n e = absurd cc
 
 -- a name behind the first comma, and one more behind each other
-abbrev Names : List Seen → Result (List Name × List Seen) Stop
+abbrev Names : List ParserToken → Result (List Name × List ParserToken) ParseStopView
 Names ts = name_at (after ts) >>= λ y. repeated (next_is class.Comma) (behind name_at) (length ts) y.1 >>= λ ys. Ok (y.0 ∷ ys.0, ys.1)
 
-names_end : (base ts : List Seen) → AreLast base (after ts) → Lands base (Names ts)
+names_end : (base ts : List ParserToken) → AreLast base (after ts) → Lands base (Names ts)
 names_end base ts e =
     among_then (spelled_lands base class.Name (after ts) e) (λ y f. among_then (repeated_lands base (next_is class.Comma) (behind name_at) (behind_lands base name_at (spelled_lands base class.Name)) (length ts) y.1 f) (λ ys g. read _ refl g))
 
@@ -74,30 +74,30 @@ one_lasts ts =
     ]
 
 -- of several names the first two tokens are the first name and a comma
-many_names : (base ts : List Seen) (x : List Name × List Seen) → AreLast base (after (after ts)) → names_at ts ≡ Ok x → are_several x.0 ≡ true → AreLast base x.1
+many_names : (base ts : List ParserToken) (x : List Name × List ParserToken) → AreLast base (after (after ts)) → names_at ts ≡ Ok x → are_several x.0 ≡ true → AreLast base x.1
 unfolding names_at listed others repeated spelled_at
 many_names base [] x b e several = absurd cc
 many_names base (t ∷ ts) x b e several =
     elim (either (is_class t.class class.Name)) [
       | inr none ↦ no_success (refused (t ∷ ts)) x (rw none at e)
       | inl name ↦ elim (either (next_is class.Comma ts)) [
-        | inr ends ↦ none_several (record { text = t.text; place = t.place }) (subst (λ (y : List Name × List Seen). are_several y.0 ≡ true) (sym (done_is _ x (rw (name, ends) at e))) several)
+        | inr ends ↦ none_several (record { text = t.text; place = t.place }) (subst (λ (y : List Name × List ParserToken). are_several y.0 ≡ true) (sym (done_is _ x (rw (name, ends) at e))) several)
         | inl more ↦ among_read (among_then {Q = LeavesLast {A = List Name} base} (names_end base ts b) (λ zs f. read _ refl f)) (rw (name, more) at e)
       ]
     ]
 
-disj_last : (ts : List Seen) → AreLast (after (after ts)) (after (after (after_disj ts)))
+disj_last : (ts : List ParserToken) → AreLast (after (after ts)) (after (after (after_disj ts)))
 disj_last ts =
     elim (either (next_is class.Disj ts)) [
       | inl is ↦ rw is (after_last (after (after ts)) (after (after ts)) (all_last (after (after ts))))
       | inr fails ↦ rw fails (all_last (after (after ts)))
     ]
 
-names_last : {deeper : Bool} (ts : List Seen) → Lasts true deeper (variable_names true ts) (variable_names false ts)
+names_last : {deeper : Bool} (ts : List ParserToken) → Lasts true deeper (variable_names true ts) (variable_names false ts)
 unfolding variable_names
 names_last ts = elim (either (next_is class.Disj ts)) [ inl is ↦ rw is (one_lasts (after ts)) | inr fails ↦ rw fails (alike (names_calm ts)) ]
 
-alone_lasts : {deeper : Bool} (ts : List Seen) (x : List Name × List Seen) (c : Place × List Seen) → variable_names false ts ≡ Ok x → expect class.Colon x.1 ≡ Ok c → Lasts true deeper (one_alone true ts x.0 c.1) (one_alone false ts x.0 c.1)
+alone_lasts : {deeper : Bool} (ts : List ParserToken) (x : List Name × List ParserToken) (c : Place × List ParserToken) → variable_names false ts ≡ Ok x → expect class.Colon x.1 ≡ Ok c → Lasts true deeper (one_alone true ts x.0 c.1) (one_alone false ts x.0 c.1)
 unfolding variable_names
 alone_lasts ts x c e f =
     elim (either (are_several x.0)) [
@@ -116,7 +116,7 @@ variables_last true deeper false ts = alike (variables_calm ts)
 variables_last false deeper single ts = alike (variables_calm ts)
 
 -- the second variable is read, and refused, where only one may be bound
-second_lasts : {deeper : Bool} (i j : Reader) → ((base : List Seen) → among.Below base j) → Lasting true deeper (another_declaration i true) (another_declaration j false)
+second_lasts : {deeper : Bool} (i j : Reader) → ((base : List ParserToken) → among.Below base j) → Lasting true deeper (another_declaration i true) (another_declaration j false)
 unfolding another_declaration declaration_over variables_over variable_names names_at listed others
 second_lasts i j lands ts =
     elim (known (name_at (after_disj (after ts)))) [
@@ -128,7 +128,7 @@ second_lasts i j lands ts =
           (λ ns e. among_then (among.sum_lands base j (lands base) around.Parens (after_mark ns.1) (after_mark_last base ns.1 e)) (λ d f. read _ refl f))))
     ]
 
-another_lasts : (strict deeper : Bool) (i j : Reader) → ((base : List Seen) → among.Below base j) → (single : Bool) → Lasting strict deeper (another_declaration i false) (another_declaration j false) → Lasting strict deeper (another_declaration i (strict && single)) (another_declaration j false)
+another_lasts : (strict deeper : Bool) (i j : Reader) → ((base : List ParserToken) → among.Below base j) → (single : Bool) → Lasting strict deeper (another_declaration i false) (another_declaration j false) → Lasting strict deeper (another_declaration i (strict && single)) (another_declaration j false)
 another_lasts true deeper i j lands true others ts = second_lasts i j lands ts
 another_lasts true deeper i j lands false others ts = others ts
 another_lasts false deeper i j lands single others ts = others ts
@@ -137,7 +137,7 @@ another_lasts false deeper i j lands single others ts = others ts
 abbrev pub Below : Bool → Bool → Reader → Reader → Type 0
 Below strict deeper i j = (a : Around) (part : Inside) → Lasting strict deeper (i a part) (j a part)
 
-module _ (strict deeper : Bool) (i j : Reader) (below : Below strict deeper i j) (lands : (base : List Seen) → among.Below base j) where
+module _ (strict deeper : Bool) (i j : Reader) (below : Below strict deeper i j) (lands : (base : List ParserToken) → among.Below base j) where
   pub block_lasts : Lasting strict deeper (block_over i) (block_over j)
   unfolding block_over
   block_lasts ts =
@@ -325,12 +325,12 @@ none_begins (inside.Quantified q p) = refl
 none_begins (inside.Let p) = refl
 
 -- more room lets reading go on where it lay too deep
-deep_lasts : (strict : Bool) (room : ℕ) (a : Around) (part : Inside) (ts : List Seen) → (may_be_block part && is_comprehension ts) ≡ false → begins part ts ≡ true → Later strict LeavesLast (too_deep ts) (inside_over false (within false room) a part ts)
+deep_lasts : (strict : Bool) (room : ℕ) (a : Around) (part : Inside) (ts : List ParserToken) → (may_be_block part && is_comprehension ts) ≡ false → begins part ts ≡ true → Later strict LeavesLast (too_deep ts) (inside_over false (within false room) a part ts)
 deep_lasts true room a part ts plain begun = among.inside_lands ts (within false room) (among.within_lands ts false room) false a part ts (all_last ts)
 deep_lasts false room a part [] plain begun = let none = none_begins part in absurd cc
 deep_lasts false room a part (t ∷ us) plain begun = (t, us, refl, inside_beyond t us (within false room) (among.within_lands us false room) a part plain begun)
 
-stop_lasts : (strict deeper : Bool) (room : ℕ) (a : Around) (part : Inside) (ts : List Seen) → Lasts strict deeper (stop_at part ts) (inside_over false (within false room) a part ts)
+stop_lasts : (strict deeper : Bool) (room : ℕ) (a : Around) (part : Inside) (ts : List ParserToken) → Lasts strict deeper (stop_at part ts) (inside_over false (within false room) a part ts)
 unfolding stop_at
 stop_lasts strict deeper room a part ts =
     elim (either (may_be_block part && is_comprehension ts)) [

@@ -14,9 +14,9 @@ use Rattle.alloy_syntax.specs.declared.tree.Quantifier.{Quantifier}
 use Rattle.alloy_syntax.specs.declared.tree.Quantifier.TheVariants as quantifier
 use Rattle.alloy_syntax.specs.declared.tree.Prefix.{Prefix}
 use Rattle.alloy_syntax.specs.declared.tree.Prefix.TheVariants as prefix
-use Rattle.alloy_syntax.specs.declared.seen.Seen.{Seen}
+use Rattle.alloy_syntax.specs.declared.parser_token.ParserToken.{ParserToken}
 use Rattle.alloy_syntax.specs.Tree.{Tree, BoundArrowTree}
-use Rattle.alloy_syntax.specs.Readers.{Stop, Parser, next_is, after, place_at, one, expect, spelled_at, name_at, value_from, number_at, after_mark, behind, others, listed, names_at}
+use Rattle.alloy_syntax.specs.Readers.{ParseStopView, Parser, next_is, after, place_at, one, expect, spelled_at, name_at, value_from, number_at, after_mark, behind, others, listed, names_at}
 use Rattle.alloy_syntax.specs.Nodes.{Reader, is_comprehension, is_inner, block_over, block_tree, paren_over, is_constant, primary_over, behind_prefix, is_tightening, tightening_of, tight_over, begins_step, step_over, path_over, begins_link, link_over, chained, restrict_over, begins_arrow, arrow_over, arrows_over, meet_over, override_over, size_over, sum_over, counting_of, is_counting, counted_over, begins_comparison, comparison_over, begins_declaration, quantifier_of, negation_over, and_over, implication_over, iff_over, node_over, variable_names, variables_over, declaration_over, another_declaration, more_declarations, declarations_over, quantified_over, binding_over, bindings_over, let_over, begins_primary, begins_tight, begins_sum, begins_node, begins, may_be_block, inside_over}
 use Rattle.alloy_syntax.specs.Bounds.{Standing, BoundReader, word_beside, side_over, begins_bound, begins_bound_arrow, bound_arrow_over, more_bound_arrows, bound_arrows_over, operand_over, bound_over}
 use Rattle.alloy_grammar.proofs.Results.{either}
@@ -25,7 +25,7 @@ use Rattle.error_positions.proofs.Faults.NodesAmong as among
 use Rattle.error_positions.proofs.Refusals.Bounds.{BoundsLand, arrow_land, operand_land, word_passes}
 
 -- what is read where a test holds, and where it fails
-choose : {A : Type 0} {base : List Seen} {P : A → Type 0} (test : Bool) {u v : Result A Stop} → (test ≡ true → Among base P u) → (test ≡ false → Among base P v) → Among base P (if test then u else v)
+choose : {A : Type 0} {base : List ParserToken} {P : A → Type 0} (test : Bool) {u v : Result A ParseStopView} → (test ≡ true → Among base P u) → (test ≡ false → Among base P v) → Among base P (if test then u else v)
 choose true p q = p refl
 choose false p q = q refl
 
@@ -34,11 +34,11 @@ the_second : (a b : Bool) → (a || b) ≡ true → a ≡ false → b ≡ true
 the_second true b e f = absurd cc
 the_second false b e f = e
 
-module _ (t : Seen) (us : List Seen) where
-  abbrev here : List Seen
+module _ (t : ParserToken) (us : List ParserToken) where
+  abbrev here : List ParserToken
   here = t ∷ us
 
-  one_beyond : {A : Type 0} (c : Class) (f : Seen → A) → next_is c here ≡ true → Lands us (one c f here)
+  one_beyond : {A : Type 0} (c : Class) (f : ParserToken → A) → next_is c here ≡ true → Lands us (one c f here)
   unfolding next_is
   one_beyond c f is = rw is (read _ refl (all_last us))
 

@@ -3,15 +3,15 @@ use Rattle.std.specs.Prelude.{◌≡◌, ◌⊎◌, List, [], ◌∷◌, ◌++�
 use Rattle.alloy_syntax.specs.declared.class.Class.TheVariants as class
 use Rattle.alloy_syntax.specs.declared.reading.Form.{Form}
 use Rattle.alloy_syntax.specs.declared.reading.Form.TheVariants as form
-use Rattle.alloy_syntax.specs.declared.seen.Seen.{Seen}
+use Rattle.alloy_syntax.specs.declared.parser_token.ParserToken.{ParserToken}
 use Rattle.alloy_syntax.specs.Tree.{ParagraphTree, signatures, fact, predicate, function, assertion, command, ModelTree}
 use Rattle.alloy_syntax.specs.Readers.{next_is, after, is_mark}
 use Rattle.alloy_syntax.specs.Nodes.{is_comprehension}
 use Rattle.alloy_grammar.specs.Models.{IsTextOf}
 
 -- a text of the grammar that begins with the tokens
-pub record Begins (before : List Seen) : Type 0 where
-  pub tail : List Seen
+pub record Begins (before : List ParserToken) : Type 0 where
+  pub tail : List ParserToken
   pub model : ModelTree
   pub text : IsTextOf (before ++ tail) model
 
@@ -33,7 +33,7 @@ is_signature (assertion n b) = false
 is_signature (command k p t s e) = false
 
 -- a text of the grammar whose last paragraph is a signature
-pub record EndsWithSignature (before : List Seen) : Type 0 where
+pub record EndsWithSignature (before : List ParserToken) : Type 0 where
   pub model : ModelTree
   pub text : IsTextOf before model
   pub others : List ParagraphTree
@@ -42,18 +42,18 @@ pub record EndsWithSignature (before : List Seen) : Type 0 where
   pub signature : is_signature last ≡ true
 
 -- an arrow stands behind the first of the last tokens, or before it
-abbrev pub IsBesideArrow : List Seen → List Seen → Type 0
-IsBesideArrow before rest = (next_is class.Arrow (after rest) ≡ true) ⊎ ((front : List Seen) × (arrow : Seen) × (before ≡ front ++ (arrow ∷ [])) × (arrow.class ≡ class.Arrow))
+abbrev pub IsBesideArrow : List ParserToken → List ParserToken → Type 0
+IsBesideArrow before rest = (next_is class.Arrow (after rest) ≡ true) ⊎ ((front : List ParserToken) × (arrow : ParserToken) × (before ≡ front ++ (arrow ∷ [])) × (arrow.class ≡ class.Arrow))
 
 -- a comma stands before, or a comma and a `disj`
-abbrev pub IsBehindComma : List Seen → Type 0
-IsBehindComma before = (front : List Seen) × (comma : Seen) × (between : List Seen) × (before ≡ front ++ (comma ∷ between)) × (comma.class ≡ class.Comma) × ((between ≡ []) ⊎ ((disj : Seen) × (between ≡ disj ∷ []) × (disj.class ≡ class.Disj)))
+abbrev pub IsBehindComma : List ParserToken → Type 0
+IsBehindComma before = (front : List ParserToken) × (comma : ParserToken) × (between : List ParserToken) × (before ≡ front ++ (comma ∷ between)) × (comma.class ≡ class.Comma) × ((between ≡ []) ⊎ ((disj : ParserToken) × (between ≡ disj ∷ []) × (disj.class ≡ class.Disj)))
 
 -- the form stands at the first of the last tokens: a brace, names with commas, and a colon; a brace behind a signature; a multiplicity
 -- word beside an arrow; a name behind a comma, as one more variable is; a path of another module
-abbrev pub HasForm : Form → List Seen → List Seen → Type 0
+abbrev pub HasForm : Form → List ParserToken → List ParserToken → Type 0
 HasForm form.Comprehension before rest = is_comprehension rest ≡ true
 HasForm form.Appended before rest = (next_is class.LeftBrace rest ≡ true) × EndsWithSignature before
 HasForm form.ArrowMultiplicity before rest = (is_mark rest ≡ true) × IsBesideArrow before rest
 HasForm form.Several before rest = (next_is class.Name rest ≡ true) × IsBehindComma before
-HasForm form.Open before rest = (path : Seen) × (behind : List Seen) × (rest ≡ path ∷ behind) × (path.class ≡ class.Path) × (bytes_eq path.text (codes "util/ordering") ≡ false)
+HasForm form.Open before rest = (path : ParserToken) × (behind : List ParserToken) × (rest ≡ path ∷ behind) × (path.class ≡ class.Path) × (bytes_eq path.text (codes "util/ordering") ≡ false)

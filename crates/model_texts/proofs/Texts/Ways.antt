@@ -7,8 +7,8 @@ use Rattle.alloy_lex.specs.declared.token.LexFault.TheVariants as lex
 use Rattle.alloy_lex.specs.Tokens.{tokens_of}
 use Rattle.alloy_syntax.specs.Tree.{ModelTree}
 use Rattle.alloy_syntax.specs.declared.tree.Open.{Open}
-use Rattle.alloy_syntax.specs.Seen.{seen_all}
-use Rattle.alloy_syntax.specs.Readers.{Stop}
+use Rattle.alloy_syntax.specs.ParserTokens.{seen_all}
+use Rattle.alloy_syntax.specs.Readers.{ParseStopView}
 use Rattle.alloy_syntax.specs.Paragraphs.{model_of}
 use Rattle.alloy_parse.specs.declared.fault.ParseFault.TheVariants as parse
 use Rattle.alloy_parse.specs.Faults.{fault_of}
@@ -68,7 +68,7 @@ not_opening text m a o =
 tokens_there : (text : List ℕ) (tree : ModelTree) (e : LexFault) → IsTreeOf text tree → tokens_of text ≡ Err e → ⊥
 tokens_there text tree e is stops = never_both (tokens_of text) is.0 e is.1 stops
 
-tree_there : (text : List ℕ) (tree : ModelTree) (ts : List Token) (s : Stop) → IsTreeOf text tree → tokens_of text ≡ Ok ts → model_of (seen_all ts) ≡ Err s → ⊥
+tree_there : (text : List ℕ) (tree : ModelTree) (ts : List Token) (s : ParseStopView) → IsTreeOf text tree → tokens_of text ≡ Ok ts → model_of (seen_all ts) ≡ Err s → ⊥
 tree_there text tree ts s is e stops =
     let same : ts ≡ is.0 = ok_same (tokens_of text) ts is.0 e is.1 in
     never_both (model_of (seen_all ts)) tree s (model_same ts is.0 same ∙ is.2) stops
@@ -143,7 +143,7 @@ tree_something : (text : List ℕ) (tree : ModelTree) → IsTreeOf text tree →
 tree_something text tree is [] e = names_something text tree (record { reading = is; alone = e }) (faults_in tree) refl
 tree_something text tree is (o ∷ os) e = inr (inl (tree, is, λ (none : tree.opens ≡ []). let both : o ∷ os ≡ [] = sym e ∙ none in cc))
 
-tokens_something : (text : List ℕ) (ts : List Token) → tokens_of text ≡ Ok ts → (r : Result ModelTree Stop) → model_of (seen_all ts) ≡ r → IsSomething text
+tokens_something : (text : List ℕ) (ts : List Token) → tokens_of text ≡ Ok ts → (r : Result ModelTree ParseStopView) → model_of (seen_all ts) ≡ r → IsSomething text
 tokens_something text ts e (Ok tree) d = tree_something text tree (ts, e, d) tree.opens refl
 tokens_something text ts e (Err s) d = inr (inr (parse_words (fault_of ts s), inr (inl (ts, s, e, d, refl))))
 

@@ -4,8 +4,8 @@ use Rattle.alloy_lex.specs.declared.token.Token.{Token}
 use Rattle.alloy_lex.specs.declared.token.LexFault.{LexFault}
 use Rattle.alloy_lex.specs.Tokens.{tokens_of}
 use Rattle.alloy_syntax.specs.Tree.{ModelTree}
-use Rattle.alloy_syntax.specs.Seen.{seen_all}
-use Rattle.alloy_syntax.specs.Readers.{Stop}
+use Rattle.alloy_syntax.specs.ParserTokens.{seen_all}
+use Rattle.alloy_syntax.specs.Readers.{ParseStopView}
 use Rattle.alloy_syntax.specs.Paragraphs.{model_of}
 use Rattle.alloy_parse.specs.Faults.{fault_of}
 use Rattle.named_model.specs.declared.fault.NameFault.{NameFault}
@@ -45,7 +45,7 @@ abbrev pub HasNoTokens : List ℕ → List ℕ → Type 0
 HasNoTokens text words = (e : LexFault) × (tokens_of text ≡ Err e) × (words ≡ lex_words e)
 
 abbrev pub HasNoTree : List ℕ → List ℕ → Type 0
-HasNoTree text words = (ts : List Token) × (s : Stop) × (tokens_of text ≡ Ok ts) × (model_of (seen_all ts) ≡ Err s) × (words ≡ parse_words (fault_of ts s))
+HasNoTree text words = (ts : List Token) × (s : ParseStopView) × (tokens_of text ≡ Ok ts) × (model_of (seen_all ts) ≡ Err s) × (words ≡ parse_words (fault_of ts s))
 
 abbrev pub HasBadName : List ℕ → List ℕ → Type 0
 HasBadName text words = (tree : ModelTree) × IsWhole text tree × ((e : NameFault) × (first_in (faults_in tree) ≡ Some e) × (words ≡ name_words e))

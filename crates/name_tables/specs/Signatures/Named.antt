@@ -1,7 +1,7 @@
 -- Signatures under a parent that has a number, and what a model's paragraphs declare.
 use Rattle.std.specs.Prelude.{◌≡◌, ◌++◌, ℕ, List, map, flat_map, Bool, Option}
 use Rattle.alloy_syntax.specs.declared.tree.Name.{Name}
-use Rattle.alloy_syntax.specs.declared.tree.Mark.{Mark}
+use Rattle.alloy_syntax.specs.declared.tree.MultiplicityWord.{MultiplicityWord}
 use Rattle.alloy_syntax.specs.declared.tree.Manner.{Manner}
 use Rattle.alloy_syntax.specs.Tree as tree
 use Rattle.alloy_syntax.specs.Tree.{ParagraphTree}
@@ -12,7 +12,7 @@ use Rattle.named_model.specs.Names.{Globals}
 use Rattle.named_model.specs.Declarations.{signatures_named, field_named, fields_named}
 use Rattle.name_tables.specs.declared.signature_names.paragraphs.Declared.{Declared}
 
-abbrev pub signature_under : Bool → Option Mark → Option (Manner × ℕ) → Name → Signature
+abbrev pub signature_under : Bool → Option MultiplicityWord → Option (Manner × ℕ) → Name → Signature
 signature_under is_abstract mark parent n = record { name = n.text; place = n.place; is_abstract = is_abstract; mark = mark; parent = parent }
 
 -- the fields of one bound, name by name, each once for each of these signatures

@@ -14,7 +14,7 @@ use crate::Names;
 use crate::signature_names::room::spend;
 use crate::signature_names::signatures::signature;
 use alloy_lex::Place;
-use alloy_syntax::tree::{Bound, BoundArrow, Mark, Operator};
+use alloy_syntax::tree::{Bound, BoundArrow, MultiplicityWord, Operator};
 use named_model::NameFault;
 use named_model::phrase::{Link, Phrase, Referent};
 use std::alloc::Global;
@@ -118,7 +118,7 @@ fn side_of(
 
 // The words beside the first arrow of a bound that is an arrow, in brackets or not.
 #[cycle(words)]
-pub fn words_beside(bound: &Bound) -> (Option<Mark>, Option<Mark>)
+pub fn words_beside(bound: &Bound) -> (Option<MultiplicityWord>, Option<MultiplicityWord>)
     ensures { result ≡ words_beside (bound_view bound.now) }
 {
     match bound {
@@ -130,7 +130,7 @@ pub fn words_beside(bound: &Bound) -> (Option<Mark>, Option<Mark>)
 }
 
 // The words beside the first one of these arrows.
-fn words_of(arrows: &[BoundArrow]) -> (Option<Mark>, Option<Mark>)
+fn words_of(arrows: &[BoundArrow]) -> (Option<MultiplicityWord>, Option<MultiplicityWord>)
     ensures { result ≡ words_of (arrows_of (map arrow_view arrows.now)) }
 {
     match arrows.first() {
@@ -139,7 +139,7 @@ fn words_of(arrows: &[BoundArrow]) -> (Option<Mark>, Option<Mark>)
     }
 }
 
-fn words_at(arrow: &BoundArrow) -> (Option<Mark>, Option<Mark>)
+fn words_at(arrow: &BoundArrow) -> (Option<MultiplicityWord>, Option<MultiplicityWord>)
     ensures { result ≡ ((arrow_view arrow.now).left, (arrow_view arrow.now).right) }
 {
     (arrow.left, arrow.right)

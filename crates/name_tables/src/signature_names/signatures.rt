@@ -7,7 +7,7 @@ ghost use Rattle.name_tables.specs.Told.{Answers};
 ghost use Rattle.name_tables.specs.Signatures.Named.{signature_under};
 
 use crate::Names;
-use alloy_syntax::tree::{Manner, Mark, Name, Parent};
+use alloy_syntax::tree::{Manner, MultiplicityWord, Name, Parent};
 use named_model::NameFault;
 use named_model::named::Signature;
 use std::alloc::{AllocError, Global};
@@ -39,7 +39,7 @@ pub fn parent(names: &Names, parent: &Option<Parent>) -> Result<Option<(Manner, 
 pub fn add_signatures(
     alloc: Global,
     is_abstract: bool,
-    mark: Option<Mark>,
+    mark: Option<MultiplicityWord>,
     parent: Option<(Manner, usize)>,
     names: &[Name],
     signatures: &mut Vec<Signature>,

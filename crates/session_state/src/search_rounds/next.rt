@@ -12,7 +12,7 @@ ghost use Rattle.session_state.specs.Rounds.Next.{IsAnswer};
 use crate::search_rounds::round::{RoundEnd, round_at};
 use refutation_check::{Log, Part};
 use rel_formula::Scenario;
-use sat_core::{Leaning, Trail};
+use sat_core::{SavedPhases, Trail};
 use session_rules::laws::{a_proof_of_an_end_is_right, a_refuting_part_makes_a_proof};
 use session_rules::{EndProof, Parts, Scenarios};
 use std::alloc::{AllocError, Global};
@@ -54,7 +54,7 @@ pub fn next_at(
     shown: &[Scenario],
     copies: &[Scenario],
     budget: u64,
-    leaning: &mut Leaning,
+    leaning: &mut SavedPhases,
 ) -> Result<NextAt, AllocError>
     requires pool { IsAccepted translation.now.cnf.clauses pool.now }
     requires few_steps { length pool.now ≤ 20000 }
@@ -93,7 +93,7 @@ fn next_from(
     shown: &[Scenario],
     copies: &[Scenario],
     budget: u64,
-    leaning: &mut Leaning,
+    leaning: &mut SavedPhases,
 ) -> Result<NextAt, AllocError>
     requires base { IsBase translation.now.cnf base.now }
     requires pool { IsAccepted translation.now.cnf.clauses pool.now }

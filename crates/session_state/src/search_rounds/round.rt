@@ -15,7 +15,7 @@ use crate::search_rounds::descent::{DescentEnd, go_down};
 use crate::search_rounds::search::{SearchEnd, search_at};
 use refutation_check::{Log, Part};
 use rel_formula::Scenario;
-use sat_core::{Leaning, Trail};
+use sat_core::{SavedPhases, Trail};
 use std::alloc::{AllocError, Global};
 use translation::Translation;
 
@@ -53,7 +53,7 @@ pub(crate) fn round_at(
     shown: &[Scenario],
     blocked: &[Scenario],
     budget: u64,
-    leaning: &mut Leaning,
+    leaning: &mut SavedPhases,
 ) -> Result<RoundEnd, AllocError>
     requires base { IsBase translation.now.cnf base.now }
     requires pool { IsAccepted translation.now.cnf.clauses pool.now }

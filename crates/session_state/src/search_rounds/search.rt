@@ -11,7 +11,7 @@ use crate::search_rounds::locals::locals_of;
 use cnf_core::Valuation;
 use refutation_check::{Log, Part};
 use rel_formula::Scenario;
-use sat_core::{Answer, Leaning, Trail, solve_from};
+use sat_core::{Answer, SavedPhases, Trail, solve_from};
 use std::alloc::{AllocError, Global};
 use translation::Translation;
 use translation_rules::laws::local_clauses_say_what_is_left;
@@ -44,7 +44,7 @@ pub(crate) fn search_at(
     floor: &Scenario,
     blocked: &[Scenario],
     budget: u64,
-    leaning: &mut Leaning,
+    leaning: &mut SavedPhases,
 ) -> Result<SearchEnd, AllocError>
     requires base { IsBase translation.now.cnf base.now }
     requires pool { IsAccepted translation.now.cnf.clauses pool.now }

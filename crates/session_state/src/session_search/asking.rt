@@ -12,7 +12,7 @@ ghost use Rattle.session_state.specs.Sessions.Fits.{FitsProblem, IsKept};
 ghost use Rattle.session_state.specs.Sessions.Proposed.{IsProposal};
 ghost use Rattle.session_state.specs.Sessions.Replied.{reply_to};
 
-use crate::search_rounds::{Found, Leaning, NextAt, next_at};
+use crate::search_rounds::{Found, NextAt, SavedPhases, next_at};
 use crate::session_search::answer::{Proposal, at_once, spent, with_copies};
 use crate::session_store::SessionStore;
 use refutation_check::Log;
@@ -28,7 +28,7 @@ pub(crate) fn next(
     store: &SessionStore,
     translation: &Translation,
     pool: &Log,
-    leaning: &mut Leaning,
+    leaning: &mut SavedPhases,
 ) -> Result<Proposal, AllocError>
     requires fits { FitsProblem translation.now.problem store.now }
     requires kept { IsKept store.now }
@@ -77,7 +77,7 @@ fn look_for(
     shown: &[Scenario],
     copies: &[Scenario],
     budget: u32,
-    leaning: &mut Leaning,
+    leaning: &mut SavedPhases,
 ) -> Result<Proposal, AllocError>
     requires pool { IsAccepted translation.now.cnf.clauses pool.now }
     requires few_steps { length pool.now ≤ 20000 }

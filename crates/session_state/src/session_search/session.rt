@@ -11,7 +11,7 @@ ghost use Rattle.session_state.specs.Store.Stored.{copies_after};
 ghost use Rattle.session_state.specs.Sessions.Fits.{FitsProblem};
 ghost use Rattle.session_state.specs.Sessions.Proposed.{IsProposal, NeedsTranslation, IsPlain, IsPlainProposal};
 
-use crate::search_rounds::Leaning;
+use crate::search_rounds::SavedPhases;
 use crate::session_search::answer::Proposal;
 use crate::session_search::asking::next;
 use crate::session_search::augmenting::augment;
@@ -34,7 +34,7 @@ pub struct Session {
     owner: u32,
     key: u32,
     kept: SessionStore,
-    leaning: Leaning,
+    leaning: SavedPhases,
 }
 
 impl Model for Session {
@@ -56,7 +56,7 @@ impl Session {
         ensures fits { IfOk result (λ s. (p : Bounded) → FitsProblem p s.kept) }
     {
         let kept = SessionStore::new(alloc, budget)?;
-        let leaning = Leaning::towards(alloc, false);
+        let leaning = SavedPhases::towards(alloc, false);
         Ok(Session {
             owner,
             key,

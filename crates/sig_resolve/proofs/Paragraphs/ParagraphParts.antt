@@ -2,7 +2,7 @@
 use Rattle.std.proofs.Common.{◌≡◌, ℕ, List, [], ◌∷◌, ◌++◌, length, refl, sym, ap, ◌∙◌, subst}
 use Rattle.std.proofs.lemmas.List.{append-nil}
 use Rattle.alloy_syntax.specs.declared.tree.Name.{Name}
-use Rattle.alloy_syntax.specs.declared.tree.Mark.{Mark}
+use Rattle.alloy_syntax.specs.declared.tree.MultiplicityWord.{MultiplicityWord}
 use Rattle.alloy_syntax.specs.Tree as tree
 use Rattle.alloy_syntax.specs.Tree.{Tree, DeclarationTree, BlockTree, declarations_of, trees_of}
 use Rattle.std.specs.Prelude.{Option}
@@ -59,7 +59,7 @@ module _ (n : InForce) (global : n.locals ≡ []) (ds : List DeclarationTree) wh
         subst (IsTold e) (sym (ap (λ fs. fs ++ all_faults n.globals (parameters_of ds) ts) (parameters_are xs params).0))
         (subst (λ (m : InForce). IsTold e (all_faults m.globals m.locals ts)) (behind_is first is) told)
 
-  module _ (name : Name) (mark : Option Mark) (range body : Tree) where
+  module _ (name : Name) (mark : Option MultiplicityWord) (range body : Tree) where
     abbrev pub OfRange : List NameFault
     OfRange = faults_of n.globals (parameters_of ds) 0 range
 

@@ -2,7 +2,7 @@
 use Rattle.std.specs.Prelude.{◌≡◌, ℕ, List, [], ◌∷◌, ◌++◌, map, flat_map, Bool, false, Option, Some, None, if◌then◌else◌, bytes_eq}
 use Rattle.std.specs.List.{list_any}
 use Rattle.alloy_syntax.specs.declared.tree.Name.{Name}
-use Rattle.alloy_syntax.specs.declared.tree.Mark.{Mark}
+use Rattle.alloy_syntax.specs.declared.tree.MultiplicityWord.{MultiplicityWord}
 use Rattle.alloy_syntax.specs.declared.tree.CommandKind.{CommandKind}
 use Rattle.alloy_syntax.specs.declared.tree.CommandKind.TheVariants as command_kind
 use Rattle.alloy_syntax.specs.Tree.{ParagraphTree, predicate}
@@ -31,7 +31,7 @@ abbrev pub higher_at : List ℕ → List Run → List Bool
 higher_at text [] = []
 higher_at text (r ∷ rs) = (if bytes_eq r.name text then r.is_higher ∷ [] else []) ++ higher_at text rs
 
-abbrev pub is_higher_mark : Option Mark → Bool
+abbrev pub is_higher_mark : Option MultiplicityWord → Bool
 is_higher_mark None = false
 is_higher_mark (Some mark) = is_higher mark
 

@@ -6,7 +6,7 @@ ghost use Rattle.named_model.specs.Phrase.{steps_of};
 ghost use Rattle.name_tables.specs.Told.{Answers};
 
 use alloy_lex::Place;
-use alloy_syntax::tree::{Mark, Multiplicity, Name};
+use alloy_syntax::tree::{Multiplicity, MultiplicityWord, Name};
 use name_tables::Names;
 use named_model::phrase::{Phrase, Referent, Step};
 use named_model::{NameFault, Standing};
@@ -57,7 +57,7 @@ pub fn takes(names: &Names, number: usize, parts: usize) -> bool
 }
 
 // A word before the domain of a variable, which is to be a single atom.
-pub fn single(mark: Option<Mark>) -> Result<(), NameFault>
+pub fn single(mark: Option<MultiplicityWord>) -> Result<(), NameFault>
     ensures { Answers result (spec.mark_faults mark) (λ _. [] ≡ spec.mark_faults mark) }
 {
     match mark {

@@ -9,7 +9,7 @@ ghost use Rattle.sig_resolve.specs.Commands.Predicates.{Run, run_of, AreRuns, hi
 
 use crate::command_names::arrows::has_arrow;
 use alloy_lex::Place;
-use alloy_syntax::tree::{Declaration, Mark, Multiplicity, Name, Paragraph};
+use alloy_syntax::tree::{Declaration, Multiplicity, MultiplicityWord, Name, Paragraph};
 use name_tables::{Header, Names};
 use named_model::NameFault;
 use std::alloc::{AllocError, Global};
@@ -86,7 +86,7 @@ fn is_higher(declaration: &Declaration) -> bool
 }
 
 // Whether a variable behind this word need not be a single atom.
-fn is_many(mark: Option<Mark>) -> bool
+fn is_many(mark: Option<MultiplicityWord>) -> bool
     ensures { result ≡ is_higher_mark mark }
 {
     match mark {

@@ -67,7 +67,7 @@ bool_cases : (b : Bool) → (b ≡ true) ⊎ (b ≡ true → ⊥)
 bool_cases true = inl refl
 bool_cases false = inr (λ e. cc)
 
--- where all consequences are drawn, no clause but a marked one is falsified, and none is a unit with its literal open
+-- where all consequences are propagated, no clause but a marked one is falsified, and none is a unit with its literal open
 pub closed_but : (clauses : List (List Lit)) (codes : List ℕ) (assigned : List Assigned) (marked : List Bool) → IsConsistent (falses_of assigned) → IsWatchedRight codes assigned marked (length assigned) → length codes ≡ 2 * length clauses → AreWatched clauses codes marked → IsClosedBut clauses (falses_of assigned) marked
 closed_but clauses codes assigned marked consistent right long are n h =
     elim (bool_cases (get_or marked n false)) [

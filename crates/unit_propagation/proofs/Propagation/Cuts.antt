@@ -9,9 +9,9 @@ use Rattle.unit_propagation.proofs.Assignments.Trails.{IsTrail-cut, level_rises,
 use Rattle.unit_propagation.specs.Propagation.Walk.{IsReady}
 use Rattle.unit_propagation.proofs.Propagation.Keeping.{right_cut}
 
-pub ready_cut : (clauses : List (List Lit)) (w : WatchState) (vars : ℕ) (assigned : List Assigned) (flags : List Bool) (drawn count level now : ℕ) → IsReady clauses w (record { vars = vars; assigned = assigned }) flags drawn → count ≤ length assigned → ((j : ℕ) (d : Assigned) → count ≤ j → j < length assigned → level < (get_or assigned j d).level) → (0 < count → (d : Assigned) → (get_or assigned (count - 1) d).level ≤ level) → now ≤ drawn → now ≤ count →
+pub ready_cut : (clauses : List (List Lit)) (w : WatchState) (vars : ℕ) (assigned : List Assigned) (flags : List Bool) (propagated count level now : ℕ) → IsReady clauses w (record { vars = vars; assigned = assigned }) flags propagated → count ≤ length assigned → ((j : ℕ) (d : Assigned) → count ≤ j → j < length assigned → level < (get_or assigned j d).level) → (0 < count → (d : Assigned) → (get_or assigned (count - 1) d).level ≤ level) → now ≤ propagated → now ≤ count →
     IsReady clauses w (record { vars = vars; assigned = take count assigned }) flags now
-ready_cut clauses w vars assigned flags drawn count level now was within above last le le' =
+ready_cut clauses w vars assigned flags propagated count level now was within above last le le' =
     record {
       trail = IsTrail-cut clauses assigned count was.trail;
       within = was.within;
@@ -19,8 +19,8 @@ ready_cut clauses w vars assigned flags drawn count level now was within above l
       flags_long = was.flags_long;
       lists = was.lists;
       watching = was.watching;
-      drawn_in = omega (arith, length-take count assigned, within);
-      right = right_cut w.codes assigned flags drawn count level within was.drawn_in
+      propagated_in = omega (arith, length-take count assigned, within);
+      right = right_cut w.codes assigned flags propagated count level within was.propagated_in
           (λ k d h. let top : (get_or assigned (count - 1) d).level ≤ level = last (omega arith) d in
           let low : (get_or assigned k d).level ≤ (get_or assigned (count - 1) d).level = level_rises clauses assigned was.trail k (count - 1) d (omega arith) (omega arith) in
           omega arith) above was.right now le le';

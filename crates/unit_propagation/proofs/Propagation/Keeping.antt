@@ -12,7 +12,7 @@ use Rattle.unit_propagation.specs.Propagation.Rule.{twin, watched, IsMarked, IsC
 use Rattle.unit_propagation.proofs.Assignments.Trails.{true_false, false_from}
 
 -- one more literal is true
-module _ (codes : List ℕ) (assigned : List Assigned) (marked : List Bool) (a : Assigned) (i x : ℕ) (drawn : i < length assigned) where
+module _ (codes : List ℕ) (assigned : List Assigned) (marked : List Bool) (a : Assigned) (i x : ℕ) (propagated : i < length assigned) where
   old_at : (k : ℕ) (d : Assigned) → k < length assigned → get_or (assigned ++ a ∷ []) k d ≡ get_or assigned k d
   old_at k d h = get_or_append_left assigned (a ∷ []) d k h
 
@@ -23,14 +23,14 @@ module _ (codes : List ℕ) (assigned : List Assigned) (marked : List Bool) (a :
         in_range = omega (arith, c.in_range, length-append assigned (a ∷ []));
         true_there = λ d. ap (λ (b : Assigned). b.lit) (old_at c.place d c.in_range) ∙ c.true_there d;
         low = λ d. let here : (get_or (assigned ++ a ∷ []) c.place d).level ≡ (get_or assigned c.place d).level = ap (λ (b : Assigned). b.level) (old_at c.place d c.in_range) in
-            let there : (get_or (assigned ++ a ∷ []) i d).level ≡ (get_or assigned i d).level = ap (λ (b : Assigned). b.level) (old_at i d drawn) in
+            let there : (get_or (assigned ++ a ∷ []) i d).level ≡ (get_or assigned i d).level = ap (λ (b : Assigned). b.level) (old_at i d propagated) in
             let low : (get_or assigned c.place d).level ≤ (get_or assigned i d).level = c.low d in
             omega arith;
       }
 
   pub right_push : IsRightAt codes assigned marked i x → IsRightAt codes (assigned ++ a ∷ []) marked i x
   right_push was is =
-      elim (was (λ d. sym (ap (λ (b : Assigned). negation_of b.lit) (old_at i d drawn)) ∙ is d)) [
+      elim (was (λ d. sym (ap (λ (b : Assigned). negation_of b.lit) (old_at i d propagated)) ∙ is d)) [
         | inl m ↦ inl m
         | inr c ↦ inr (covered_push c)
       ]
@@ -58,11 +58,11 @@ module _ (codes : List ℕ) (assigned : List Assigned) (marked : List Bool) (con
   new_at = ap literal_of (get_or-set_same codes x code 0 in_codes)
 
   pub right_bring : (i y : ℕ) → i < length assigned → IsRightAt codes assigned marked i y → IsRightAt (set codes x code) assigned marked i y
-  right_bring i y drawn was is =
+  right_bring i y propagated was is =
       elim (cases_eq y x) [
         | inl e ↦
             let is' : (d : Assigned) → negation_of (get_or assigned i d).lit ≡ literal_of code = λ d. is d ∙ (ap (watched (set codes x code)) e ∙ new_at) in
-            absurd (free (false_from assigned (literal_of code) i drawn is'))
+            absurd (free (false_from assigned (literal_of code) i propagated is'))
         | inr ne ↦ elim (was (λ d. is d ∙ same_at y ne)) [
           | inl m ↦ inl m
           | inr c ↦ elim (cases_eq (twin y) x) [
@@ -74,18 +74,18 @@ module _ (codes : List ℕ) (assigned : List Assigned) (marked : List Bool) (con
         ]
       ]
 
--- the consequences of one more literal are drawn
-pub right_drawn : (codes : List ℕ) (assigned : List Assigned) (marked : List Bool) (drawn : ℕ) → IsWatchedRight codes assigned marked drawn → ((x : ℕ) → x < length codes → IsRightAt codes assigned marked drawn x) → IsWatchedRight codes assigned marked (drawn + 1)
-right_drawn codes assigned marked drawn was here i x h in' =
-    elim (cases_eq i drawn) [
+-- the consequences of one more literal are propagated
+pub right_propagated : (codes : List ℕ) (assigned : List Assigned) (marked : List Bool) (propagated : ℕ) → IsWatchedRight codes assigned marked propagated → ((x : ℕ) → x < length codes → IsRightAt codes assigned marked propagated x) → IsWatchedRight codes assigned marked (propagated + 1)
+right_propagated codes assigned marked propagated was here i x h in' =
+    elim (cases_eq i propagated) [
       | inl e ↦ subst (λ (k : ℕ). IsRightAt codes assigned marked k x) (sym e) (here x in')
       | inr ne ↦ was i x (omega arith) in'
     ]
 
 -- a cut at the boundary of a level: those that stay are at most of this level, and those that go are above it
-pub right_cut : (codes : List ℕ) (assigned : List Assigned) (marked : List Bool) (drawn count level : ℕ) → count ≤ length assigned → drawn ≤ length assigned → ((k : ℕ) (d : Assigned) → k < count → (get_or assigned k d).level ≤ level) → ((k : ℕ) (d : Assigned) → count ≤ k → k < length assigned → level < (get_or assigned k d).level) →
-    IsWatchedRight codes assigned marked drawn → (now : ℕ) → now ≤ drawn → now ≤ count → IsWatchedRight codes (take count assigned) marked now
-right_cut codes assigned marked drawn count level within low_drawn low high was now le le' i x h in' is =
+pub right_cut : (codes : List ℕ) (assigned : List Assigned) (marked : List Bool) (propagated count level : ℕ) → count ≤ length assigned → propagated ≤ length assigned → ((k : ℕ) (d : Assigned) → k < count → (get_or assigned k d).level ≤ level) → ((k : ℕ) (d : Assigned) → count ≤ k → k < length assigned → level < (get_or assigned k d).level) →
+    IsWatchedRight codes assigned marked propagated → (now : ℕ) → now ≤ propagated → now ≤ count → IsWatchedRight codes (take count assigned) marked now
+right_cut codes assigned marked propagated count level within low_propagated low high was now le le' i x h in' is =
     let at : (k : ℕ) (d : Assigned) → k < count → get_or (take count assigned) k d ≡ get_or assigned k d = λ k d h. get_or-take count assigned k d h in
     let here : i < count = omega arith in
     elim (was i x (omega arith) in' (λ d. sym (ap (λ (b : Assigned). negation_of b.lit) (at i d here)) ∙ is d)) [

@@ -11,7 +11,7 @@ use Rattle.unit_propagation.specs.Assignments.Trail.{IsVarUpTo}
 use Rattle.unit_propagation.specs.Assignments.AssignmentState.{AssignmentState}
 use Rattle.unit_propagation.specs.Propagation.Rule.{IsRightAt, IsWatchedRight}
 use Rattle.unit_propagation.specs.Propagation.Walk.{IsWalking, IsReady}
-use Rattle.unit_propagation.proofs.Propagation.Keeping.{right_drawn}
+use Rattle.unit_propagation.proofs.Propagation.Keeping.{right_propagated}
 use Rattle.unit_propagation.proofs.Propagation.Slots.{literal_of-same}
 
 -- a link that is not the end
@@ -33,20 +33,20 @@ link_removed (x ∷ xs) (suc k) h =
     let up : suc k + 1 ≡ suc (k + 1) = omega arith in
     link_removed xs k (omega arith) ∙ sym (ap (link_at (x ∷ xs)) up)
 
--- at the end of the list, the consequences of the literal are drawn
-pub walked : (clauses : List (List Lit)) (w : WatchState) (now : AssignmentState) (flags : List Bool) (drawn gone at : ℕ) → IsWalking clauses w now flags drawn gone at → IsListed w → length (list_at w.lists gone) ≤ at → IsWatchedRight w.codes now.assigned flags (drawn + 1)
-walked clauses w now flags drawn gone at was listed all =
-    right_drawn w.codes now.assigned flags drawn was.right (λ x h is.
+-- at the end of the list, the consequences of the literal are propagated
+pub walked : (clauses : List (List Lit)) (w : WatchState) (now : AssignmentState) (flags : List Bool) (propagated gone at : ℕ) → IsWalking clauses w now flags propagated gone at → IsListed w → length (list_at w.lists gone) ≤ at → IsWatchedRight w.codes now.assigned flags (propagated + 1)
+walked clauses w now flags propagated gone at was listed all =
+    right_propagated w.codes now.assigned flags propagated was.right (λ x h is.
     let d : Assigned = record { lit = record { var = 0; positive = false }; level = 0; reason = None } in
     let code : get_or w.codes x 0 ≡ gone = literal_of-same (get_or w.codes x 0) gone (sym (is d) ∙ was.gone_is d) in
     let there : Contains (list_at w.lists gone) x = subst (λ (c : ℕ). Contains (list_at w.lists c) x) code (listed.all x h).1 in
     let read : get_or (list_at w.lists gone) there.0 0 ≡ x = get_or_default (list_at w.lists gone) there.0 0 x there.1 ∙ there.2 in
-    let right : IsRightAt w.codes now.assigned flags drawn x = subst (IsRightAt w.codes now.assigned flags drawn) read (was.done there.0 (omega (arith, there.1, all))) in
+    let right : IsRightAt w.codes now.assigned flags propagated x = subst (IsRightAt w.codes now.assigned flags propagated) read (was.done there.0 (omega (arith, there.1, all))) in
     right is)
 
 -- from the end of a walk, and from its beginning
-pub ready_of : (clauses : List (List Lit)) (w : WatchState) (now : AssignmentState) (flags : List Bool) (drawn gone at n : ℕ) → IsWalking clauses w now flags drawn gone at → n ≤ drawn + 1 → IsWatchedRight w.codes now.assigned flags n → IsReady clauses w now flags n
-ready_of clauses w now flags drawn gone at n was low right =
+pub ready_of : (clauses : List (List Lit)) (w : WatchState) (now : AssignmentState) (flags : List Bool) (propagated gone at n : ℕ) → IsWalking clauses w now flags propagated gone at → n ≤ propagated + 1 → IsWatchedRight w.codes now.assigned flags n → IsReady clauses w now flags n
+ready_of clauses w now flags propagated gone at n was low right =
     record {
       trail = was.trail;
       within = was.within;
@@ -54,12 +54,12 @@ ready_of clauses w now flags drawn gone at n was low right =
       flags_long = was.flags_long;
       lists = was.lists;
       watching = was.watching;
-      drawn_in = omega (arith, was.drawn_in, low);
+      propagated_in = omega (arith, was.propagated_in, low);
       right = right;
     }
 
-pub walking_of : (clauses : List (List Lit)) (w : WatchState) (now : AssignmentState) (flags : List Bool) (drawn gone : ℕ) → IsReady clauses w now flags drawn → All (IsVarUpTo now.vars) now.assigned → drawn < length now.assigned → ((d : Assigned) → negation_of (get_or now.assigned drawn d).lit ≡ literal_of gone) → IsWalking clauses w now flags drawn gone 0
-walking_of clauses w now flags drawn gone was in_range in' is =
+pub walking_of : (clauses : List (List Lit)) (w : WatchState) (now : AssignmentState) (flags : List Bool) (propagated gone : ℕ) → IsReady clauses w now flags propagated → All (IsVarUpTo now.vars) now.assigned → propagated < length now.assigned → ((d : Assigned) → negation_of (get_or now.assigned propagated d).lit ≡ literal_of gone) → IsWalking clauses w now flags propagated gone 0
+walking_of clauses w now flags propagated gone was in_range in' is =
     record {
       trail = was.trail;
       in_range = in_range;
@@ -68,7 +68,7 @@ walking_of clauses w now flags drawn gone was in_range in' is =
       flags_long = was.flags_long;
       lists = was.lists;
       watching = was.watching;
-      drawn_in = in';
+      propagated_in = in';
       gone_is = is;
       right = was.right;
       at_in = omega arith;

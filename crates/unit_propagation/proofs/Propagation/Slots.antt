@@ -111,9 +111,9 @@ module _ (clauses : List (List Lit)) (codes : List ℕ) (flags : List Bool) (x c
       ]
 
 -- the clause of a slot that watches a variable is one of two literals or more, and they are its own
-pub slot_watching : (clauses : List (List Lit)) (w : WatchState) (now : AssignmentState) (flags : List Bool) (drawn gone at x : ℕ) → IsWalking clauses w now flags drawn gone at → IsListed w → at < length (list_at w.lists gone) → gone < length w.lists → 2 ≤ gone → get_or (list_at w.lists gone) at 0 ≡ x →
+pub slot_watching : (clauses : List (List Lit)) (w : WatchState) (now : AssignmentState) (flags : List Bool) (propagated gone at x : ℕ) → IsWalking clauses w now flags propagated gone at → IsListed w → at < length (list_at w.lists gone) → gone < length w.lists → 2 ≤ gone → get_or (list_at w.lists gone) at 0 ≡ x →
     (x < length w.codes) × (get_or w.codes x 0 ≡ gone) × (x / 2 < length clauses) × IsWatching clauses w.codes (x / 2)
-slot_watching clauses w now flags drawn gone at x was listed h in_lists low is =
+slot_watching clauses w now flags propagated gone at x was listed h in_lists low is =
     let own = listed.own gone x in_lists (subst (Contains (list_at w.lists gone)) is (Contains-get_or (list_at w.lists gone) at 0 h)) in
     let n : x / 2 < length clauses = omega (arith, own.0, was.long) in (
       own.0,
@@ -131,12 +131,12 @@ slot_watching clauses w now flags drawn gone at x was listed h in_lists low is =
     )
 
 -- what is known at a slot: its number, its code, its clause and that the clause has it
-pub at_slot : (clauses : List (List Lit)) (w : WatchState) (now : AssignmentState) (flags : List Bool) (drawn gone at slot : ℕ) → IsAtSlot clauses w now flags drawn gone at slot → IsListed w → (slot < length w.codes) × (get_or w.codes slot 0 ≡ gone) × (slot / 2 < length clauses) × IsWatching clauses w.codes (slot / 2)
-at_slot clauses w now flags drawn gone at slot a listed = slot_watching clauses w now flags drawn gone at slot a.walking listed a.here a.gone_in a.gone_low a.is
+pub at_slot : (clauses : List (List Lit)) (w : WatchState) (now : AssignmentState) (flags : List Bool) (propagated gone at slot : ℕ) → IsAtSlot clauses w now flags propagated gone at slot → IsListed w → (slot < length w.codes) × (get_or w.codes slot 0 ≡ gone) × (slot / 2 < length clauses) × IsWatching clauses w.codes (slot / 2)
+at_slot clauses w now flags propagated gone at slot a listed = slot_watching clauses w now flags propagated gone at slot a.walking listed a.here a.gone_in a.gone_low a.is
 
-pub twin_in : (clauses : List (List Lit)) (w : WatchState) (now : AssignmentState) (flags : List Bool) (drawn gone at slot : ℕ) → IsAtSlot clauses w now flags drawn gone at slot → IsListed w → (twin slot < length w.codes) × (get_or w.codes (twin slot) 0 / 2 ≤ now.vars)
-twin_in clauses w now flags drawn gone at slot a listed =
-    let s = at_slot clauses w now flags drawn gone at slot a listed in
+pub twin_in : (clauses : List (List Lit)) (w : WatchState) (now : AssignmentState) (flags : List Bool) (propagated gone at slot : ℕ) → IsAtSlot clauses w now flags propagated gone at slot → IsListed w → (twin slot < length w.codes) × (get_or w.codes (twin slot) 0 / 2 ≤ now.vars)
+twin_in clauses w now flags propagated gone at slot a listed =
+    let s = at_slot clauses w now flags propagated gone at slot a listed in
     let in' : twin slot < length w.codes = elim (twin_is slot) [ inl (even, is) ↦ omega (arith, even, is, s.0, a.walking.long, s.2) | inr (odd, is) ↦ omega (arith, odd, is, s.0) ] in
     let own = listed.all (twin slot) in' in
     (in', omega (arith, own.0, a.walking.lists))

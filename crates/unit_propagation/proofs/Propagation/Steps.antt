@@ -29,9 +29,9 @@ use Rattle.unit_propagation.proofs.Propagation.Slots.{pair_at, slot_watching, at
 abbrev pub now_of : ℕ → List Assigned → AssignmentState
 now_of vars assigned = record { vars = vars; assigned = assigned }
 
--- the consequence of one more slot is drawn
-pub walking_on : (clauses : List (List Lit)) (w : WatchState) (now : AssignmentState) (flags : List Bool) (drawn gone at : ℕ) → IsWalking clauses w now flags drawn gone at → at < length (list_at w.lists gone) → IsRightAt w.codes now.assigned flags drawn (get_or (list_at w.lists gone) at 0) → IsWalking clauses w now flags drawn gone (at + 1)
-walking_on clauses w now flags drawn gone at was h here =
+-- the consequence of one more slot is propagated
+pub walking_on : (clauses : List (List Lit)) (w : WatchState) (now : AssignmentState) (flags : List Bool) (propagated gone at : ℕ) → IsWalking clauses w now flags propagated gone at → at < length (list_at w.lists gone) → IsRightAt w.codes now.assigned flags propagated (get_or (list_at w.lists gone) at 0) → IsWalking clauses w now flags propagated gone (at + 1)
+walking_on clauses w now flags propagated gone at was h here =
     record {
       trail = was.trail;
       in_range = was.in_range;
@@ -40,16 +40,16 @@ walking_on clauses w now flags drawn gone at was h here =
       flags_long = was.flags_long;
       lists = was.lists;
       watching = was.watching;
-      drawn_in = was.drawn_in;
+      propagated_in = was.propagated_in;
       gone_is = was.gone_is;
       right = was.right;
       at_in = omega (arith, h);
-      done = below_more (λ (p : ℕ). IsRightAt w.codes now.assigned flags drawn (get_or (list_at w.lists gone) p 0)) at was.done here;
+      done = below_more (λ (p : ℕ). IsRightAt w.codes now.assigned flags propagated (get_or (list_at w.lists gone) p 0)) at was.done here;
     }
 
 -- one more literal is true
-pub walking_push : (clauses : List (List Lit)) (w : WatchState) (vars : ℕ) (assigned : List Assigned) (flags : List Bool) (drawn gone at : ℕ) (a : Assigned) → IsWalking clauses w (now_of vars assigned) flags drawn gone at → IsPlaced clauses assigned a → IsVarUpTo vars a → IsWalking clauses w (now_of vars (assigned ++ a ∷ [])) flags drawn gone at
-walking_push clauses w vars assigned flags drawn gone at a was placed low =
+pub walking_push : (clauses : List (List Lit)) (w : WatchState) (vars : ℕ) (assigned : List Assigned) (flags : List Bool) (propagated gone at : ℕ) (a : Assigned) → IsWalking clauses w (now_of vars assigned) flags propagated gone at → IsPlaced clauses assigned a → IsVarUpTo vars a → IsWalking clauses w (now_of vars (assigned ++ a ∷ [])) flags propagated gone at
+walking_push clauses w vars assigned flags propagated gone at a was placed low =
     record {
       trail = IsTrail-push clauses assigned a was.trail placed;
       in_range = All-push (IsVarUpTo vars) assigned a was.in_range low;
@@ -58,23 +58,23 @@ walking_push clauses w vars assigned flags drawn gone at a was placed low =
       flags_long = was.flags_long;
       lists = was.lists;
       watching = was.watching;
-      drawn_in = omega (arith, was.drawn_in, length-append assigned (a ∷ []));
-      gone_is = λ d. ap (λ (b : Assigned). negation_of b.lit) (get_or_append_left assigned (a ∷ []) d drawn was.drawn_in) ∙ was.gone_is d;
-      right = λ i x h in'. right_push w.codes assigned flags a i x (omega (arith, h, was.drawn_in)) (was.right i x h in');
+      propagated_in = omega (arith, was.propagated_in, length-append assigned (a ∷ []));
+      gone_is = λ d. ap (λ (b : Assigned). negation_of b.lit) (get_or_append_left assigned (a ∷ []) d propagated was.propagated_in) ∙ was.gone_is d;
+      right = λ i x h in'. right_push w.codes assigned flags a i x (omega (arith, h, was.propagated_in)) (was.right i x h in');
       at_in = was.at_in;
-      done = λ p h. right_push w.codes assigned flags a drawn (get_or (list_at w.lists gone) p 0) was.drawn_in (was.done p h);
+      done = λ p h. right_push w.codes assigned flags a propagated (get_or (list_at w.lists gone) p 0) was.propagated_in (was.done p h);
     }
 
 -- one more clause is marked
-pub walking_mark : (clauses : List (List Lit)) (w : WatchState) (now : AssignmentState) (flags : List Bool) (drawn gone at n : ℕ) → IsWalking clauses w now flags drawn gone at → IsWalking clauses w now (set flags n true) drawn gone at
-walking_mark clauses w now flags drawn gone at n was =
+pub walking_mark : (clauses : List (List Lit)) (w : WatchState) (now : AssignmentState) (flags : List Bool) (propagated gone at n : ℕ) → IsWalking clauses w now flags propagated gone at → IsWalking clauses w now (set flags n true) propagated gone at
+walking_mark clauses w now flags propagated gone at n was =
     record {
       trail = was.trail;
       in_range = was.in_range;
       within = was.within;
       long = was.long;
       lists = was.lists;
-      drawn_in = was.drawn_in;
+      propagated_in = was.propagated_in;
       gone_is = was.gone_is;
       at_in = was.at_in;
       flags_long = length-set flags n true ∙ was.flags_long;
@@ -83,7 +83,7 @@ walking_mark clauses w now flags drawn gone at n was =
         | inr both ↦ inr both
       ];
       right = λ i x h in'. right_mark w.codes now.assigned flags n i x (was.right i x h in');
-      done = λ p h. right_mark w.codes now.assigned flags n drawn (get_or (list_at w.lists gone) p 0) (was.done p h);
+      done = λ p h. right_mark w.codes now.assigned flags n propagated (get_or (list_at w.lists gone) p 0) (was.done p h);
     }
 
 -- a slot that is marked, or whose other literal is true at no higher level, is right
@@ -94,12 +94,12 @@ pub right_true : (codes : List ℕ) (assigned : List Assigned) (flags : List Boo
 right_true codes assigned flags i x j h is low _ = inr (record { place = j; in_range = h; true_there = is; low = low })
 
 -- a slot is brought to the list of another literal of its clause, which is not false
-pub walking_bring : (clauses : List (List Lit)) (w after : WatchState) (now : AssignmentState) (flags : List Bool) (drawn gone at x code : ℕ) → IsConsistent (falses_of now.assigned) → IsWalking clauses w now flags drawn gone at → IsListed w → at < length (list_at w.lists gone) → gone < length w.lists → 2 ≤ gone → get_or (list_at w.lists gone) at 0 ≡ x →
+pub walking_bring : (clauses : List (List Lit)) (w after : WatchState) (now : AssignmentState) (flags : List Bool) (propagated gone at x code : ℕ) → IsConsistent (falses_of now.assigned) → IsWalking clauses w now flags propagated gone at → IsListed w → at < length (list_at w.lists gone) → gone < length w.lists → 2 ≤ gone → get_or (list_at w.lists gone) at 0 ≡ x →
     Contains (get_or clauses (x / 2) []) (literal_of code) → (literal_of code ≡ watched w.codes (twin x) → ⊥) → (Contains (falses_of now.assigned) (literal_of code) → ⊥) → code / 2 ≤ now.vars →
-    after ≡ record { codes = set w.codes x code; lists = moved w.lists gone at x code } → IsWalking clauses after now flags drawn gone at
-walking_bring clauses w after now flags drawn gone at x code consistent was listed h in_lists low is member differ free code_low after_is =
-    let slot = slot_watching clauses w now flags drawn gone at x was listed h in_lists low is in
-    let gone_false : Contains (falses_of now.assigned) (watched w.codes x) = false_from now.assigned (watched w.codes x) drawn was.drawn_in (λ d. was.gone_is d ∙ ap literal_of (sym slot.1)) in
+    after ≡ record { codes = set w.codes x code; lists = moved w.lists gone at x code } → IsWalking clauses after now flags propagated gone at
+walking_bring clauses w after now flags propagated gone at x code consistent was listed h in_lists low is member differ free code_low after_is =
+    let slot = slot_watching clauses w now flags propagated gone at x was listed h in_lists low is in
+    let gone_false : Contains (falses_of now.assigned) (watched w.codes x) = false_from now.assigned (watched w.codes x) propagated was.propagated_in (λ d. was.gone_is d ∙ ap literal_of (sym slot.1)) in
     let ne : gone ≡ code → ⊥ = λ e. free (subst (λ (c : ℕ). Contains (falses_of now.assigned) (literal_of c)) (slot.1 ∙ e) gone_false) in
     let code_in : code < length w.lists = omega (arith, was.lists, code_low) in
     let lists = moved_lists w.lists gone at x code in_lists code_in ne in
@@ -107,32 +107,32 @@ walking_bring clauses w after now flags drawn gone at x code consistent was list
     let shorter : length (remove (list_at w.lists gone) at) + 1 ≡ length (list_at w.lists gone) = length-remove (list_at w.lists gone) at h in
     let same : length (list_at (moved w.lists gone at x code) gone) ≡ length (remove (list_at w.lists gone) at) = ap length list in
     let bring : (i y : ℕ) → i < length now.assigned → IsRightAt w.codes now.assigned flags i y → IsRightAt (set w.codes x code) now.assigned flags i y = right_bring w.codes now.assigned flags consistent x code slot.0 gone_false free in
-    let made : IsWalking clauses (record { codes = set w.codes x code; lists = moved w.lists gone at x code }) now flags drawn gone at = record {
+    let made : IsWalking clauses (record { codes = set w.codes x code; lists = moved w.lists gone at x code }) now flags propagated gone at = record {
       trail = was.trail;
       in_range = was.in_range;
       within = was.within;
       flags_long = was.flags_long;
-      drawn_in = was.drawn_in;
+      propagated_in = was.propagated_in;
       gone_is = was.gone_is;
       long = length-set w.codes x code ∙ was.long;
       lists = lists.long ∙ was.lists;
       watching = watched_bring clauses w.codes flags x code slot.0 was.watching (watching_bring clauses w.codes flags x code slot.0 slot.3 member differ);
-      right = λ i y i_in y_in. bring i y (omega (arith, i_in, was.drawn_in)) (was.right i y i_in (omega (arith, y_in, length-set w.codes x code)));
+      right = λ i y i_in y_in. bring i y (omega (arith, i_in, was.propagated_in)) (was.right i y i_in (omega (arith, y_in, length-set w.codes x code)));
       at_in = omega (arith, same, shorter, h);
       done = λ p p_in.
           let read : get_or (list_at (moved w.lists gone at x code) gone) p 0 ≡ get_or (list_at w.lists gone) p 0 = ap (λ (ys : List ℕ). get_or ys p 0) list ∙ get_or-remove_below (list_at w.lists gone) at 0 p p_in h in
-          subst (IsRightAt (set w.codes x code) now.assigned flags drawn) (sym read) (bring drawn (get_or (list_at w.lists gone) p 0) was.drawn_in (was.done p p_in));
+          subst (IsRightAt (set w.codes x code) now.assigned flags propagated) (sym read) (bring propagated (get_or (list_at w.lists gone) p 0) was.propagated_in (was.done p p_in));
     } in
-    subst (λ (v : WatchState). IsWalking clauses v now flags drawn gone at) (sym after_is) made
+    subst (λ (v : WatchState). IsWalking clauses v now flags propagated gone at) (sym after_is) made
 
 -- the other literal is true
-pub right_if : (clauses : List (List Lit)) (w : WatchState) (now : AssignmentState) (flags : List Bool) (drawn gone at slot level there : ℕ) → IsAtSlot clauses w now flags drawn gone at slot → Contains (falses_of now.assigned) (negation_of (watched w.codes (twin slot))) →
-    ((i : ℕ) (d : Assigned) → i < length now.assigned → (get_or now.assigned i d).lit.var ≡ get_or w.codes (twin slot) 0 / 2 → level ≡ (get_or now.assigned i d).level) → ((d : Assigned) → there ≡ (get_or now.assigned drawn d).level) → level ≤ there → IsRightAt w.codes now.assigned flags drawn slot
-right_if clauses w now flags drawn gone at slot level there a is_true levels is low =
+pub right_if : (clauses : List (List Lit)) (w : WatchState) (now : AssignmentState) (flags : List Bool) (propagated gone at slot level there : ℕ) → IsAtSlot clauses w now flags propagated gone at slot → Contains (falses_of now.assigned) (negation_of (watched w.codes (twin slot))) →
+    ((i : ℕ) (d : Assigned) → i < length now.assigned → (get_or now.assigned i d).lit.var ≡ get_or w.codes (twin slot) 0 / 2 → level ≡ (get_or now.assigned i d).level) → ((d : Assigned) → there ≡ (get_or now.assigned propagated d).level) → level ≤ there → IsRightAt w.codes now.assigned flags propagated slot
+right_if clauses w now flags propagated gone at slot level there a is_true levels is low =
     let other : Lit = watched w.codes (twin slot) in
     let found = from_falses now.assigned (negation_of other) is_true in
     let same : (d : Assigned) → (get_or now.assigned found.0 d).lit ≡ other = λ d. negation_once (get_or now.assigned found.0 d).lit other (found.2 d) in
-    right_true w.codes now.assigned flags drawn slot found.0 found.1 same (λ d.
+    right_true w.codes now.assigned flags propagated slot found.0 found.1 same (λ d.
     let e : level ≡ (get_or now.assigned found.0 d).level = levels found.0 d found.1 (ap (λ (l : Lit). l.var) (same d)) in
     omega (arith, e, is d, low))
   where
@@ -140,22 +140,22 @@ right_if clauses w now flags drawn gone at slot level there a is_true levels is 
     negation_once k l e = lit_equal k l (ap (λ (x : Lit). x.var) e) (not_same k.positive l.positive (ap (λ (x : Lit). x.positive) e))
 
 -- the clause is marked where that is asked, and else the slot is right
-pub walking_if : (clauses : List (List Lit)) (w : WatchState) (now : AssignmentState) (flags news : List Bool) (drawn gone at slot : ℕ) (b : Bool) → IsAtSlot clauses w now flags drawn gone at slot → IsListed w → (b ≡ false → IsRightAt w.codes now.assigned flags drawn slot) → news ≡ cond b (set flags (slot / 2) true) flags → IsWalking clauses w now news drawn gone (at + 1)
-walking_if clauses w now flags news drawn gone at slot true a listed right is =
-    let s = at_slot clauses w now flags drawn gone at slot a listed in
+pub walking_if : (clauses : List (List Lit)) (w : WatchState) (now : AssignmentState) (flags news : List Bool) (propagated gone at slot : ℕ) (b : Bool) → IsAtSlot clauses w now flags propagated gone at slot → IsListed w → (b ≡ false → IsRightAt w.codes now.assigned flags propagated slot) → news ≡ cond b (set flags (slot / 2) true) flags → IsWalking clauses w now news propagated gone (at + 1)
+walking_if clauses w now flags news propagated gone at slot true a listed right is =
+    let s = at_slot clauses w now flags propagated gone at slot a listed in
     let in_flags : slot / 2 < length flags = omega (arith, s.2, a.walking.flags_long) in
-    let marked : IsRightAt w.codes now.assigned (set flags (slot / 2) true) drawn slot = right_marked w.codes now.assigned flags drawn slot (slot / 2) refl in_flags in
-    let made = walking_on clauses w now (set flags (slot / 2) true) drawn gone at (walking_mark clauses w now flags drawn gone at (slot / 2) a.walking) a.here (subst (IsRightAt w.codes now.assigned (set flags (slot / 2) true) drawn) (sym a.is) marked) in
-    subst (λ (f : List Bool). IsWalking clauses w now f drawn gone (at + 1)) (sym is) made
-walking_if clauses w now flags news drawn gone at slot false a listed right is =
-    let made = walking_on clauses w now flags drawn gone at a.walking a.here (subst (IsRightAt w.codes now.assigned flags drawn) (sym a.is) (right refl)) in
-    subst (λ (f : List Bool). IsWalking clauses w now f drawn gone (at + 1)) (sym is) made
+    let marked : IsRightAt w.codes now.assigned (set flags (slot / 2) true) propagated slot = right_marked w.codes now.assigned flags propagated slot (slot / 2) refl in_flags in
+    let made = walking_on clauses w now (set flags (slot / 2) true) propagated gone at (walking_mark clauses w now flags propagated gone at (slot / 2) a.walking) a.here (subst (IsRightAt w.codes now.assigned (set flags (slot / 2) true) propagated) (sym a.is) marked) in
+    subst (λ (f : List Bool). IsWalking clauses w now f propagated gone (at + 1)) (sym is) made
+walking_if clauses w now flags news propagated gone at slot false a listed right is =
+    let made = walking_on clauses w now flags propagated gone at a.walking a.here (subst (IsRightAt w.codes now.assigned flags propagated) (sym a.is) (right refl)) in
+    subst (λ (f : List Bool). IsWalking clauses w now f propagated gone (at + 1)) (sym is) made
 
 -- the clause of the slot forces the other literal
-pub forced : (clauses : List (List Lit)) (w : WatchState) (now : AssignmentState) (flags : List Bool) (drawn gone at slot level : ℕ) (l : Lit) → IsAtSlot clauses w now flags drawn gone at slot → IsListed w → All IsClause clauses → l ≡ watched w.codes (twin slot) → IsOpen (falses_of now.assigned) l → IsFalseBut clauses (falses_of now.assigned) (slot / 2) l → level ≡ level_of now.assigned →
+pub forced : (clauses : List (List Lit)) (w : WatchState) (now : AssignmentState) (flags : List Bool) (propagated gone at slot level : ℕ) (l : Lit) → IsAtSlot clauses w now flags propagated gone at slot → IsListed w → All IsClause clauses → l ≡ watched w.codes (twin slot) → IsOpen (falses_of now.assigned) l → IsFalseBut clauses (falses_of now.assigned) (slot / 2) l → level ≡ level_of now.assigned →
     IsPlaced clauses now.assigned (record { lit = l; level = level; reason = Some (slot / 2 + 1) }) × IsVarUpTo now.vars (record { lit = l; level = level; reason = Some (slot / 2 + 1) })
-forced clauses w now flags drawn gone at slot level l a listed each is is_open others level_is =
-    let s = at_slot clauses w now flags drawn gone at slot a listed in
+forced clauses w now flags propagated gone at slot level l a listed each is is_open others level_is =
+    let s = at_slot clauses w now flags propagated gone at slot a listed in
     let clause : List Lit = get_or clauses (slot / 2) [] in
     let pair = pair_at clauses w.codes slot s.3 in
     let member : Contains clause l = subst (Contains clause) (sym is) pair.1 in
@@ -168,25 +168,25 @@ forced clauses w now flags drawn gone at slot level l a listed each is is_open o
     )
 
 -- and so the slot is right, if that is at no higher level
-pub right_forced : (clauses : List (List Lit)) (w : WatchState) (now : AssignmentState) (flags : List Bool) (drawn gone at slot level there : ℕ) (l : Lit) (r : Option ℕ) → IsAtSlot clauses w now flags drawn gone at slot → l ≡ watched w.codes (twin slot) → ((d : Assigned) → there ≡ (get_or now.assigned drawn d).level) → level ≤ there →
-    IsRightAt w.codes (now.assigned ++ record { lit = l; level = level; reason = r } ∷ []) flags drawn slot
-right_forced clauses w now flags drawn gone at slot level there l r a is there_is low =
+pub right_forced : (clauses : List (List Lit)) (w : WatchState) (now : AssignmentState) (flags : List Bool) (propagated gone at slot level there : ℕ) (l : Lit) (r : Option ℕ) → IsAtSlot clauses w now flags propagated gone at slot → l ≡ watched w.codes (twin slot) → ((d : Assigned) → there ≡ (get_or now.assigned propagated d).level) → level ≤ there →
+    IsRightAt w.codes (now.assigned ++ record { lit = l; level = level; reason = r } ∷ []) flags propagated slot
+right_forced clauses w now flags propagated gone at slot level there l r a is there_is low =
     let x : Assigned = record { lit = l; level = level; reason = r } in
     let last : (d : Assigned) → get_or (now.assigned ++ x ∷ []) (length now.assigned) d ≡ x = λ d. get_or_push now.assigned x d (length now.assigned) refl in
-    right_true w.codes (now.assigned ++ x ∷ []) flags drawn slot (length now.assigned) (omega (arith, length-append now.assigned (x ∷ [])))
+    right_true w.codes (now.assigned ++ x ∷ []) flags propagated slot (length now.assigned) (omega (arith, length-append now.assigned (x ∷ [])))
     (λ d. ap (λ (b : Assigned). b.lit) (last d) ∙ is)
     (λ d. let here : (get_or (now.assigned ++ x ∷ []) (length now.assigned) d).level ≡ level = ap (λ (b : Assigned). b.level) (last d) in
-    let old : (get_or (now.assigned ++ x ∷ []) drawn d).level ≡ (get_or now.assigned drawn d).level = ap (λ (b : Assigned). b.level) (get_or_append_left now.assigned (x ∷ []) d drawn a.walking.drawn_in) in
+    let old : (get_or (now.assigned ++ x ∷ []) propagated d).level ≡ (get_or now.assigned propagated d).level = ap (λ (b : Assigned). b.level) (get_or_append_left now.assigned (x ∷ []) d propagated a.walking.propagated_in) in
     omega (arith, here, old, there_is d, low))
 
-pub at_slot_push : (clauses : List (List Lit)) (w : WatchState) (vars : ℕ) (assigned : List Assigned) (flags : List Bool) (drawn gone at slot : ℕ) (x : Assigned) → IsAtSlot clauses w (now_of vars assigned) flags drawn gone at slot → IsPlaced clauses assigned x → IsVarUpTo vars x → IsAtSlot clauses w (now_of vars (assigned ++ x ∷ [])) flags drawn gone at slot
-at_slot_push clauses w vars assigned flags drawn gone at slot x a placed low =
-    record { walking = walking_push clauses w vars assigned flags drawn gone at x a.walking placed low; here = a.here; is = a.is; gone_low = a.gone_low; gone_in = a.gone_in }
+pub at_slot_push : (clauses : List (List Lit)) (w : WatchState) (vars : ℕ) (assigned : List Assigned) (flags : List Bool) (propagated gone at slot : ℕ) (x : Assigned) → IsAtSlot clauses w (now_of vars assigned) flags propagated gone at slot → IsPlaced clauses assigned x → IsVarUpTo vars x → IsAtSlot clauses w (now_of vars (assigned ++ x ∷ [])) flags propagated gone at slot
+at_slot_push clauses w vars assigned flags propagated gone at slot x a placed low =
+    record { walking = walking_push clauses w vars assigned flags propagated gone at x a.walking placed low; here = a.here; is = a.is; gone_low = a.gone_low; gone_in = a.gone_in }
 
 -- what is not false is not the literal that is gone
-pub gone_other : (clauses : List (List Lit)) (w : WatchState) (now : AssignmentState) (flags : List Bool) (drawn gone at code : ℕ) → IsWalking clauses w now flags drawn gone at → (Contains (falses_of now.assigned) (literal_of code) → ⊥) → gone ≡ code → ⊥
-gone_other clauses w now flags drawn gone at code was free e =
-    free (false_from now.assigned (literal_of code) drawn was.drawn_in (λ d. was.gone_is d ∙ ap literal_of e))
+pub gone_other : (clauses : List (List Lit)) (w : WatchState) (now : AssignmentState) (flags : List Bool) (propagated gone at code : ℕ) → IsWalking clauses w now flags propagated gone at → (Contains (falses_of now.assigned) (literal_of code) → ⊥) → gone ≡ code → ⊥
+gone_other clauses w now flags propagated gone at code was free e =
+    free (false_from now.assigned (literal_of code) propagated was.propagated_in (λ d. was.gone_is d ∙ ap literal_of e))
 
 -- all literals of the clause but one are false, and that one too
 pub refuted : (clauses : List (List Lit)) (falses : List Lit) (n : ℕ) (other : Lit) → n < length clauses → IsFalseBut clauses falses n other → Contains falses other → Refutes clauses falses (n + 1)

@@ -1,4 +1,4 @@
--- What is reached where all consequences are drawn.
+-- What is reached where all consequences are propagated.
 use Rattle.std.specs.Prelude.{◌<◌, ◌⊎◌, ℕ, Bool, List, [], Contains, length, slice_index_or}
 use Rattle.cnf_core.specs.declared.literal.Lit.{Lit}
 use Rattle.refutation_check.specs.Chain.{IsFalsified, IsUnit}

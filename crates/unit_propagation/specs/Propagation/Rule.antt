@@ -29,9 +29,9 @@ abbrev pub IsRightAt : List ℕ → List Assigned → List Bool → ℕ → ℕ 
 IsRightAt codes assigned marked i x =
     ((d : Assigned) → negation_of (slice_index_or assigned i d).lit ≡ watched codes x) → IsMarked marked (x / 2) ⊎ IsCovered codes assigned x i
 
--- so it is of each slot and of each literal whose consequences were drawn, the oldest so many
+-- so it is of each slot and of each literal whose consequences were propagated, the oldest so many
 abbrev pub IsWatchedRight : List ℕ → List Assigned → List Bool → ℕ → Type 0
-IsWatchedRight codes assigned marked drawn = (i x : ℕ) → i < drawn → x < length codes → IsRightAt codes assigned marked i x
+IsWatchedRight codes assigned marked propagated = (i x : ℕ) → i < propagated → x < length codes → IsRightAt codes assigned marked i x
 
 -- two literals of each clause of two or more are watched
 pub record IsWatching (clauses : List (List Lit)) (codes : List ℕ) (n : ℕ) : Type 0 where

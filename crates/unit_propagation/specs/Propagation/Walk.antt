@@ -13,8 +13,8 @@ use Rattle.unit_propagation.specs.declared.watched_literals.walk.Step.TheVariant
 use Rattle.unit_propagation.specs.Assignments.AssignmentState.{AssignmentState}
 use Rattle.unit_propagation.specs.Propagation.Rule.{AreWatched, IsRightAt, IsWatchedRight}
 
--- the consequences of the oldest so many literals are drawn, and of the next one those at the first places of its list
-pub record IsWalking (clauses : List (List Lit)) (w : WatchState) (now : AssignmentState) (flags : List Bool) (drawn gone at : ℕ) : Type 0 where
+-- the consequences of the oldest so many literals are propagated, and of the next one those at the first places of its list
+pub record IsWalking (clauses : List (List Lit)) (w : WatchState) (now : AssignmentState) (flags : List Bool) (propagated gone at : ℕ) : Type 0 where
   pub trail : IsTrail clauses now.assigned
   pub in_range : All (IsVarUpTo now.vars) now.assigned
   pub within : All (HasVarsUpTo now.vars) clauses
@@ -22,11 +22,11 @@ pub record IsWalking (clauses : List (List Lit)) (w : WatchState) (now : Assignm
   pub flags_long : length flags ≡ length clauses
   pub lists : length w.lists ≡ 2 * now.vars + 2
   pub watching : AreWatched clauses w.codes flags
-  pub drawn_in : drawn < length now.assigned
-  pub gone_is : (d : Assigned) → negation_of (slice_index_or now.assigned drawn d).lit ≡ literal_of gone
-  pub right : IsWatchedRight w.codes now.assigned flags drawn
+  pub propagated_in : propagated < length now.assigned
+  pub gone_is : (d : Assigned) → negation_of (slice_index_or now.assigned propagated d).lit ≡ literal_of gone
+  pub right : IsWatchedRight w.codes now.assigned flags propagated
   pub at_in : at ≤ length (list_at w.lists gone)
-  pub done : (p : ℕ) → p < at → IsRightAt w.codes now.assigned flags drawn (slice_index_or (list_at w.lists gone) p 0)
+  pub done : (p : ℕ) → p < at → IsRightAt w.codes now.assigned flags propagated (slice_index_or (list_at w.lists gone) p 0)
 
 -- a literal that may be watched in place of a false one: it is not false, and not the other one; or all but the other one are false
 abbrev pub IsReplacement : List Lit → ℕ → List Lit → ℕ → Option ℕ → Type 0
@@ -34,8 +34,8 @@ IsReplacement falses vars clause other None = (l : Lit) → Contains clause l �
 IsReplacement falses vars clause other (Some code) = Contains clause (literal_of code) × (literal_of code ≡ literal_of other → ⊥) × (Contains falses (literal_of code) → ⊥) × (code / 2 ≤ vars)
 
 -- the walk is at this slot of the list
-pub record IsAtSlot (clauses : List (List Lit)) (w : WatchState) (now : AssignmentState) (flags : List Bool) (drawn gone at slot : ℕ) : Type 0 where
-  pub walking : IsWalking clauses w now flags drawn gone at
+pub record IsAtSlot (clauses : List (List Lit)) (w : WatchState) (now : AssignmentState) (flags : List Bool) (propagated gone at slot : ℕ) : Type 0 where
+  pub walking : IsWalking clauses w now flags propagated gone at
   pub here : at < length (list_at w.lists gone)
   pub is : slice_index_or (list_at w.lists gone) at 0 ≡ slot
   pub gone_low : 2 ≤ gone
@@ -47,27 +47,27 @@ IsFalseBut clauses falses n other = (l : Lit) → Contains (slice_index_or claus
 
 -- what became of the slot: it stays, or is on another list now, or its clause is falsified
 abbrev pub IsStepped : List (List Lit) → WatchState → WatchState → AssignmentState → List Bool → ℕ → ℕ → ℕ → ℕ → Step → Type 0
-IsStepped clauses old w now flags drawn gone at slot Kept = IsWalking clauses w now flags drawn gone (at + 1) × (w ≡ old)
-IsStepped clauses old w now flags drawn gone at slot Moved = IsWalking clauses w now flags drawn gone at × (list_at w.lists gone ≡ remove (list_at old.lists gone) at)
-IsStepped clauses old w now flags drawn gone at slot Falsified = IsWalking clauses w now flags drawn gone at × Refutes clauses (falses_of now.assigned) (slot / 2 + 1)
+IsStepped clauses old w now flags propagated gone at slot Kept = IsWalking clauses w now flags propagated gone (at + 1) × (w ≡ old)
+IsStepped clauses old w now flags propagated gone at slot Moved = IsWalking clauses w now flags propagated gone at × (list_at w.lists gone ≡ remove (list_at old.lists gone) at)
+IsStepped clauses old w now flags propagated gone at slot Falsified = IsWalking clauses w now flags propagated gone at × Refutes clauses (falses_of now.assigned) (slot / 2 + 1)
 
--- the consequences of the oldest so many literals are drawn
-pub record IsReady (clauses : List (List Lit)) (w : WatchState) (now : AssignmentState) (flags : List Bool) (drawn : ℕ) : Type 0 where
+-- the consequences of the oldest so many literals are propagated
+pub record IsReady (clauses : List (List Lit)) (w : WatchState) (now : AssignmentState) (flags : List Bool) (propagated : ℕ) : Type 0 where
   pub trail : IsTrail clauses now.assigned
   pub within : All (HasVarsUpTo now.vars) clauses
   pub long : length w.codes ≡ 2 * length clauses
   pub flags_long : length flags ≡ length clauses
   pub lists : length w.lists ≡ 2 * now.vars + 2
   pub watching : AreWatched clauses w.codes flags
-  pub drawn_in : drawn ≤ length now.assigned
-  pub right : IsWatchedRight w.codes now.assigned flags drawn
+  pub propagated_in : propagated ≤ length now.assigned
+  pub right : IsWatchedRight w.codes now.assigned flags propagated
 
--- what the walk came to: the consequences of one more literal are drawn, or a clause is falsified
+-- what the walk came to: the consequences of one more literal are propagated, or a clause is falsified
 abbrev pub IsWalked : List (List Lit) → WatchState → AssignmentState → List Bool → ℕ → ℕ → Option ℕ → Type 0
-IsWalked clauses w now flags drawn gone None = IsReady clauses w now flags (drawn + 1)
-IsWalked clauses w now flags drawn gone (Some n) = IsReady clauses w now flags drawn × Refutes clauses (falses_of now.assigned) (n + 1)
+IsWalked clauses w now flags propagated gone None = IsReady clauses w now flags (propagated + 1)
+IsWalked clauses w now flags propagated gone (Some n) = IsReady clauses w now flags propagated × Refutes clauses (falses_of now.assigned) (n + 1)
 
--- all consequences are drawn, or a clause is falsified
-abbrev pub IsDrawn : List (List Lit) → WatchState → AssignmentState → List Bool → ℕ → Option ℕ → Type 0
-IsDrawn clauses w now flags drawn None = IsReady clauses w now flags drawn × (drawn ≡ length now.assigned)
-IsDrawn clauses w now flags drawn (Some n) = IsReady clauses w now flags drawn × Refutes clauses (falses_of now.assigned) (n + 1)
+-- all consequences are propagated, or a clause is falsified
+abbrev pub IsPropagated : List (List Lit) → WatchState → AssignmentState → List Bool → ℕ → Option ℕ → Type 0
+IsPropagated clauses w now flags propagated None = IsReady clauses w now flags propagated × (propagated ≡ length now.assigned)
+IsPropagated clauses w now flags propagated (Some n) = IsReady clauses w now flags propagated × Refutes clauses (falses_of now.assigned) (n + 1)

@@ -32,17 +32,17 @@ pub fn back_to(
     watches: &WatchLists,
     now: &mut Assignment,
     pending: &Pending,
-    drawn: &mut usize,
+    propagated: &mut usize,
     level: u32,
 )
-    requires { IsReady store.now watches.now now.old pending.now.flags drawn.old }
-    ensures ready { IsReady store.now watches.now now.new pending.now.flags drawn.new }
+    requires { IsReady store.now watches.now now.old pending.now.flags propagated.old }
+    ensures ready { IsReady store.now watches.now now.new pending.now.flags propagated.new }
     ensures vars { now.new.vars ≡ now.old.vars }
     ensures assigned { IsBackTo level now.old.assigned now.new.assigned }
 {
     let count = count_up_to(now, level);
     now.cut(count);
-    if *drawn > count {
-        *drawn = count;
+    if *propagated > count {
+        *propagated = count;
     }
 }

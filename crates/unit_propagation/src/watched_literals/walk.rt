@@ -9,7 +9,7 @@ ghost use Rattle.unit_propagation.specs.Propagation.Closed.{IsClosedBut};
 ghost use Rattle.unit_propagation.specs.Watches.WatchState.{list_at};
 ghost use Rattle.unit_propagation.specs.Assignments.Trail.{falses_of, level_of, ForcesMore};
 ghost use Rattle.unit_propagation.specs.Propagation.Rule.{twin, watched};
-ghost use Rattle.unit_propagation.specs.Propagation.Walk.{IsReplacement, IsWalking, IsAtSlot, IsFalseBut, IsStepped, IsWalked, IsReady, IsDrawn};
+ghost use Rattle.unit_propagation.specs.Propagation.Walk.{IsReplacement, IsWalking, IsAtSlot, IsFalseBut, IsStepped, IsWalked, IsReady, IsPropagated};
 
 use crate::assignment_trail::{Assigned, Assignment};
 use crate::clause_store::{Store, code_of, literal_of};
@@ -57,12 +57,12 @@ fn other_of(
     watches: &WatchLists,
     now: &Assignment,
     pending: &Pending,
-    drawn: usize,
+    propagated: usize,
     gone: u32,
     at: u32,
     slot: u32,
 ) -> u32
-    requires { IsAtSlot store.now watches.now now.now pending.now.flags drawn gone at slot }
+    requires { IsAtSlot store.now watches.now now.now pending.now.flags propagated gone at slot }
     ensures code { result ≡ slice_index_or watches.now.codes (twin slot) 0 }
     ensures low { result / 2 ≤ now.now.vars }
 {
@@ -86,18 +86,18 @@ fn keep(
     watches: &WatchLists,
     now: &Assignment,
     pending: &mut Pending,
-    drawn: usize,
+    propagated: usize,
     gone: u32,
     at: u32,
     slot: u32,
 )
-    requires at_slot { IsAtSlot store.now watches.now now.now pending.old.flags drawn gone at slot }
+    requires at_slot { IsAtSlot store.now watches.now now.now pending.old.flags propagated gone at slot }
     requires is_true { Contains (falses_of now.now.assigned) (negation_of (watched watches.now.codes (twin slot))) }
-    ensures { IsWalking store.now watches.now now.now pending.new.flags drawn gone (at + 1) }
+    ensures { IsWalking store.now watches.now now.now pending.new.flags propagated gone (at + 1) }
 {
-    let other = other_of(store, watches, now, pending, drawn, gone, at, slot);
+    let other = other_of(store, watches, now, pending, propagated, gone, at, slot);
     let _ = watches.len(); // for the proof
-    let is_high = now.level_of(other) > now.at(drawn).level;
+    let is_high = now.level_of(other) > now.at(propagated).level;
     mark_if(pending, slot / 2, is_high);
 }
 
@@ -108,23 +108,23 @@ fn force(
     watches: &WatchLists,
     now: &mut Assignment,
     pending: &mut Pending,
-    drawn: usize,
+    propagated: usize,
     gone: u32,
     at: u32,
     slot: u32,
     level: u32,
 )
-    requires at_slot { IsAtSlot store.now watches.now now.old pending.old.flags drawn gone at slot }
+    requires at_slot { IsAtSlot store.now watches.now now.old pending.old.flags propagated gone at slot }
     requires is_open { IsOpen (falses_of now.old.assigned) (watched watches.now.codes (twin slot)) }
     requires others { IsFalseBut store.now (falses_of now.old.assigned) (slot / 2) (watched watches.now.codes (twin slot)) }
     requires level { level ≡ level_of now.old.assigned }
-    ensures walking { IsWalking store.now watches.now now.new pending.new.flags drawn gone (at + 1) }
+    ensures walking { IsWalking store.now watches.now now.new pending.new.flags propagated gone (at + 1) }
     ensures more { now.new ≡ record now.old { assigned = now.old.assigned ++ record { lit = watched watches.now.codes (twin slot); level = level; reason = Some (slot / 2 + 1) } ∷ [] } }
 {
-    let other = other_of(store, watches, now, pending, drawn, gone, at, slot);
+    let other = other_of(store, watches, now, pending, propagated, gone, at, slot);
     let _count = watches.len(); // for the proof
     let _clauses = store.len(); // for the proof
-    let is_high = level > now.at(drawn).level;
+    let is_high = level > now.at(propagated).level;
     now.assign(Assigned {
         lit: literal_of(other),
         level,
@@ -139,20 +139,20 @@ fn replace(
     watches: &mut WatchLists,
     now: &Assignment,
     pending: &Pending,
-    drawn: usize,
+    propagated: usize,
     gone: u32,
     at: u32,
     before: u32,
     slot: u32,
 ) -> bool
-    requires at_slot { IsAtSlot store.now watches.old now.now pending.now.flags drawn gone at slot }
+    requires at_slot { IsAtSlot store.now watches.old now.now pending.now.flags propagated gone at slot }
     requires before { 0 < at → slice_index_or (list_at watches.old.lists gone) (at - 1) 0 ≡ before }
-    ensures walking { IsWalking store.now watches.new now.now pending.now.flags drawn gone at }
+    ensures walking { IsWalking store.now watches.new now.now pending.now.flags propagated gone at }
     ensures moved { IsTrue result → list_at watches.new.lists gone ≡ remove (list_at watches.old.lists gone) at }
     ensures stays { IsFalse result → watches.new ≡ watches.old }
     ensures others { IsFalse result → IsFalseBut store.now (falses_of now.now.assigned) (slot / 2) (watched watches.old.codes (twin slot)) }
 {
-    let other = other_of(store, watches, now, pending, drawn, gone, at, slot);
+    let other = other_of(store, watches, now, pending, propagated, gone, at, slot);
     let _count = watches.len(); // for the proof
     let _clauses = store.len(); // for the proof
     let _count_true = now.len(); // for the proof
@@ -171,59 +171,65 @@ fn look_at(
     watches: &mut WatchLists,
     now: &mut Assignment,
     pending: &mut Pending,
-    drawn: usize,
+    propagated: usize,
     gone: u32,
     at: u32,
     before: u32,
     slot: u32,
     level: u32,
 ) -> Step
-    requires at_slot { IsAtSlot store.now watches.old now.old pending.old.flags drawn gone at slot }
+    requires at_slot { IsAtSlot store.now watches.old now.old pending.old.flags propagated gone at slot }
     requires before { 0 < at → slice_index_or (list_at watches.old.lists gone) (at - 1) 0 ≡ before }
     requires level { level ≡ level_of now.old.assigned }
-    ensures stepped { IsStepped store.now watches.old watches.new now.new pending.new.flags drawn gone at slot result }
+    ensures stepped { IsStepped store.now watches.old watches.new now.new pending.new.flags propagated gone at slot result }
     ensures vars { now.new.vars ≡ now.old.vars }
     ensures more { ForcesMore now.old.assigned now.new.assigned }
     ensures level { level_of now.new.assigned ≡ level_of now.old.assigned }
 {
-    let other = other_of(store, watches, now, pending, drawn, gone, at, slot);
+    let other = other_of(store, watches, now, pending, propagated, gone, at, slot);
     match now.value(other) {
         Some(true) => {
-            keep(store, watches, now, pending, drawn, gone, at, slot);
+            keep(store, watches, now, pending, propagated, gone, at, slot);
             Step::Kept
         }
         Some(false) => {
             let _ = watches.len(); // for the proof
-            if replace(store, watches, now, pending, drawn, gone, at, before, slot) {
+            if replace(
+                store, watches, now, pending, propagated, gone, at, before, slot,
+            ) {
                 return Step::Moved;
             }
             Step::Falsified
         }
         None => {
-            if replace(store, watches, now, pending, drawn, gone, at, before, slot) {
+            if replace(
+                store, watches, now, pending, propagated, gone, at, before, slot,
+            ) {
                 return Step::Moved;
             }
-            force(store, watches, now, pending, drawn, gone, at, slot, level);
+            force(
+                store, watches, now, pending, propagated, gone, at, slot, level,
+            );
             Step::Kept
         }
     }
 }
 
-// Draws the consequences of a literal that became false: none, or the place of a clause that is falsified.
-fn draw(
+// Propagates the consequences of a literal that became false: none, or the place of a clause that is falsified.
+fn propagate_one(
     store: &Store,
     watches: &mut WatchLists,
     now: &mut Assignment,
     pending: &mut Pending,
-    drawn: usize,
+    propagated: usize,
     gone: u32,
     level: u32,
 ) -> Option<u32>
-    requires walking { IsWalking store.now watches.old now.old pending.old.flags drawn gone 0 }
+    requires walking { IsWalking store.now watches.old now.old pending.old.flags propagated gone 0 }
     requires gone_low { 2 ≤ gone }
     requires gone_in { gone < length watches.old.lists }
     requires level { level ≡ level_of now.old.assigned }
-    ensures walked { IsWalked store.now watches.new now.new pending.new.flags drawn gone result }
+    ensures walked { IsWalked store.now watches.new now.new pending.new.flags propagated gone result }
     ensures vars { now.new.vars ≡ now.old.vars }
     ensures more { ForcesMore now.old.assigned now.new.assigned }
     ensures level { level_of now.new.assigned ≡ level_of now.old.assigned }
@@ -236,7 +242,7 @@ fn draw(
         let _count = watches.len(); // for the proof
         let next = watches.next(slot);
         match look_at(
-            store, watches, now, pending, drawn, gone, at, before, slot, level,
+            store, watches, now, pending, propagated, gone, at, before, slot, level,
         ) {
             Step::Kept => {
                 before = slot;
@@ -251,29 +257,29 @@ fn draw(
     None
 }
 
-/// Draws the consequences of all literals: none, or the place of a clause that is falsified. It takes no memory.
-pub fn draw_all(
+/// Propagates the consequences of all literals: none, or the place of a clause that is falsified. It takes no memory.
+pub fn propagate_queue(
     store: &Store,
     watches: &mut WatchLists,
     now: &mut Assignment,
     pending: &mut Pending,
-    drawn: &mut usize,
+    propagated: &mut usize,
     level: u32,
 ) -> Option<u32>
-    requires ready { IsReady store.now watches.old now.old pending.old.flags drawn.old }
+    requires ready { IsReady store.now watches.old now.old pending.old.flags propagated.old }
     requires level { level ≡ level_of now.old.assigned }
     ensures closed { MatchOption result (IsClosedBut store.now (falses_of now.new.assigned) pending.new.flags) (λ n. Refutes store.now (falses_of now.new.assigned) (n + 1)) }
-    ensures drawn { IsDrawn store.now watches.new now.new pending.new.flags drawn.new result }
+    ensures propagated { IsPropagated store.now watches.new now.new pending.new.flags propagated.new result }
     ensures vars { now.new.vars ≡ now.old.vars }
     ensures more { ForcesMore now.old.assigned now.new.assigned }
     ensures level { level_of now.new.assigned ≡ level_of now.old.assigned }
 {
-    'literals: while *drawn < now.len() {
-        let a = now.at(*drawn);
+    'literals: while *propagated < now.len() {
+        let a = now.at(*propagated);
         let gone = code_of(a.lit.negation());
-        match draw(store, watches, now, pending, *drawn, gone, level) {
+        match propagate_one(store, watches, now, pending, *propagated, gone, level) {
             Some(n) => return Some(n),
-            None => *drawn += 1,
+            None => *propagated += 1,
         }
     }
     None

@@ -1,5 +1,5 @@
 use Rattle.std.proofs.Common.{◌≡◌, Ok, rules}
-use Rattle.alloy_syntax.specs.Seen.{seen_all}
+use Rattle.alloy_syntax.specs.ParserTokens.{seen_all}
 use Rattle.alloy_syntax.specs.Paragraphs.{model_of}
 use Rattle.alloy_syntax.specs.View.{model_view}
 use Rattle.model_texts.proofs.Texts.Ways.{tree_read}

@@ -30,4 +30,4 @@ returns-clause-walking c =
     let walking = walking_if _ _ _ _ _ _ _ _ _ _ pushed c.len-count.ensures.listed
     (λ low. right_forced _ _ _ c.args.pending.now.flags _ _ _ _ c.args.level c.at.result.level c.literal_of.result _ c.requires.at_slot is (λ d. ap (λ a. a.level) (c.at.ensures d)) (ltb-false _ _ low))
     c.mark_if.ensures in
-    subst (λ (n : AssignmentState). IsWalking c.args.store.now c.args.watches.now n c.mark_if.new.pending.flags c.args.drawn c.args.gone (c.args.at + 1)) (sym c.assign.ensures) walking
+    subst (λ (n : AssignmentState). IsWalking c.args.store.now c.args.watches.now n c.mark_if.new.pending.flags c.args.propagated c.args.gone (c.args.at + 1)) (sym c.assign.ensures) walking

@@ -4,7 +4,7 @@ use alloy_lex::{Place, Spelling};
 
 /// A token as a reader sees it: its terminal, its place, and what it spells.
 #[derive(Drop)]
-pub struct Seen<'a> {
+pub struct ParserToken<'a> {
     pub class: Class,
     pub place: Place,
     pub text: Spelling<'a>,

@@ -5,7 +5,7 @@ use Rattle.unit_propagation.specs.Watches.WatchState.{WatchState, list_at, link_
 use Rattle.unit_propagation.proofs.Assignments.Trails.{forces_trans}
 use Rattle.unit_propagation.proofs.Propagation.Slots.{slot_there}
 use Rattle.unit_propagation.proofs.Propagation.Loops.{link_some, link_none, link_removed, walked, ready_of}
-use Rattle.unit_propagation.proofs.watched_literals.walk.draw.Goals as goal
+use Rattle.unit_propagation.proofs.watched_literals.walk.propagate_one.Goals as goal
 
 pub next-next-requires : goal.next-next-requires
 next-next-requires c =
