@@ -1,17 +1,21 @@
 // Whole bodies, with all calls of a model.
-ghost use Rattle.std.specs.Prelude.{◌≡◌, [], Some, IfOk};
+ghost use Rattle.std.specs.Prelude.{◌≡◌, [], Some, IfOk, map};
+ghost use Rattle.alloy_syntax.specs.declared.tree.Quantifier.TheVariants as quantifier;
 ghost use Rattle.rel_formula.specs.View.{expression_tree, formula_tree};
-ghost use Rattle.named_model.specs.View.{phrase_view, phrases_view, callee_view, named_view};
-ghost use Rattle.lowering_rules.specs.Parts.{expression_in};
-ghost use Rattle.lowering_rules.specs.Lowering.{base_of, base_within, lowered};
+ghost use Rattle.named_model.specs.View.{phrase_view, phrases_view, callee_view, meaning_view, named_view};
+ghost use Rattle.lowering_rules.specs.Parts.{expression_in, formula_in};
+ghost use Rattle.lowering_rules.specs.Binders.{quantified_by};
+ghost use Rattle.lowering_rules.specs.Lowering.{base_of, base_within, lowered, meaning_lowered};
 ghost use Rattle.lowering_rules.specs.Formula.{block_says, predicate_says};
+ghost use Rattle.body_lowering.specs.Locals.{locals_view};
 
-use crate::parts::{formulas, lower, meaning, variables_of};
+use crate::locals::Local;
+use crate::parts::{Variables, formulas, lower, meaning, variables_of};
 use crate::quantifiers::bind;
 use crate::room::{Depth, Room};
 use alloy_syntax::tree::Quantifier;
 use named_model::Named;
-use named_model::named::Callee;
+use named_model::named::{Callee, Meaning};
 use named_model::phrase::Phrase;
 use rel_formula::{Expression, Formula};
 use std::alloc::{AllocError, Global};
@@ -69,12 +73,35 @@ pub fn predicate(
     let at = outside(model, 0);
     let mut locals = Vec::new(alloc);
     let variables = variables_of(alloc, model, at, &mut locals, room, &callee.parameters)?;
+    Ok(run(
+        alloc,
+        model,
+        at,
+        &mut locals,
+        room,
+        variables,
+        &callee.meaning,
+    )?)
+}
+
+// That some atoms of the domains of these variables make the body true. Each variable is a level above the body.
+fn run(
+    alloc: Global,
+    model: &Named,
+    at: Depth,
+    locals: &mut Vec<Local>,
+    room: &mut Room,
+    variables: Variables,
+    body: &Meaning,
+) -> Result<Formula, AllocError>
+    ensures { IfOk result (λ f. formula_tree f ≡ quantified_by quantifier.Some (map expression_tree variables.domains.items) (map formula_tree variables.apart.items) (formula_in (meaning_lowered (base_within at.calls (named_view model.now)) (locals_view locals.old.items) variables.binders (meaning_view body.now)))) }
+{
     let inside = Depth {
         binders: variables.binders,
-        levels: at.levels.saturating_sub(variables.binders),
+        levels: at.levels.checked_sub(variables.binders).ok_or(AllocError)?,
         ..at
     };
-    let body = meaning(alloc, model, inside, &mut locals, room, &callee.meaning)?;
+    let body = meaning(alloc, model, inside, locals, room, body)?;
     Ok(bind(
         alloc,
         room,

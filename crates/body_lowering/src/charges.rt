@@ -17,40 +17,11 @@ pub fn charge(room: &mut Room, levels: u32, e: &Expression) -> Result<(), AllocE
         Expression::None => Ok(()),
         Expression::Univ => Ok(()),
         Expression::Iden => Ok(()),
-        Expression::Transpose(a) => Ok(charge(room, levels - 1, a)?),
-        Expression::Closure(a) => Ok(charge(room, levels - 1, a)?),
-        Expression::Union(a, b) => {
+        Expression::Binary(_, a, b) => {
             charge(room, levels - 1, a)?;
-            Ok(charge(room, levels - 1, b)?)
+            charge(room, levels - 1, b)
         }
-        Expression::Minus(a, b) => {
-            charge(room, levels - 1, a)?;
-            Ok(charge(room, levels - 1, b)?)
-        }
-        Expression::Meet(a, b) => {
-            charge(room, levels - 1, a)?;
-            Ok(charge(room, levels - 1, b)?)
-        }
-        Expression::Product(a, b) => {
-            charge(room, levels - 1, a)?;
-            Ok(charge(room, levels - 1, b)?)
-        }
-        Expression::Join(a, b) => {
-            charge(room, levels - 1, a)?;
-            Ok(charge(room, levels - 1, b)?)
-        }
-        Expression::Override(a, b) => {
-            charge(room, levels - 1, a)?;
-            Ok(charge(room, levels - 1, b)?)
-        }
-        Expression::Dom(a, b) => {
-            charge(room, levels - 1, a)?;
-            Ok(charge(room, levels - 1, b)?)
-        }
-        Expression::Ran(a, b) => {
-            charge(room, levels - 1, a)?;
-            Ok(charge(room, levels - 1, b)?)
-        }
+        Expression::Unary(_, a) => charge(room, levels - 1, a),
     }
 }
 
@@ -73,29 +44,16 @@ pub fn charge_copies(
 pub fn charge_formula(room: &mut Room, levels: u32, f: &Formula) -> Result<(), AllocError> {
     room.take(1)?;
     match f {
-        Formula::In(a, b) => {
+        Formula::Compared(_, a, b) => {
             charge(room, levels, a)?;
-            Ok(charge(room, levels, b)?)
+            charge(room, levels, b)
         }
-        Formula::Equal(a, b) => {
-            charge(room, levels, a)?;
-            Ok(charge(room, levels, b)?)
-        }
-        Formula::AtLeast(_, e) => Ok(charge(room, levels, e)?),
-        Formula::Not(f) => Ok(charge_formula(room, levels, f)?),
-        Formula::And(parts) => Ok(charge_formulas(room, levels, parts)?),
-        Formula::Or(parts) => Ok(charge_formulas(room, levels, parts)?),
-        Formula::All(e, f) => {
+        Formula::AtLeast(_, e) => charge(room, levels, e),
+        Formula::Not(f) => charge_formula(room, levels, f),
+        Formula::Junction(_, parts) => charge_formulas(room, levels, parts),
+        Formula::Quantified(_, e, f) => {
             charge(room, levels, e)?;
-            Ok(charge_formula(room, levels, f)?)
-        }
-        Formula::Exists(e, f) => {
-            charge(room, levels, e)?;
-            Ok(charge_formula(room, levels, f)?)
-        }
-        Formula::Lone(e, f) => {
-            charge(room, levels, e)?;
-            Ok(charge_formula(room, levels, f)?)
+            charge_formula(room, levels, f)
         }
     }
 }
@@ -111,10 +69,10 @@ fn charge_formulas(room: &mut Room, levels: u32, parts: &[Formula]) -> Result<()
 // Takes the nodes of what a part became.
 pub fn charge_part(room: &mut Room, levels: u32, part: &Part) -> Result<(), AllocError> {
     match part {
-        Part::Relation(e) => Ok(charge(room, levels, e)?),
-        Part::Formula(f) => Ok(charge_formula(room, levels, f)?),
+        Part::Relation(e) => charge(room, levels, e),
+        Part::Formula(f) => charge_formula(room, levels, f),
         Part::Number(_) => Ok(()),
-        Part::Size(e) => Ok(charge(room, levels, e)?),
+        Part::Size(e) => charge(room, levels, e),
     }
 }
 
@@ -126,7 +84,7 @@ pub fn charge_prefixed(
     part: &Part,
 ) -> Result<(), AllocError> {
     match prefix {
-        Prefix::One => Ok(charge_part(room, levels, part)?),
+        Prefix::One => charge_part(room, levels, part),
         _ => Ok(()),
     }
 }
@@ -139,7 +97,7 @@ pub fn charge_compared(
     left: &Part,
 ) -> Result<(), AllocError> {
     match comparing.comparison {
-        Comparison::Equal => Ok(charge_part(room, levels, left)?),
+        Comparison::Equal => charge_part(room, levels, left),
         _ => Ok(()),
     }
 }
@@ -155,7 +113,7 @@ pub fn charge_operated(
     match operator {
         Operator::Iff => {
             charge_part(room, levels, left)?;
-            Ok(charge_part(room, levels, right)?)
+            charge_part(room, levels, right)
         }
         _ => Ok(()),
     }
@@ -174,7 +132,7 @@ pub fn charge_quantified(
         Quantifier::One => {
             charge_all(room, levels, domains)?;
             charge_formulas(room, levels, apart)?;
-            Ok(charge_formula(room, levels, body)?)
+            charge_formula(room, levels, body)
         }
         _ => Ok(()),
     }

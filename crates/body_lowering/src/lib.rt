@@ -7,6 +7,7 @@ mod charges;
 pub mod kernel_parts;
 mod locals;
 mod names;
+mod operations;
 pub mod parts;
 mod quantifiers;
 mod room;

@@ -1,6 +1,6 @@
 // Parts of bodies.
 ghost use Rattle.std.specs.Prelude.{◌≡◌, ◌+◌, ◌++◌, map, IfOk, OnOk};
-ghost use Rattle.rel_formula.specs.Kernel.{more_formulas, formulas_of};
+ghost use Rattle.rel_formula.specs.Kernel.{conjunction, more_formulas, formulas_of};
 ghost use Rattle.rel_formula.specs.View.{expression_tree, formula_tree};
 ghost use Rattle.named_model.specs.Phrase.{links_of, steps_of, domains_of};
 ghost use Rattle.named_model.specs.View.{phrase_view, phrases_view, link_view, step_view, domain_view, meaning_view, named_view};
@@ -12,17 +12,15 @@ ghost use Rattle.lowering_rules.specs.Lowering.{base_within, calls_within, lower
 ghost use Rattle.body_lowering.specs.Locals.{locals_view};
 ghost use Rattle.body_lowering.specs.Steps.{step_lowered};
 
-use crate::charges::{
-    charge_compared, charge_copies, charge_formula, charge_operated, charge_prefixed,
-};
+use crate::charges::charge_copies;
 use crate::kernel_parts::Part;
 use crate::kernel_parts::binders::add_domains;
-use crate::kernel_parts::comparisons::compared;
-use crate::kernel_parts::connectives::{choice, implication};
+use crate::kernel_parts::connectives::implication;
 use crate::kernel_parts::expressions::{constant, join};
-use crate::kernel_parts::operators::{joined, joins_all, list_of, operated, prefixed};
+use crate::kernel_parts::operators::{joined, joins_all, list_of};
 use crate::locals::{Local, enter_variables};
 use crate::names::referred;
+use crate::operations::{choice, compared, operated, prefixed};
 use crate::quantifiers::{bind, differences, number};
 use crate::room::{Depth, Room};
 use alloy_syntax::tree::{Comparing, Operator, Prefix, Quantifier};
@@ -63,41 +61,40 @@ pub fn lower(
             Ok(Part::Relation(e))
         }
         Phrase::Called(_, callee, given) => {
-            Ok(call(alloc, model, below, locals, room, *callee, given)?)
+            call(alloc, model, below, locals, room, *callee, given)
         }
         Phrase::Numbered(number) => Ok(Part::Number(number.value)),
         Phrase::Constant(word, _) => Ok(Part::Relation(constant(*word))),
-        Phrase::Bracketed(_, inner) => Ok(lower(alloc, model, below, locals, room, inner)?),
-        Phrase::Block(_, parts) => {
-            let formulas = formulas(alloc, model, below, locals, room, parts)?;
-            Ok(Part::Formula(Formula::all_of(formulas)))
-        }
+        Phrase::Bracketed(_, inner) => lower(alloc, model, below, locals, room, inner),
+        Phrase::Block(_, parts) => block(alloc, model, below, locals, room, parts),
         Phrase::Prefixed(prefix, _, inner) => {
-            Ok(prefix_of(alloc, model, below, locals, room, *prefix, inner)?)
+            prefix_of(alloc, model, below, locals, room, *prefix, inner)
         }
-        Phrase::Chain(first, links) => Ok(chain(alloc, model, below, locals, room, first, links)?),
-        Phrase::Path(head, steps) => Ok(path(alloc, model, below, locals, room, head, steps)?),
-        Phrase::Compared(left, comparing, right) => Ok(comparison(
-            alloc, model, below, locals, room, *comparing, left, right,
-        )?),
+        Phrase::Chain(first, links) => chain(alloc, model, below, locals, room, first, links),
+        Phrase::Path(head, steps) => path(alloc, model, below, locals, room, head, steps),
+        Phrase::Compared(left, comparing, right) => {
+            comparison(alloc, model, below, locals, room, *comparing, left, right)
+        }
         Phrase::Implies(left, _, right) => {
-            Ok(implies(alloc, model, below, locals, room, left, right)?)
+            implies(alloc, model, below, locals, room, left, right)
         }
-        Phrase::ImpliesElse(left, _, right, other) => Ok(implies_else(
-            alloc, model, below, locals, room, left, right, other,
-        )?),
-        Phrase::Quantified(quantifier, _, domains, inner) => Ok(quantify(
-            alloc,
-            model,
-            below,
-            locals,
-            room,
-            *quantifier,
-            domains,
-            inner,
-        )?),
+        Phrase::ImpliesElse(left, _, right, other) => {
+            implies_else(alloc, model, below, locals, room, left, right, other)
+        }
+        Phrase::Quantified(quantifier, _, domains, inner) => {
+            quantify(
+                alloc,
+                model,
+                below,
+                locals,
+                room,
+                *quantifier,
+                domains,
+                inner,
+            )
+        }
         Phrase::Let(_, given, inner) => {
-            Ok(bound_by_let(alloc, model, below, locals, room, given, inner)?)
+            bound_by_let(alloc, model, below, locals, room, given, inner)
         }
     }
 }
@@ -155,6 +152,23 @@ pub fn formulas(
         formulas.push(another)?;
     }
     Ok(formulas)
+}
+
+// What formulas become as one.
+#[cycle(parts)]
+fn block(
+    alloc: Global,
+    model: &Named,
+    at: Depth,
+    locals: &mut Vec<Local>,
+    room: &mut Room,
+    phrases: &[Phrase],
+) -> Result<Part, AllocError>
+    ensures value { IfOk result (λ p. part_view p ≡ rules.formula (conjunction (formulas_lowered (base_within at.calls (named_view model.now)) (locals_view locals.old.items) at.binders (phrases_view phrases.now)))) }
+    ensures locals { OnOk result (locals_view locals.new.items ≡ locals_view locals.old.items) }
+{
+    let formulas = formulas(alloc, model, at, locals, room, phrases)?;
+    Ok(Part::Formula(Formula::all_of(formulas)))
 }
 
 // ---- calls
@@ -227,11 +241,8 @@ pub fn meaning(
     ensures locals { OnOk result (locals_view locals.new.items ≡ locals_view locals.old.items) }
 {
     match meaning {
-        Meaning::Formulas(parts) => {
-            let formulas = formulas(alloc, model, at, locals, room, parts)?;
-            Ok(Part::Formula(Formula::all_of(formulas)))
-        }
-        Meaning::Value(_, body) => Ok(lower(alloc, model, at, locals, room, body)?),
+        Meaning::Formulas(parts) => block(alloc, model, at, locals, room, parts),
+        Meaning::Value(_, body) => lower(alloc, model, at, locals, room, body),
     }
 }
 
@@ -251,8 +262,7 @@ fn prefix_of(
     ensures locals { OnOk result (locals_view locals.new.items ≡ locals_view locals.old.items) }
 {
     let part = lower(alloc, model, at, locals, room, inner)?;
-    charge_prefixed(room, at.levels, prefix, &part)?;
-    Ok(prefixed(alloc, prefix, part)?)
+    Ok(prefixed(alloc, room, at.levels, prefix, part)?)
 }
 
 #[cycle(parts)]
@@ -271,8 +281,7 @@ fn comparison(
 {
     let left = lower(alloc, model, at, locals, room, left)?;
     let right = lower(alloc, model, at, locals, room, right)?;
-    charge_compared(room, at.levels, comparing, &left)?;
-    Ok(compared(alloc, comparing, left, right)?)
+    Ok(compared(alloc, room, at.levels, comparing, left, right)?)
 }
 
 #[cycle(parts)]
@@ -310,8 +319,7 @@ fn implies_else(
     let left = formula(alloc, model, at, locals, room, left)?;
     let right = formula(alloc, model, at, locals, room, right)?;
     let other = formula(alloc, model, at, locals, room, other)?;
-    charge_formula(room, at.levels, &left)?;
-    Ok(Part::Formula(choice(alloc, left, right, other)?))
+    Ok(Part::Formula(choice(alloc, room, at.levels, left, right, other)?))
 }
 
 // ---- chains
@@ -404,8 +412,7 @@ fn with_link(
     ensures locals { OnOk result (locals_view locals.new.items ≡ locals_view locals.old.items) }
 {
     let other = operand(alloc, model, at, locals, room, link)?;
-    charge_operated(room, at.levels, link.operator, &part, &other)?;
-    Ok(operated(alloc, link.operator, part, other)?)
+    Ok(operated(alloc, room, at.levels, link.operator, part, other)?)
 }
 
 // A chain of `&&` or of `||`.
@@ -651,9 +658,26 @@ fn add_domain(
     ensures locals { OnOk result (locals_view locals.new.items ≡ behind_variables at.binders (domain_view domain.now).count (locals_view locals.old.items)) }
 {
     let e = expression(alloc, model, at, locals, room, &domain.domain)?;
-    let count = number(domain.count)?;
-    charge_copies(room, at.levels, &e, count)?;
-    add_domains(alloc, all, &e, count)?;
+    Ok(enter(alloc, at, locals, room, all, &e, domain.count)?)
+}
+
+// Adds the domain of each of so many variables, and enters them; the number of binders behind them.
+fn enter(
+    alloc: Global,
+    at: Depth,
+    locals: &mut Vec<Local>,
+    room: &mut Room,
+    all: &mut Vec<Expression>,
+    domain: &Expression,
+    count: usize,
+) -> Result<u32, AllocError>
+    ensures value { OnOk result (map expression_tree all.new.items ≡ map expression_tree all.old.items ++ domain_of_each 0 (expression_tree domain.now) count) }
+    ensures binders { IfOk result (λ binders. binders ≡ at.binders + count) }
+    ensures locals { OnOk result (locals_view locals.new.items ≡ behind_variables at.binders count (locals_view locals.old.items)) }
+{
+    let count = number(count)?;
+    charge_copies(room, at.levels, domain, count)?;
+    add_domains(alloc, all, domain, count)?;
     Ok(enter_variables(locals, room, at.binders, count)?)
 }
 

@@ -99,5 +99,5 @@ pub fn bind(
     ensures { IfOk result (λ f. formula_tree f ≡ quantified_by quantifier (map expression_tree domains.items) (map formula_tree apart.items) (formula_tree body)) }
 {
     charge_quantified(room, levels, quantifier, &domains, &apart, &body)?;
-    Ok(quantified(alloc, quantifier, domains, apart, body)?)
+    quantified(alloc, quantifier, domains, apart, body)
 }

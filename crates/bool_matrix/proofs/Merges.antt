@@ -1,14 +1,17 @@
 -- The entries of two lists, put in by turns.
-use Rattle.std.proofs.Common.{◌≡◌, ℕ, ◌+◌, ◌<◌, ◌≤◌, List, ◌++◌, length, take, get_or, All, Contains, sym, ◌∙◌, subst, inl, inr}
-use Rattle.std.proofs.lemmas.List.{take_all}
+use Rattle.std.proofs.Common.{◌≡◌, ℕ, ◌+◌, ◌<◌, ◌≤◌, List, ◌++◌, length, take, get_or, All, Contains, sym, ◌∙◌, subst, inl, inr, arith, length-append}
+use Rattle.std.specs.declared.cmp.Ordering.TheVariants.{Less}
+use Rattle.std.proofs.lemmas.List.{take_all, get_or-append-add}
 use Rattle.std.proofs.lemmas.List.Elements.{Contains-append_left, Contains-append_right, Contains-append_cases, Contains-get_or, All-contains}
 use Rattle.tuple_core.specs.Operators.{Pred, United}
 use Rattle.tuple_core.specs.Gains.{Same, SomeGives}
+use Rattle.tuple_core.specs.Order.{tuple_cmp}
 use Rattle.tuple_core.proofs.Congruence.{same_itself, United-same}
 use Rattle.tuple_core.proofs.Steps.{more_gives, gives_same}
 use Rattle.bool_circuit.specs.Network.{Network}
 use Rattle.bool_circuit.specs.Value.{Extends}
 use Rattle.bool_matrix.specs.declared.entry.Entry.{Entry}
+use Rattle.bool_matrix.specs.Entries.{IsAscending}
 use Rattle.bool_matrix.specs.Cells.{Cells, AtEntry, TrueAt, ThereIn, TrueIn, MatrixGains}
 use Rattle.bool_matrix.proofs.Loops.{matrix_then, matrix_same}
 use Rattle.bool_matrix.proofs.Nodes.{true_at_kept}
@@ -22,6 +25,15 @@ all_part P whole done rest before after e f all = λ k d h. All-contains P whole
 
 pub rest_part : {X : Type 0} (P : X → Type 0) (whole done rest : List X) → whole ≡ done ++ rest → All P whole → All P rest
 rest_part P whole done rest e all = λ k d h. All-contains P whole (get_or rest k d) all (subst (λ zs. Contains zs (get_or rest k d)) (sym e) (Contains-append_right done rest (get_or rest k d) (Contains-get_or rest k d h)))
+
+-- the rest of a list in order is in order
+pub rest_ascending : (whole done rest : List Entry) → whole ≡ done ++ rest → IsAscending whole → IsAscending rest
+rest_ascending whole done rest e up j k d l m =
+    let all : IsAscending (done ++ rest) = subst IsAscending e up in
+    let long = length-append done rest in
+    let at : (n : ℕ) → get_or (done ++ rest) (length done + n) d ≡ get_or rest n d = λ n. get_or-append-add done rest n d in
+    subst (λ (x : Entry). tuple_cmp x.tuple (get_or rest k d).tuple ≡ Less) (at j)
+    (subst (λ (y : Entry). tuple_cmp (get_or (done ++ rest) (length done + j) d).tuple y.tuple ≡ Less) (at k) (all (length done + j) (length done + k) d (omega arith) (omega arith)))
 
 append_gives : {X : Type 0} (xs ys : List X) (R : X → Pred) → Same (United (SomeGives xs R) (SomeGives ys R)) (SomeGives (xs ++ ys) R)
 append_gives xs ys R = record {

@@ -1,112 +1,21 @@
-// Union, difference and meet.
-ghost use Rattle.std.specs.Prelude.{◌≡◌, ◌≤◌, ◌<◌, ◌+◌, ◌*◌, length, IfOk, OnOk, OnErr};
+// Union, difference and meet. Where memory was wanting, nodes may be left in the circuit.
+ghost use Rattle.std.specs.Prelude.{◌≡◌, ◌≤◌, ◌<◌, ◌+◌, ◌*◌, length, IfOk, OnOk};
 ghost use Rattle.bool_circuit.specs.Network.{size};
 ghost use Rattle.bool_circuit.specs.Value.{Extends};
 ghost use Rattle.tuple_core.specs.Operators.{United, Without, Met};
-ghost use Rattle.bool_matrix.specs.Cells.{IsCells, IsOf, ThereIn, TrueIn, IsMatrixOf};
+ghost use Rattle.bool_matrix.specs.Entries.{IsAscending, IsCountBefore};
+ghost use Rattle.bool_matrix.specs.Cells.{IsOf, ThereIn, TrueIn, IsMatrixOf};
 
-use crate::entry::Entry;
+use crate::entry::{Entry, place_of};
 use crate::matrix::Matrix;
-use crate::undo::undo;
 use bool_circuit::{Circuit, MOST_NODES};
 use std::alloc::{AllocError, Global};
 use tuple_core::Tuple;
 
 impl Matrix {
-    /// The tuples of either matrix. The arities are equal. It makes at most 16 nodes for each tuple of both.
-    pub fn union(
-        &self,
-        alloc: Global,
-        circuit: &mut Circuit,
-        other: &Matrix,
-    ) -> Result<Matrix, AllocError>
-        requires arity { self.now.arity ≡ other.now.arity }
-        requires of { IsOf circuit.old self.now }
-        requires of_other { IsOf circuit.old other.now }
-        requires room { size circuit.old + 16 * (length self.now.entries + length other.now.entries) < MOST_NODES }
-        ensures well { IfOk result (λ m. IsCells m) }
-        ensures extends { Extends circuit.old circuit.new }
-        ensures is { IfOk result (λ m. IsMatrixOf circuit.new m self.now.arity (λ inputs. United (TrueIn circuit.old self.now inputs) (TrueIn circuit.old other.now inputs)) (United (ThereIn self.now) (ThereIn other.now))) }
-        ensures size { OnOk result (size circuit.new ≤ size circuit.old + 16 * (length self.now.entries + length other.now.entries)) }
-        ensures err { OnErr result (circuit.new ≡ circuit.old) }
-    {
-        let len = circuit.len();
-        match self.united(alloc, circuit, other) {
-            Ok(made) => {
-                let _ = made.entries(); // for the proof
-                Ok(made)
-            }
-            Err(error) => {
-                undo(circuit, len);
-                Err(error)
-            }
-        }
-    }
-
-    /// The tuples of this matrix that the other has not. The arities are equal. It makes at most 16 nodes for each tuple
-    /// of both.
-    pub fn minus(
-        &self,
-        alloc: Global,
-        circuit: &mut Circuit,
-        other: &Matrix,
-    ) -> Result<Matrix, AllocError>
-        requires arity { self.now.arity ≡ other.now.arity }
-        requires of { IsOf circuit.old self.now }
-        requires of_other { IsOf circuit.old other.now }
-        requires room { size circuit.old + 16 * (length self.now.entries + length other.now.entries) < MOST_NODES }
-        ensures well { IfOk result (λ m. IsCells m) }
-        ensures extends { Extends circuit.old circuit.new }
-        ensures is { IfOk result (λ m. IsMatrixOf circuit.new m self.now.arity (λ inputs. Without (TrueIn circuit.old self.now inputs) (TrueIn circuit.old other.now inputs)) (ThereIn self.now)) }
-        ensures size { OnOk result (size circuit.new ≤ size circuit.old + 16 * (length self.now.entries + length other.now.entries)) }
-        ensures err { OnErr result (circuit.new ≡ circuit.old) }
-    {
-        let len = circuit.len();
-        match self.without(alloc, circuit, other) {
-            Ok(made) => {
-                let _ = made.entries(); // for the proof
-                Ok(made)
-            }
-            Err(error) => {
-                undo(circuit, len);
-                Err(error)
-            }
-        }
-    }
-
-    /// The tuples that both matrices have. The arities are equal. It makes at most 16 nodes for each tuple of both.
-    pub fn meet(
-        &self,
-        alloc: Global,
-        circuit: &mut Circuit,
-        other: &Matrix,
-    ) -> Result<Matrix, AllocError>
-        requires arity { self.now.arity ≡ other.now.arity }
-        requires of { IsOf circuit.old self.now }
-        requires of_other { IsOf circuit.old other.now }
-        requires room { size circuit.old + 16 * (length self.now.entries + length other.now.entries) < MOST_NODES }
-        ensures well { IfOk result (λ m. IsCells m) }
-        ensures extends { Extends circuit.old circuit.new }
-        ensures is { IfOk result (λ m. IsMatrixOf circuit.new m self.now.arity (λ inputs. Met (TrueIn circuit.old self.now inputs) (TrueIn circuit.old other.now inputs)) (Met (ThereIn self.now) (ThereIn other.now))) }
-        ensures size { OnOk result (size circuit.new ≤ size circuit.old + 16 * (length self.now.entries + length other.now.entries)) }
-        ensures err { OnErr result (circuit.new ≡ circuit.old) }
-    {
-        let len = circuit.len();
-        match self.met(alloc, circuit, other) {
-            Ok(made) => {
-                let _ = made.entries(); // for the proof
-                Ok(made)
-            }
-            Err(error) => {
-                undo(circuit, len);
-                Err(error)
-            }
-        }
-    }
-
     // The entries of both, each of this matrix behind those of the other that come before it: so each tuple goes to
     // the end.
-    fn united(
+    pub(crate) fn united(
         &self,
         alloc: Global,
         circuit: &mut Circuit,
@@ -132,7 +41,7 @@ impl Matrix {
     }
 
     // The entries of this matrix, each true where its tuple isn't in the other.
-    fn without(
+    pub(crate) fn without(
         &self,
         alloc: Global,
         circuit: &mut Circuit,
@@ -154,7 +63,7 @@ impl Matrix {
     }
 
     // The entries of this matrix whose tuples are there in the other, each true where both nodes are.
-    fn met(
+    pub(crate) fn met(
         &self,
         alloc: Global,
         circuit: &mut Circuit,
@@ -178,7 +87,11 @@ impl Matrix {
 
 // How many entries of a sorted list come before the tuple.
 fn count_before(entries: &[Entry], tuple: &Tuple) -> usize
-    ensures { result ≤ length entries.now }
+    requires { IsAscending entries.now }
+    ensures { IsCountBefore entries.now tuple.now result }
 {
-    entries.partition_point(|entry| entry.tuple.cmp(tuple).is_lt())
+    match place_of(entries, tuple) {
+        Ok(place) => place,
+        Err(place) => place,
+    }
 }

@@ -1,113 +1,18 @@
-// Restriction of the first or the last atom, and override.
-ghost use Rattle.std.specs.Prelude.{◌≡◌, ◌≤◌, ◌<◌, ◌+◌, ◌*◌, length, IfOk, OnOk, OnErr};
+// Restriction of the first or the last atom, and override. Where memory was wanting, nodes may be left in the circuit.
+ghost use Rattle.std.specs.Prelude.{◌≡◌, ◌≤◌, ◌<◌, ◌+◌, ◌*◌, length, IfOk, OnOk};
 ghost use Rattle.bool_circuit.specs.Network.{size};
 ghost use Rattle.bool_circuit.specs.Value.{Extends};
 ghost use Rattle.tuple_core.specs.Operators.{United, Overridden, DomainIn, RangeIn};
-ghost use Rattle.bool_matrix.specs.Cells.{IsCells, IsOf, ThereIn, TrueIn, FirstsOf, IsMatrixOf};
+ghost use Rattle.bool_matrix.specs.Cells.{IsOf, ThereIn, TrueIn, FirstsOf, IsMatrixOf};
 
 use crate::matrix::Matrix;
-use crate::undo::undo;
 use bool_circuit::{Circuit, MOST_NODES};
 use std::alloc::{AllocError, Global};
 use tuple_core::Tuple;
 
 impl Matrix {
-    /// The tuples of this matrix whose first atom is in the unary matrix `atoms`. It makes at most 16
-    /// nodes for each tuple of this matrix.
-    pub fn dom(
-        &self,
-        alloc: Global,
-        circuit: &mut Circuit,
-        atoms: &Matrix,
-    ) -> Result<Matrix, AllocError>
-        requires arity { atoms.now.arity ≡ 1 }
-        requires of { IsOf circuit.old self.now }
-        requires of_atoms { IsOf circuit.old atoms.now }
-        requires room { size circuit.old + 16 * length self.now.entries < MOST_NODES }
-        ensures well { IfOk result (λ m. IsCells m) }
-        ensures extends { Extends circuit.old circuit.new }
-        ensures is { IfOk result (λ m. IsMatrixOf circuit.new m self.now.arity (λ inputs. DomainIn (TrueIn circuit.old atoms.now inputs) (TrueIn circuit.old self.now inputs)) (DomainIn (ThereIn atoms.now) (ThereIn self.now))) }
-        ensures size { OnOk result (size circuit.new ≤ size circuit.old + 16 * length self.now.entries) }
-        ensures err { OnErr result (circuit.new ≡ circuit.old) }
-    {
-        let len = circuit.len();
-        match self.domain_in(alloc, circuit, atoms) {
-            Ok(made) => {
-                let _ = made.entries(); // for the proof
-                Ok(made)
-            }
-            Err(error) => {
-                undo(circuit, len);
-                Err(error)
-            }
-        }
-    }
-
-    /// The tuples of this matrix whose last atom is in the unary matrix `atoms`. It makes at most 16
-    /// nodes for each tuple of this matrix.
-    pub fn ran(
-        &self,
-        alloc: Global,
-        circuit: &mut Circuit,
-        atoms: &Matrix,
-    ) -> Result<Matrix, AllocError>
-        requires arity { atoms.now.arity ≡ 1 }
-        requires of { IsOf circuit.old self.now }
-        requires of_atoms { IsOf circuit.old atoms.now }
-        requires room { size circuit.old + 16 * length self.now.entries < MOST_NODES }
-        ensures well { IfOk result (λ m. IsCells m) }
-        ensures extends { Extends circuit.old circuit.new }
-        ensures is { IfOk result (λ m. IsMatrixOf circuit.new m self.now.arity (λ inputs. RangeIn (TrueIn circuit.old self.now inputs) (TrueIn circuit.old atoms.now inputs)) (RangeIn (ThereIn self.now) (ThereIn atoms.now))) }
-        ensures size { OnOk result (size circuit.new ≤ size circuit.old + 16 * length self.now.entries) }
-        ensures err { OnErr result (circuit.new ≡ circuit.old) }
-    {
-        let len = circuit.len();
-        match self.range_in(alloc, circuit, atoms) {
-            Ok(made) => {
-                let _ = made.entries(); // for the proof
-                Ok(made)
-            }
-            Err(error) => {
-                undo(circuit, len);
-                Err(error)
-            }
-        }
-    }
-
-    /// All of the other matrix, and the pairs of this one whose first atom is first in no pair of the other. Both
-    /// arities are 2. It makes at most 16 nodes for each pair of this matrix, and 32 for each of the other.
-    pub fn over(
-        &self,
-        alloc: Global,
-        circuit: &mut Circuit,
-        other: &Matrix,
-    ) -> Result<Matrix, AllocError>
-        requires left { self.now.arity ≡ 2 }
-        requires right { other.now.arity ≡ 2 }
-        requires of { IsOf circuit.old self.now }
-        requires of_other { IsOf circuit.old other.now }
-        requires room { size circuit.old + 16 * (length self.now.entries + 2 * length other.now.entries) < MOST_NODES }
-        ensures well { IfOk result (λ m. IsCells m) }
-        ensures extends { Extends circuit.old circuit.new }
-        ensures is { IfOk result (λ m. IsMatrixOf circuit.new m 2 (λ inputs. Overridden (TrueIn circuit.old self.now inputs) (TrueIn circuit.old other.now inputs)) (United (ThereIn other.now) (ThereIn self.now))) }
-        ensures size { OnOk result (size circuit.new ≤ size circuit.old + 16 * (length self.now.entries + 2 * length other.now.entries)) }
-        ensures err { OnErr result (circuit.new ≡ circuit.old) }
-    {
-        let len = circuit.len();
-        match self.overridden(alloc, circuit, other) {
-            Ok(made) => {
-                let _ = made.entries(); // for the proof
-                Ok(made)
-            }
-            Err(error) => {
-                undo(circuit, len);
-                Err(error)
-            }
-        }
-    }
-
     // The entries whose first atom is there, each true where both nodes are.
-    fn domain_in(
+    pub(crate) fn domain_in(
         &self,
         alloc: Global,
         circuit: &mut Circuit,
@@ -129,7 +34,7 @@ impl Matrix {
     }
 
     // The entries whose last atom is there, each true where both nodes are.
-    fn range_in(
+    pub(crate) fn range_in(
         &self,
         alloc: Global,
         circuit: &mut Circuit,
@@ -152,7 +57,7 @@ impl Matrix {
 
     // The entries of the other matrix, and those of this one, each true where its first atom is first in no pair of
     // the other.
-    fn overridden(
+    pub(crate) fn overridden(
         &self,
         alloc: Global,
         circuit: &mut Circuit,
@@ -164,7 +69,7 @@ impl Matrix {
         requires of_other { IsOf circuit.old other.now }
         requires room { size circuit.old + 16 * (length self.now.entries + 2 * length other.now.entries) < MOST_NODES }
         ensures extends { Extends circuit.old circuit.new }
-        ensures is { IfOk result (λ m. IsMatrixOf circuit.new m 2 (λ inputs. Overridden (TrueIn circuit.old self.now inputs) (TrueIn circuit.old other.now inputs)) (United (ThereIn other.now) (ThereIn self.now))) }
+        ensures is { IfOk result (λ m. IsMatrixOf circuit.new m 2 (λ inputs. Overridden (TrueIn circuit.old self.now inputs) (TrueIn circuit.old other.now inputs)) (United (ThereIn self.now) (ThereIn other.now))) }
         ensures size { OnOk result (size circuit.new ≤ size circuit.old + 16 * (length self.now.entries + 2 * length other.now.entries)) }
     {
         let firsts = other.firsts(alloc, circuit)?;

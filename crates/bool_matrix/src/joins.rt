@@ -1,5 +1,5 @@
-// Join, product and transposition.
-ghost use Rattle.std.specs.Prelude.{◌≡◌, ◌≤◌, ◌<◌, ◌+◌, ◌-◌, ◌*◌, length, IfOk, OnOk, OnErr};
+// Join, product and transposition. Where memory was wanting, nodes may be left in the circuit.
+ghost use Rattle.std.specs.Prelude.{◌≡◌, ◌≤◌, ◌<◌, ◌+◌, ◌-◌, ◌*◌, length, IfOk, OnOk};
 ghost use Rattle.bool_matrix.specs.Terms.{tuples, joins};
 ghost use Rattle.bool_circuit.specs.Network.{Network, size};
 ghost use Rattle.bool_circuit.specs.Value.{Extends};
@@ -7,76 +7,12 @@ ghost use Rattle.tuple_core.specs.Operators.{Joined, Multiplied, Transposed};
 ghost use Rattle.bool_matrix.specs.Cells.{IsCells, IsOf, ThereIn, TrueIn, IsMatrixOf};
 
 use crate::matrix::Matrix;
-use crate::undo::undo;
 use bool_circuit::{Circuit, MOST_NODES};
 use std::alloc::{AllocError, Global};
 
 impl Matrix {
-    /// Each tuple of this matrix without its last atom, and then one of the other without its first, where these
-    /// two atoms are equal. The sum of the arities is 3 to 5. It makes at most 16 nodes for each two tuples that join.
-    pub fn join(
-        &self,
-        alloc: Global,
-        circuit: &mut Circuit,
-        other: &Matrix,
-    ) -> Result<Matrix, AllocError>
-        requires low { 3 ≤ self.now.arity + other.now.arity }
-        requires high { self.now.arity + other.now.arity ≤ 5 }
-        requires of { IsOf circuit.old self.now }
-        requires of_other { IsOf circuit.old other.now }
-        requires room { size circuit.old + 16 * joins (tuples self.now) (tuples other.now) < MOST_NODES }
-        ensures well { IfOk result (λ m. IsCells m) }
-        ensures extends { Extends circuit.old circuit.new }
-        ensures is { IfOk result (λ m. IsMatrixOf circuit.new m (self.now.arity + other.now.arity - 2) (λ inputs. Joined (TrueIn circuit.old self.now inputs) (TrueIn circuit.old other.now inputs)) (Joined (ThereIn self.now) (ThereIn other.now))) }
-        ensures size { OnOk result (size circuit.new ≤ size circuit.old + 16 * joins (tuples self.now) (tuples other.now)) }
-        ensures err { OnErr result (circuit.new ≡ circuit.old) }
-    {
-        let len = circuit.len();
-        match self.joined(alloc, circuit, other) {
-            Ok(made) => {
-                let _ = made.entries(); // for the proof
-                Ok(made)
-            }
-            Err(error) => {
-                undo(circuit, len);
-                Err(error)
-            }
-        }
-    }
-
-    /// Each tuple of this matrix followed by each of the other. The sum of the arities is at most 3. It makes at most 16
-    /// nodes for each two tuples.
-    pub fn product(
-        &self,
-        alloc: Global,
-        circuit: &mut Circuit,
-        other: &Matrix,
-    ) -> Result<Matrix, AllocError>
-        requires arity { self.now.arity + other.now.arity ≤ 3 }
-        requires of { IsOf circuit.old self.now }
-        requires of_other { IsOf circuit.old other.now }
-        requires room { size circuit.old + 16 * (length self.now.entries * length other.now.entries) < MOST_NODES }
-        ensures well { IfOk result (λ m. IsCells m) }
-        ensures extends { Extends circuit.old circuit.new }
-        ensures is { IfOk result (λ m. IsMatrixOf circuit.new m (self.now.arity + other.now.arity) (λ inputs. Multiplied (TrueIn circuit.old self.now inputs) (TrueIn circuit.old other.now inputs)) (Multiplied (ThereIn self.now) (ThereIn other.now))) }
-        ensures size { OnOk result (size circuit.new ≤ size circuit.old + 16 * (length self.now.entries * length other.now.entries)) }
-        ensures err { OnErr result (circuit.new ≡ circuit.old) }
-    {
-        let len = circuit.len();
-        match self.multiplied(alloc, circuit, other) {
-            Ok(made) => {
-                let _ = made.entries(); // for the proof
-                Ok(made)
-            }
-            Err(error) => {
-                undo(circuit, len);
-                Err(error)
-            }
-        }
-    }
-
-    /// The pairs turned round. The arity is 2.
-    pub fn transpose(&self, alloc: Global) -> Result<Matrix, AllocError>
+    // The pairs turned round.
+    pub(crate) fn transposed(&self, alloc: Global) -> Result<Matrix, AllocError>
         requires { self.now.arity ≡ 2 }
         ensures well { IfOk result (λ m. IsCells m) }
         ensures is { IfOk result (λ m. (network : Network) → IsOf network self.now → IsMatrixOf network m 2 (λ inputs. Transposed (TrueIn network self.now inputs)) (Transposed (ThereIn self.now))) }
@@ -90,7 +26,7 @@ impl Matrix {
     }
 
     // What each entry of this matrix joins to with those of the other.
-    fn joined(
+    pub(crate) fn joined(
         &self,
         alloc: Global,
         circuit: &mut Circuit,
@@ -113,7 +49,7 @@ impl Matrix {
     }
 
     // Each entry of this matrix followed by each of the other.
-    fn multiplied(
+    pub(crate) fn multiplied(
         &self,
         alloc: Global,
         circuit: &mut Circuit,

@@ -9,6 +9,7 @@ mod entry;
 mod filters;
 mod joins;
 mod matrix;
+mod operators;
 mod undo;
 mod walks;
 

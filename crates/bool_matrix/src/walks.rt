@@ -1,50 +1,23 @@
-// The transitive closure.
-ghost use Rattle.std.specs.Prelude.{◌≡◌, ◌≤◌, ◌<◌, ◌+◌, ◌*◌, IfOk, OnOk, OnErr};
+// The transitive closure. Where memory was wanting, nodes may be left in the circuit.
+ghost use Rattle.std.specs.Prelude.{◌≡◌, ◌≤◌, ◌<◌, ◌+◌, ◌*◌, IfOk, OnOk};
 ghost use Rattle.bool_matrix.specs.Terms.{tuples, joins};
 ghost use Rattle.bool_circuit.specs.Network.{size};
 ghost use Rattle.bool_circuit.specs.Value.{Extends};
 ghost use Rattle.tuple_core.specs.Operators.{United, Joined, Closed};
 ghost use Rattle.bool_matrix.specs.Closure.{HasFewAtoms, HasRoom};
-ghost use Rattle.bool_matrix.specs.Cells.{IsCells, IsOf, ThereIn, TrueIn, IsMatrixOf};
+ghost use Rattle.bool_matrix.specs.Cells.{IsOf, ThereIn, TrueIn, IsMatrixOf};
 
 use crate::matrix::Matrix;
-use crate::undo::undo;
 use bool_circuit::{Circuit, MOST_NODES};
 use std::alloc::{AllocError, Global};
 use tuple_core::Atom;
 
 impl Matrix {
-    /// The pairs with a walk of one or more pairs of this matrix from the first atom to the second. The arity is 2,
-    /// and the pairs begin with at most 64 atoms. It makes at most 96 nodes for each two pairs of the result that join.
-    ///
-    /// Each squaring doubles the length of the walks, until it reaches the number of atoms that begin a pair: a
-    /// shortest walk is no longer than that.
-    pub fn closure(&self, alloc: Global, circuit: &mut Circuit) -> Result<Matrix, AllocError>
-        requires arity { self.now.arity ≡ 2 }
-        requires of { IsOf circuit.old self.now }
-        requires atoms { HasFewAtoms 64 (ThereIn self.now) }
-        requires room { HasRoom (size circuit.old) MOST_NODES (Closed (ThereIn self.now)) }
-        ensures well { IfOk result (λ m. IsCells m) }
-        ensures extends { Extends circuit.old circuit.new }
-        ensures is { IfOk result (λ m. IsMatrixOf circuit.new m 2 (λ inputs. Closed (TrueIn circuit.old self.now inputs)) (Closed (ThereIn self.now))) }
-        ensures size { IfOk result (λ m. size circuit.new ≤ size circuit.old + 16 * (6 * joins (tuples m) (tuples m))) }
-        ensures err { OnErr result (circuit.new ≡ circuit.old) }
-    {
-        let len = circuit.len();
-        match self.closed(alloc, circuit) {
-            Ok(made) => {
-                let _ = made.entries(); // for the proof
-                Ok(made)
-            }
-            Err(error) => {
-                undo(circuit, len);
-                Err(error)
-            }
-        }
-    }
-
-    // The matrix squared until its walks are as long as there are atoms that begin them.
-    fn closed(&self, alloc: Global, circuit: &mut Circuit) -> Result<Matrix, AllocError>
+    // The pairs with a walk of one or more pairs of this matrix from the first atom to the second.
+    //
+    // Each squaring doubles the length of the walks, until it reaches the number of atoms that begin a pair: a
+    // shortest walk is no longer than that.
+    pub(crate) fn closed(&self, alloc: Global, circuit: &mut Circuit) -> Result<Matrix, AllocError>
         requires arity { self.now.arity ≡ 2 }
         requires of { IsOf circuit.old self.now }
         requires atoms { HasFewAtoms 64 (ThereIn self.now) }

@@ -6,7 +6,7 @@ use Rattle.std.proofs.lemmas.Bool.{cases_lt}
 use Rattle.std.proofs.lemmas.List.{length-map}
 use Rattle.std.proofs.lemmas.List.Elements.{All-contains, Contains-append_right}
 use Rattle.tuple_core.specs.declared.atom.Atom.{Atom}
-use Rattle.rel_formula.specs.Kernel.{ExpressionTree, rel, var, nothing, univ, iden, union, minus, meet, product, join, transpose, closure, override, dom, ran}
+use Rattle.rel_formula.specs.Kernel.{ExpressionTree, rel, var, nothing, univ, iden, binary, unary}
 use Rattle.rel_formula.specs.Meaning.{Structure}
 use Rattle.rel_formula.proofs.Lists.{some_below, some-Contains}
 use Rattle.named_model.specs.Model.{MeaningTree, formulas, value, CalleeTree, NamedTree}
@@ -42,16 +42,8 @@ unshifted (var i) = ap var (add-zero i)
 unshifted nothing = refl
 unshifted univ = refl
 unshifted iden = refl
-unshifted (union a b) = λ i. union (unshifted a i) (unshifted b i)
-unshifted (minus a b) = λ i. minus (unshifted a i) (unshifted b i)
-unshifted (meet a b) = λ i. meet (unshifted a i) (unshifted b i)
-unshifted (product a b) = λ i. product (unshifted a i) (unshifted b i)
-unshifted (join a b) = λ i. join (unshifted a i) (unshifted b i)
-unshifted (transpose a) = ap transpose (unshifted a)
-unshifted (closure a) = ap closure (unshifted a)
-unshifted (override a b) = λ i. override (unshifted a i) (unshifted b i)
-unshifted (dom a b) = λ i. dom (unshifted a i) (unshifted b i)
-unshifted (ran a b) = λ i. ran (unshifted a i) (unshifted b i)
+unshifted (binary o a b) = λ i. binary o (unshifted a i) (unshifted b i)
+unshifted (unary o a) = ap (unary o) (unshifted a)
 
 pub given_is : (d : ℕ) (e : ExpressionTree) → under d (given d e) ≡ e
 given_is d e =

@@ -2,8 +2,8 @@
 use Rattle.std.proofs.Common.{◌≡◌, ◌≤◌, ℕ, zero, suc, ◌+◌, ◌-◌, List, [], ◌∷◌, length, drop, Some, slice_get, All, refl, sym, ◌∙◌, ap, subst, arith, add-zero}
 use Rattle.std.proofs.lemmas.List.Elements.{All-head, All-tail}
 use Rattle.tuple_core.specs.declared.atom.Atom.{Atom}
-use Rattle.tuple_core.specs.Operators.{Pred, United, Without, Met, Multiplied, Joined, Transposed, Closed, Overridden, DomainIn, RangeIn}
-use Rattle.rel_formula.specs.Kernel.{ExpressionTree, rel, var, nothing, univ, iden, union, minus, meet, product, join, transpose, closure, override, dom, ran}
+use Rattle.tuple_core.specs.Operators.{Pred, combined, turned}
+use Rattle.rel_formula.specs.Kernel.{ExpressionTree, rel, var, nothing, univ, iden, binary, unary}
 use Rattle.rel_formula.specs.Meaning.{Structure, InValue}
 use Rattle.lowering_rules.specs.Shifted.{shifted}
 use Rattle.lowering_rules.specs.Binders.{Local, under, local_at}
@@ -22,16 +22,8 @@ shift_seen M k env (var i) = λ j t. (a : Atom) × (get_behind env k i j ≡ Som
 shift_seen M k env nothing = refl
 shift_seen M k env univ = refl
 shift_seen M k env iden = refl
-shift_seen M k env (union a b) = λ i t. United (shift_seen M k env a i) (shift_seen M k env b i) t
-shift_seen M k env (minus a b) = λ i t. Without (shift_seen M k env a i) (shift_seen M k env b i) t
-shift_seen M k env (meet a b) = λ i t. Met (shift_seen M k env a i) (shift_seen M k env b i) t
-shift_seen M k env (product a b) = λ i t. Multiplied (shift_seen M k env a i) (shift_seen M k env b i) t
-shift_seen M k env (join a b) = λ i t. Joined (shift_seen M k env a i) (shift_seen M k env b i) t
-shift_seen M k env (transpose a) = λ i t. Transposed (shift_seen M k env a i) t
-shift_seen M k env (closure a) = λ i t. Closed (shift_seen M k env a i) t
-shift_seen M k env (override a b) = λ i t. Overridden (shift_seen M k env a i) (shift_seen M k env b i) t
-shift_seen M k env (dom s a) = λ i t. DomainIn (shift_seen M k env s i) (shift_seen M k env a i) t
-shift_seen M k env (ran a s) = λ i t. RangeIn (shift_seen M k env a i) (shift_seen M k env s i) t
+shift_seen M k env (binary o a b) = λ i t. combined o (shift_seen M k env a i) (shift_seen M k env b i) t
+shift_seen M k env (unary o a) = λ i t. turned o (shift_seen M k env a i) t
 
 module _ (M : Structure) (env : List Atom) (a : Atom) where
   -- under one variable more

@@ -95,7 +95,7 @@ joined_right ns d p m n r a b h f g =
     let same : m + n - 2 ≡ r = same_ok (m + n - 2) r v.2 in
     let x = f.1 in
     let y = g.1 in
-    ((f.0, g.0, omega arith, omega arith), omega arith)
+    ((f.0, g.0, (omega arith, omega arith)), omega arith)
 
 same_right : (ns : List ℕ) (d : ℕ) (p : Place) (m n r : ℕ) (a b : ExpressionTree) → same_arity p m n ≡ Ok r → IsOfArity ns d m a → IsOfArity ns d n b →
     (arity_of ns a ≡ arity_of ns b) × (arity_of ns a ≡ r)
@@ -125,7 +125,7 @@ operator_right ns d operator.Override p left right m n r x y h f g =
     let u = bind_ok (binary_arity p m) _ r h in
     let a = two_of p m u.0 u.1 in
     let b = two_of p n r u.2 in
-    ((f.0, g.0, f.1 ∙ a.0, g.1 ∙ b.0), b.1)
+    ((f.0, g.0, (f.1 ∙ a.0, g.1 ∙ b.0)), b.1)
 operator_right ns d operator.Domain p left right m n r x y h f g =
     let u = bind_ok (unless (m == 1) (fault.NotUnary left)) _ r h in
     let one = eq_test m 1 (unless_inv (m == 1) (fault.NotUnary left) u.0 u.1) in

@@ -3,7 +3,7 @@ use Rattle.std.specs.Prelude.{slice_index, ◌||◌, is_some, is_none, flat_map}
 use Rattle.std.proofs.Common.{◌≡◌, ◌≤◌, inl, inr, ℕ, zero, suc, ◌+◌, ◌<◌, ◌==◌, nat_le, nat_lt, List, [], ◌∷◌, ◌++◌, map, filter, length, Bool, true, false, if◌then◌else◌, Option, Some, None, slice_get, Contains, All, Ok, refl, sym, ◌∙◌, ap, subst, arith, add-zero}
 use Rattle.std.specs.List.{range_with_len}
 use Rattle.std.proofs.lemmas.List.Elements.{All-head, All-tail}
-use Rattle.alloy_syntax.specs.declared.tree.Mark.{Mark}
+use Rattle.alloy_syntax.specs.declared.tree.MultiplicityWord.{MultiplicityWord}
 use Rattle.alloy_syntax.specs.declared.tree.Multiplicity.{Multiplicity}
 use Rattle.alloy_syntax.specs.declared.tree.Multiplicity.TheVariants as multiplicity
 use Rattle.alloy_syntax.specs.declared.tree.Manner.{Manner}
@@ -49,11 +49,11 @@ word_right ns k multiplicity.Some e h = (h, tt)
 word_right ns k multiplicity.Lone e h = (h, tt)
 word_right ns k multiplicity.One e h = ((h, (h, tt)), tt)
 
-marked_right : (ns : List ℕ) (k : ℕ) (mark : Option Mark) (e : ExpressionTree) → IsWellFormed ns k e → ListProper ns k (marked mark e)
+marked_right : (ns : List ℕ) (k : ℕ) (mark : Option MultiplicityWord) (e : ExpressionTree) → IsWellFormed ns k e → ListProper ns k (marked mark e)
 marked_right ns k None e h = tt
 marked_right ns k (Some mark) e h = word_right ns k mark.multiplicity e h
 
-before_right : (ns : List ℕ) (k : ℕ) (mark : Option Mark) (e : ExpressionTree) → IsWellFormed ns k e → ListProper ns k (word_before mark e)
+before_right : (ns : List ℕ) (k : ℕ) (mark : Option MultiplicityWord) (e : ExpressionTree) → IsWellFormed ns k e → ListProper ns k (word_before mark e)
 before_right ns k None e h = ((h, (h, tt)), tt)
 before_right ns k (Some mark) e h = word_right ns k mark.multiplicity e h
 
@@ -62,10 +62,10 @@ map_right : (ns : List ℕ) (k j : ℕ) (binder : FormulaTree → FormulaTree) �
 map_right ns k j binder is [] h = tt
 map_right ns k j binder is (g ∷ gs) h = (is g h.0, map_right ns k j binder is gs h.1)
 
-no_word : (ns : List ℕ) (k : ℕ) (binder : FormulaTree → FormulaTree) (mark : Option Mark) (e : ExpressionTree) → mark ≡ None → ListProper ns k (map binder (marked mark e))
+no_word : (ns : List ℕ) (k : ℕ) (binder : FormulaTree → FormulaTree) (mark : Option MultiplicityWord) (e : ExpressionTree) → mark ≡ None → ListProper ns k (map binder (marked mark e))
 no_word ns k binder mark e none = subst (λ w. ListProper ns k (map binder (marked w e))) (sym none) tt
 
-either_none : (a b : Option Mark) → (is_some a || is_some b) ≡ false → (a ≡ None) × (b ≡ None)
+either_none : (a b : Option MultiplicityWord) → (is_some a || is_some b) ≡ false → (a ≡ None) × (b ≡ None)
 either_none None None e = (refl, refl)
 either_none None (Some b) e = absurd cc
 either_none (Some a) b e = absurd cc
@@ -217,10 +217,10 @@ module _ (ns : List ℕ) (m : NamedTree) (rank : ℕ → ℕ) (relations : HasRe
         let one = eq_test (bound_arity f.bound) 1 e in
         let o = owner_right 0 in
         map_right ns 0 1 (for_all (rel f.owner)) (λ g h. (o.0, o.1, h)) (word_before f.mark (join (var 0) (rel r)))
-        (before_right ns 1 f.mark (join (var 0) (rel r)) (omega arith, there, omega arith, omega arith))
+        (before_right ns 1 f.mark (join (var 0) (rel r)) (omega arith, there, (omega arith, omega arith)))
 
     -- under a binder for the owner and one for a side
-    side_says : (e : ExpressionTree) → IsOfArity ns 1 1 e → (mark : Option Mark) (x : ExpressionTree) → IsWellFormed ns 2 x →
+    side_says : (e : ExpressionTree) → IsOfArity ns 1 1 e → (mark : Option MultiplicityWord) (x : ExpressionTree) → IsWellFormed ns 2 x →
         ListProper ns 0 (map (λ g. for_all (rel f.owner) (for_all e g)) (marked mark x))
     side_says e h mark x w =
         let o = owner_right 0 in
@@ -242,11 +242,11 @@ module _ (ns : List ℕ) (m : NamedTree) (rank : ℕ → ℕ) (relations : HasRe
         let x = side_right left one.0 s.left one.1 in
         let y = side_right right u s.right one.2 in
         let three : slice_index ns r ≡ 3 = let sum = s.sum in let p = x.0 in let q = y.0 in omega arith in
-        let inner : IsWellFormed ns 2 (join (var 1) (rel r)) = (omega arith, there, omega arith, omega arith) in
+        let inner : IsWellFormed ns 2 (join (var 1) (rel r)) = (omega arith, there, (omega arith, omega arith)) in
         subst (λ o. ListProper ns 0 (arrow_says (base_of (settled_in m)) r f o)) (sym s.are)
         (list_both ns 0 (right_says (base_of (settled_in m)) r f left) (left_says (base_of (settled_in m)) r f right)
-        (side_says (expression_in (lowered (base_of (settled_in m)) [] 1 left)) x.1 f.right (join (var 0) (join (var 1) (rel r))) (omega arith, inner, omega arith, omega arith))
-        (side_says (expression_in (lowered (base_of (settled_in m)) [] 1 right)) y.1 f.left (join (join (var 1) (rel r)) (var 0)) (inner, omega arith, omega arith, omega arith)))
+        (side_says (expression_in (lowered (base_of (settled_in m)) [] 1 left)) x.1 f.right (join (var 0) (join (var 1) (rel r))) (omega arith, inner, (omega arith, omega arith)))
+        (side_says (expression_in (lowered (base_of (settled_in m)) [] 1 right)) y.1 f.left (join (join (var 1) (rel r)) (var 0)) (inner, omega arith, (omega arith, omega arith))))
 
     arrow_right : bound_arity f.bound ≤ 2 → (u : Unit {0}) → arrow_checked (declared_in m) f ≡ Ok u → ListProper ns 0 (arrow_says (base_of (settled_in m)) r f (sides_of f.bound))
     arrow_right few u e = elim is.words [

@@ -1,7 +1,7 @@
 -- The formula of a problem: what is said of each signature, of each field, by the facts, and by the command.
 use Rattle.std.specs.Prelude.{ℕ, ◌+◌, ◌-◌, ◌==◌, nat_lt, List, [], ◌∷◌, ◌++◌, map, filter, length, flat_map, slice_get, slice_index_or, Bool, true, false, if◌then◌else◌, Option, Some, None, is_none}
 use Rattle.std.specs.List.{range_with_len}
-use Rattle.alloy_syntax.specs.declared.tree.Mark.{Mark}
+use Rattle.alloy_syntax.specs.declared.tree.MultiplicityWord.{MultiplicityWord}
 use Rattle.alloy_syntax.specs.declared.tree.Manner.{Manner}
 use Rattle.alloy_syntax.specs.declared.tree.Manner.TheVariants as manner
 use Rattle.alloy_syntax.specs.declared.tree.Quantifier.TheVariants as quantifier
@@ -57,7 +57,7 @@ signature_says xs ls s = let x = signature_at xs s in
 -- ---- fields
 
 -- `one` where a unary bound has no word
-abbrev pub word_before : Option Mark → ExpressionTree → List FormulaTree
+abbrev pub word_before : Option MultiplicityWord → ExpressionTree → List FormulaTree
 word_before None e = one_of e ∷ []
 word_before mark e = marked mark e
 

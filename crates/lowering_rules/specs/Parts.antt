@@ -1,6 +1,6 @@
 -- What a part becomes in the kernel, and what each operator makes of its operands.
 use Rattle.std.specs.Prelude.{ℕ, ◌+◌, List, [], ◌∷◌, Bool, true, false, if◌then◌else◌, Option, Some, None}
-use Rattle.alloy_syntax.specs.declared.tree.Mark.{Mark}
+use Rattle.alloy_syntax.specs.declared.tree.MultiplicityWord.{MultiplicityWord}
 use Rattle.alloy_syntax.specs.declared.tree.Multiplicity.TheVariants as multiplicity
 use Rattle.alloy_syntax.specs.declared.tree.Constant.{Constant}
 use Rattle.alloy_syntax.specs.declared.tree.Constant.TheVariants as constants
@@ -81,7 +81,7 @@ abbrev pub exactly : ℕ → ExpressionTree → FormulaTree
 exactly n e = both (at_least n e) (at_most n e)
 
 -- what a multiplicity word says of an expression: `set`, and no word, nothing
-abbrev pub marked : Option Mark → ExpressionTree → List FormulaTree
+abbrev pub marked : Option MultiplicityWord → ExpressionTree → List FormulaTree
 marked None e = []
 marked (Some mark) e = elim mark.multiplicity [
   | multiplicity.Set ↦ []

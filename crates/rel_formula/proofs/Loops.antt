@@ -17,6 +17,9 @@ within_is {l} {r} f g = (
   λ in' k d less. let t = get_or l.rows k d in (g.just t).1 (in' t ((f.just t).0 (Contains-get_or l.rows k d less))),
 )
 
+pub rows_within : (l r : Rows) → All (Contains r.rows) l.rows ↔ IsWithin (Contains l.rows) (Contains r.rows)
+rows_within l r = within_is {l = l} {r = r} (record { arity_is = refl; just = λ t. (λ c. c, λ c. c) }) (record { arity_is = refl; just = λ t. (λ c. c, λ c. c) })
+
 -- a fact of the elements of a list, and how much of it a loop has seen
 module _ {X : Type 0} (P : X → Type 0) (xs : List X) where
   -- at no two places

@@ -3,8 +3,13 @@ use Rattle.std.proofs.Common.{◌≡◌, ℕ, zero, suc, ◌<◌, List, [], ◌�
 use Rattle.std.proofs.lemmas.List.{map-append, length-map, get_or-map}
 use Rattle.tuple_core.specs.declared.atom.Atom.{Atom}
 use Rattle.tuple_core.specs.Operators.{Pred, JoinsTo, Walk, BeginsWith, IsFirstIn}
-use Rattle.rel_formula.specs.Kernel.{ExpressionTree, rel, var, nothing, univ, iden, union, minus, meet, product, join, transpose, closure, override, dom, ran}
-use Rattle.rel_formula.specs.Kernel.{FormulaTree, within, equal, at_least, negation, conjunction, disjunction, for_all, for_some, for_at_most_one, FormulaTrees, no_formulas, more_formulas}
+use Rattle.tuple_core.specs.declared.operator.Operator.TheVariants as operator
+use Rattle.tuple_core.specs.declared.operator.UnaryOperator.TheVariants as unary_operator
+use Rattle.rel_formula.specs.declared.connectives.Comparison.TheVariants as comparison
+use Rattle.rel_formula.specs.declared.connectives.Connective.TheVariants as connective
+use Rattle.rel_formula.specs.declared.connectives.Quantifier.TheVariants as quantifier
+use Rattle.rel_formula.specs.Kernel.{ExpressionTree, rel, var, nothing, univ, iden, binary, unary}
+use Rattle.rel_formula.specs.Kernel.{FormulaTree, compared, at_least, negation, junction, quantified, FormulaTrees, no_formulas, more_formulas}
 use Rattle.rel_formula.specs.Meaning.{Structure, InValue, HasAtLeast, IsWithin, Truth, AllTrue, AnyTrue}
 use Rattle.rel_formula.proofs.Images.{map_undone}
 
@@ -46,21 +51,21 @@ moved M N f g r env (var i) t v = (f v.0, get-map f env i v.0 v.1, ap (map f) v.
 moved M N f g r env nothing t v = absurd v
 moved M N f g r env univ t v = r.universe_to t v
 moved M N f g r env iden t v = (f v.0, r.universe_to (v.0 ∷ []) v.1, ap (map f) v.2)
-moved M N f g r env (union a b) t v = elim v [ inl x ↦ inl (moved M N f g r env a t x) | inr y ↦ inr (moved M N f g r env b t y) ]
-moved M N f g r env (minus a b) t v = (
+moved M N f g r env (binary operator.Union a b) t v = elim v [ inl x ↦ inl (moved M N f g r env a t x) | inr y ↦ inr (moved M N f g r env b t y) ]
+moved M N f g r env (binary operator.Minus a b) t v = (
   moved M N f g r env a t v.0,
   λ w. let x = moved N M g f (flipped r) (map f env) b (map f t) w in
       v.1 (subst (λ u. InValue M env b u) (map_undone g f r.back t) (subst (λ xs. InValue M xs b (map g (map f t))) (map_undone g f r.back env) x)),
 )
-moved M N f g r env (meet a b) t v = (moved M N f g r env a t v.0, moved M N f g r env b t v.1)
-moved M N f g r env (product a b) t v =
+moved M N f g r env (binary operator.Meet a b) t v = (moved M N f g r env a t v.0, moved M N f g r env b t v.1)
+moved M N f g r env (binary operator.Product a b) t v =
     (map f v.0, map f v.1, moved M N f g r env a v.0 v.2, moved M N f g r env b v.1 v.3, ap (map f) v.4 ∙ map-append f v.0 v.1)
-moved M N f g r env (join a b) t v =
+moved M N f g r env (binary operator.Join a b) t v =
     (map f v.0, map f v.1, moved M N f g r env a v.0 v.2, moved M N f g r env b v.1 v.3, JoinsTo-map f v.0 v.1 t v.4)
-moved M N f g r env (transpose a) t v = (f v.0, f v.1, moved M N f g r env a (v.0 ∷ v.1 ∷ []) v.2, ap (map f) v.3)
-moved M N f g r env (closure a) t v =
+moved M N f g r env (unary unary_operator.Transpose a) t v = (f v.0, f v.1, moved M N f g r env a (v.0 ∷ v.1 ∷ []) v.2, ap (map f) v.3)
+moved M N f g r env (unary unary_operator.Closure a) t v =
     (f v.0, map f v.1, f v.2, ap (map f) v.3, Walk-map f (InValue M env a) (InValue N (map f env) a) (moved M N f g r env a) v.0 v.1 v.2 v.4)
-moved M N f g r env (override a b) t v = elim v [
+moved M N f g r env (binary operator.Override a b) t v = elim v [
   | inl y ↦ inl (moved M N f g r env b t y)
   | inr x ↦ inr (
     moved M N f g r env a t x.0,
@@ -69,9 +74,9 @@ moved M N f g r env (override a b) t v = elim v [
         (λ u w. subst (λ xs. InValue M xs b (map g u)) (map_undone g f r.back env) (moved N M g f (flipped r) (map f env) b u w)) z first),
   )
 ]
-moved M N f g r env (dom s a) t v =
+moved M N f g r env (binary operator.Dom s a) t v =
     (moved M N f g r env a t v.0, (f v.1.0, (map f v.1.1.0, ap (map f) v.1.1.1), moved M N f g r env s (v.1.0 ∷ []) v.1.2))
-moved M N f g r env (ran a s) t v =
+moved M N f g r env (binary operator.Ran a s) t v =
     (moved M N f g r env a t v.0, (f v.1.0, (map f v.1.1.0, ap (map f) v.1.1.1 ∙ map-append f v.1.1.0 (v.1.0 ∷ [])), moved M N f g r env s (v.1.0 ∷ []) v.1.2))
 
 -- the other way, at the same atoms
@@ -98,20 +103,20 @@ within_moved f g there P Q R S from to h t r = subst S (map_undone f g there t) 
 mutual
   -- the formula stays true
   pub truth_moved : (M N : Structure) (f g : Atom → Atom) → Renames M N f g → (env : List Atom) (a : FormulaTree) → Truth M env a → Truth N (map f env) a
-  truth_moved M N f g r env (within a b) h =
+  truth_moved M N f g r env (compared comparison.In a b) h =
       within_moved f g r.there (InValue M env a) (InValue M env b) (InValue N (map f env) a) (InValue N (map f env) b) (moved_back M N f g r env a) (moved M N f g r env b) h
-  truth_moved M N f g r env (equal a b) h = (
+  truth_moved M N f g r env (compared comparison.Equal a b) h = (
     within_moved f g r.there (InValue M env a) (InValue M env b) (InValue N (map f env) a) (InValue N (map f env) b) (moved_back M N f g r env a) (moved M N f g r env b) h.0,
     within_moved f g r.there (InValue M env b) (InValue M env a) (InValue N (map f env) b) (InValue N (map f env) a) (moved_back M N f g r env b) (moved M N f g r env a) h.1,
   )
   truth_moved M N f g r env (at_least n e) h = at_least_moved f g r.back (InValue M env e) (InValue N (map f env) e) (moved M N f g r env e) n h
   truth_moved M N f g r env (negation a) h = λ w. h (subst (λ xs. Truth M xs a) (map_undone g f r.back env) (truth_moved N M g f (flipped r) (map f env) a w))
-  truth_moved M N f g r env (conjunction fs) h = all_moved M N f g r env fs h
-  truth_moved M N f g r env (disjunction fs) h = any_moved M N f g r env fs h
-  truth_moved M N f g r env (for_all e a) h = λ x w.
+  truth_moved M N f g r env (junction connective.And fs) h = all_moved M N f g r env fs h
+  truth_moved M N f g r env (junction connective.Or fs) h = any_moved M N f g r env fs h
+  truth_moved M N f g r env (quantified quantifier.All e a) h = λ x w.
       subst (λ y. Truth N (y ∷ map f env) a) (r.there x) (truth_moved M N f g r (g x ∷ env) a (h (g x) (moved_back M N f g r env e (x ∷ []) w)))
-  truth_moved M N f g r env (for_some e a) h = (f h.0, moved M N f g r env e (h.0 ∷ []) h.1, truth_moved M N f g r (h.0 ∷ env) a h.2)
-  truth_moved M N f g r env (for_at_most_one e a) h = λ x y v t w u.
+  truth_moved M N f g r env (quantified quantifier.Exists e a) h = (f h.0, moved M N f g r env e (h.0 ∷ []) h.1, truth_moved M N f g r (h.0 ∷ env) a h.2)
+  truth_moved M N f g r env (quantified quantifier.Lone e a) h = λ x y v t w u.
       let s = subst (λ xs. Truth M (g x ∷ xs) a) (map_undone g f r.back env) (truth_moved N M g f (flipped r) (x ∷ map f env) a t) in
       let z = subst (λ xs. Truth M (g y ∷ xs) a) (map_undone g f r.back env) (truth_moved N M g f (flipped r) (y ∷ map f env) a u) in
       sym (r.there x) ∙ ap f (h (g x) (g y) (moved_back M N f g r env e (x ∷ []) v) s (moved_back M N f g r env e (y ∷ []) w) z) ∙ r.there y

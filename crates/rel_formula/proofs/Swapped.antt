@@ -1,20 +1,19 @@
 -- The numbers of a scenario, each in the place of its cell's image, and then in rising order.
-use Rattle.std.proofs.Common.{◌≡◌, ◌≢◌, ℕ, zero, suc, ◌+◌, ◌<◌, ◌≤◌, ◌↔◌, ◌⊎◌, inl, inr, Bool, true, false, List, [], ◌∷◌, map, length, get_or, set, slice_get, Option, Some, None, Contains, All, AllPairs, refl, sym, ◌∙◌, ap, subst, arith, eqb}
+use Rattle.std.proofs.Common.{◌≡◌, ℕ, suc, ◌+◌, ◌<◌, ◌≤◌, ◌↔◌, inl, inr, false, List, [], ◌∷◌, map, length, get_or, set, slice_get, Option, Some, None, refl, sym, ◌∙◌, ap, subst, arith, eqb}
 use Rattle.std.specs.List.{IsDistinct, AllByRecursion}
 use Rattle.std.specs.List.Sorted.{IsPermutation, IsNonDecreasing}
 use Rattle.std.proofs.lemmas.Bool.{cases_lt, cases_eq, eq-eqb, ne_eqb}
 use Rattle.std.proofs.lemmas.List.{get_or_default, length-set, get_or-set_same, get_or-set_other}
-use Rattle.std.proofs.lemmas.List.Elements.{All-contains, Contains-get_or}
 use Rattle.std.proofs.lemmas.List.Kept.{AllPairs-from_increasing}
 use Rattle.std.proofs.lemmas.List.Sorted.{IsPermutation-sym, Contains-permutation, All-permutation}
 use Rattle.std.proofs.lemmas.Map.Keys.{IsDistinct-cons, IsDistinct-IsPermutation, IsStrictlyIncreasing-from_distinct}
 use Rattle.tuple_core.specs.declared.atom.Atom.{Atom}
 use Rattle.tuple_core.specs.Swap.{swap_atoms}
 use Rattle.rel_formula.specs.Bounds.{Bounded, IsProblem, cell_of, cells_of}
-use Rattle.rel_formula.specs.Instance.{AreCells, IsScenario, HasCell}
+use Rattle.rel_formula.specs.Instance.{AreCells}
 use Rattle.rel_formula.specs.Renaming.{KeepsBounds, IsCellImage, IsImage}
 use Rattle.rel_formula.proofs.RisingNumbers.{Rises}
-use Rattle.rel_formula.proofs.Lists.{get-Some, some_at, some_below}
+use Rattle.rel_formula.proofs.Lists.{get-Some, some_below}
 use Rattle.rel_formula.proofs.OpenCells.{cell_once}
 use Rattle.rel_formula.proofs.Images.{cell_parts, one_row, image_cell}
 use Rattle.rel_formula.proofs.SwapLaws.{swap_back}

@@ -1,5 +1,5 @@
 -- Problems of sets between bounds, the upper one of each being the same set of atoms, and the lower one that or none.
-use Rattle.std.proofs.Common.{◌≡◌, ◌≢◌, ℕ, ◌+◌, ◌*◌, ◌<◌, ◌≤◌, ◌↔◌, ◌⊎◌, inl, inr, List, [], ◌∷◌, ◌++◌, map, length, get_or, Contains, All, AllPairs, refl, sym, ◌∙◌, ap, subst, arith}
+use Rattle.std.proofs.Common.{◌≡◌, ◌≢◌, ℕ, ◌+◌, ◌*◌, ◌<◌, ◌≤◌, ◌↔◌, ◌⊎◌, inl, inr, List, [], ◌∷◌, map, length, get_or, Contains, All, AllPairs, refl, sym, ◌∙◌, ap, subst, arith}
 use Rattle.std.proofs.lemmas.Bool.{cases_lt}
 use Rattle.std.proofs.lemmas.List.{length-map, length-append, get_or_past}
 use Rattle.std.proofs.lemmas.List.Elements.{All-contains, All-nil, All-cons, All-head, All-tail, Contains-get_or}
@@ -8,7 +8,7 @@ use Rattle.tuple_core.specs.Rows.{Rows, IsRows, SetGains}
 use Rattle.tuple_core.specs.Swap.{swap_atoms}
 use Rattle.rel_formula.specs.declared.problem.Relation.{Relation}
 use Rattle.rel_formula.specs.Kernel.{FormulaTree}
-use Rattle.rel_formula.specs.Bounds.{Bounded, IsRelation, IsProblem, IsAtomOf, relation_at, open_tuples, cell_of, cells_from, cells_of}
+use Rattle.rel_formula.specs.Bounds.{Bounded, IsRelation, IsProblem, IsAtomOf, relation_at, open_tuples, cell_of, cells_from}
 use Rattle.rel_formula.specs.Shape.{IsProper}
 use Rattle.rel_formula.specs.Renaming.{IsRenaming, KeepsBounds, IsSymmetric}
 use Rattle.rel_formula.proofs.OpenCells.{cons_first}

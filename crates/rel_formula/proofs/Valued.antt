@@ -1,44 +1,14 @@
 -- Sets of tuples for the values of expressions.
-use Rattle.std.proofs.Common.{◌≡◌, ℕ, ◌+◌, ◌-◌, ◌<◌, List, [], ◌∷◌, Contains, ◌∙◌, ap, subst, sym, arith, refl, length, get_or, reverse, Some, slice_get}
+use Rattle.std.proofs.Common.{◌≡◌, ℕ, ◌-◌, ◌<◌, List, [], ◌∷◌, Contains, ◌∙◌, ap, subst, sym, arith, refl, length, get_or, reverse, Some, slice_get}
 use Rattle.std.proofs.lemmas.List.{get_or-map, get_or_default, get_or-reverse, length-reverse, length-map}
 use Rattle.tuple_core.specs.declared.atom.Atom.{Atom}
-use Rattle.tuple_core.specs.Operators.{Pred, BeginsWith, United, Without, Met, Joined, Multiplied, Transposed, Closed, Overridden, DomainIn, RangeIn}
+use Rattle.tuple_core.specs.Operators.{Pred, BeginsWith}
 use Rattle.tuple_core.specs.Gains.{Same, SomeGives}
 use Rattle.tuple_core.specs.Rows.{Rows, IsSetOf}
-use Rattle.tuple_core.proofs.Congruence.{United-same, Without-same, Met-same, Joined-same, Multiplied-same, Transposed-same, Closed-same, Overridden-same, DomainIn-same, RangeIn-same, rows_same, set_of_same}
+use Rattle.tuple_core.proofs.Congruence.{set_of_same}
 use Rattle.rel_formula.specs.Tables.{Tabled, arities, values_of}
 use Rattle.rel_formula.proofs.Lists.{get-Some, some_at}
 use Rattle.rel_formula.proofs.Tabled.{no_rows}
-
-pub union_is : {l r v : Rows} {n m : ℕ} {P Q : Pred} → IsSetOf l n P → IsSetOf r m Q → IsSetOf v l.arity (United (Contains l.rows) (Contains r.rows)) → IsSetOf v n (United P Q)
-union_is f g is = set_of_same f.arity_is (United-same (rows_same f) (rows_same g)) is
-
-pub minus_is : {l r v : Rows} {n m : ℕ} {P Q : Pred} → IsSetOf l n P → IsSetOf r m Q → IsSetOf v l.arity (Without (Contains l.rows) (Contains r.rows)) → IsSetOf v n (Without P Q)
-minus_is f g is = set_of_same f.arity_is (Without-same (rows_same f) (rows_same g)) is
-
-pub meet_is : {l r v : Rows} {n m : ℕ} {P Q : Pred} → IsSetOf l n P → IsSetOf r m Q → IsSetOf v l.arity (Met (Contains l.rows) (Contains r.rows)) → IsSetOf v n (Met P Q)
-meet_is f g is = set_of_same f.arity_is (Met-same (rows_same f) (rows_same g)) is
-
-pub product_is : {l r v : Rows} {n m : ℕ} {P Q : Pred} → IsSetOf l n P → IsSetOf r m Q → IsSetOf v (l.arity + r.arity) (Multiplied (Contains l.rows) (Contains r.rows)) → IsSetOf v (n + m) (Multiplied P Q)
-product_is f g is = set_of_same (let a = f.arity_is in let b = g.arity_is in omega arith) (Multiplied-same (rows_same f) (rows_same g)) is
-
-pub join_is : {l r v : Rows} {n m : ℕ} {P Q : Pred} → IsSetOf l n P → IsSetOf r m Q → IsSetOf v (l.arity + r.arity - 2) (Joined (Contains l.rows) (Contains r.rows)) → IsSetOf v (n + m - 2) (Joined P Q)
-join_is f g is = set_of_same (let a = f.arity_is in let b = g.arity_is in omega arith) (Joined-same (rows_same f) (rows_same g)) is
-
-pub transpose_is : {l v : Rows} {n : ℕ} {P : Pred} → IsSetOf l n P → IsSetOf v 2 (Transposed (Contains l.rows)) → IsSetOf v 2 (Transposed P)
-transpose_is f is = set_of_same refl (Transposed-same (rows_same f)) is
-
-pub closure_is : {l v : Rows} {n : ℕ} {P : Pred} → IsSetOf l n P → IsSetOf v 2 (Closed (Contains l.rows)) → IsSetOf v 2 (Closed P)
-closure_is f is = set_of_same refl (Closed-same (rows_same f)) is
-
-pub over_is : {l r v : Rows} {n m : ℕ} {P Q : Pred} → IsSetOf l n P → IsSetOf r m Q → IsSetOf v 2 (Overridden (Contains l.rows) (Contains r.rows)) → IsSetOf v 2 (Overridden P Q)
-over_is f g is = set_of_same refl (Overridden-same (rows_same f) (rows_same g)) is
-
-pub dom_is : {s l v : Rows} {n m : ℕ} {S P : Pred} → IsSetOf s n S → IsSetOf l m P → IsSetOf v l.arity (DomainIn (Contains s.rows) (Contains l.rows)) → IsSetOf v m (DomainIn S P)
-dom_is f g is = set_of_same g.arity_is (DomainIn-same (rows_same f) (rows_same g)) is
-
-pub ran_is : {l s v : Rows} {n m : ℕ} {P S : Pred} → IsSetOf l n P → IsSetOf s m S → IsSetOf v l.arity (RangeIn (Contains l.rows) (Contains s.rows)) → IsSetOf v n (RangeIn P S)
-ran_is f g is = set_of_same f.arity_is (RangeIn-same (rows_same f) (rows_same g)) is
 
 pub relation_is : (tables : Tabled) (r : ℕ) (x v : Rows) → r < length (arities tables) → x ≡ get_or tables.values r x → v ≡ x → IsSetOf v (get_or (arities tables) r 0) (values_of tables.values r)
 relation_is tables r x v m e f =

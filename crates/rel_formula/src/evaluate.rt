@@ -1,14 +1,15 @@
 // The plain evaluator: the value of an expression and the truth of a formula, over the relations' sets of tuples.
 ghost use Rattle.std.specs.Prelude.{◌≡◌, ◌+◌, [], ◌∷◌, All, AllPairs, Any, Contains, List, length, map, reverse, IfOk, IsTrue, ◌↔◌};
 ghost use Rattle.rel_formula.specs.View.{expression_tree, formula_tree};
-ghost use Rattle.rel_formula.specs.Meaning.{InValue, IsWithin, AreEqual, HasAtLeast, Truth};
-ghost use Rattle.rel_formula.specs.Evaluation.{IsTrueAt, AreNotBothTrue};
+ghost use Rattle.rel_formula.specs.Meaning.{InValue, AreEqual, Compares, HasAtLeast, Truth};
+ghost use Rattle.rel_formula.specs.Evaluation.{HoldsOf, IsTrueAt, AreNotBothTrue, IsTrueAtRows};
 ghost use Rattle.rel_formula.specs.Shape.{arity_of, IsWellFormed, IsProper};
 ghost use Rattle.rel_formula.specs.Tables.{arities, tabled};
 ghost use Rattle.rel_formula.specs.Sizes.{HasSize};
 ghost use Rattle.tuple_core.specs.declared.atom.Atom.{Atom as AtomRecord};
 ghost use Rattle.tuple_core.specs.Rows.{IsSetOf};
 
+use crate::connectives::{Comparison, Connective, Quantifier};
 use crate::formula::{Expression, Formula};
 use crate::tables::Tables;
 use std::alloc::{AllocError, Global};
@@ -31,53 +32,14 @@ pub fn value(
         Expression::None => Ok(TupleSet::new(alloc, 1)),
         Expression::Univ => Ok(tables.universe().copy(alloc)?),
         Expression::Iden => Ok(identity(alloc, tables.universe())?),
-        Expression::Union(a, b) => {
+        Expression::Binary(operator, a, b) => {
             let left = value(alloc, tables, env, a)?;
             let right = value(alloc, tables, env, b)?;
-            Ok(left.union(alloc, &right)?)
+            Ok(left.combine(alloc, *operator, &right)?)
         }
-        Expression::Minus(a, b) => {
-            let left = value(alloc, tables, env, a)?;
-            let right = value(alloc, tables, env, b)?;
-            Ok(left.minus(alloc, &right)?)
-        }
-        Expression::Meet(a, b) => {
-            let left = value(alloc, tables, env, a)?;
-            let right = value(alloc, tables, env, b)?;
-            Ok(left.meet(alloc, &right)?)
-        }
-        Expression::Product(a, b) => {
-            let left = value(alloc, tables, env, a)?;
-            let right = value(alloc, tables, env, b)?;
-            Ok(left.product(alloc, &right)?)
-        }
-        Expression::Join(a, b) => {
-            let left = value(alloc, tables, env, a)?;
-            let right = value(alloc, tables, env, b)?;
-            Ok(left.join(alloc, &right)?)
-        }
-        Expression::Transpose(a) => {
+        Expression::Unary(operator, a) => {
             let pairs = value(alloc, tables, env, a)?;
-            Ok(pairs.transpose(alloc)?)
-        }
-        Expression::Closure(a) => {
-            let pairs = value(alloc, tables, env, a)?;
-            Ok(pairs.closure(alloc)?)
-        }
-        Expression::Override(a, b) => {
-            let left = value(alloc, tables, env, a)?;
-            let right = value(alloc, tables, env, b)?;
-            Ok(left.over(alloc, &right)?)
-        }
-        Expression::Dom(s, a) => {
-            let atoms = value(alloc, tables, env, s)?;
-            let tuples = value(alloc, tables, env, a)?;
-            Ok(tuples.dom(alloc, &atoms)?)
-        }
-        Expression::Ran(a, s) => {
-            let tuples = value(alloc, tables, env, a)?;
-            let atoms = value(alloc, tables, env, s)?;
-            Ok(tuples.ran(alloc, &atoms)?)
+            Ok(pairs.turn(alloc, *operator)?)
         }
     }
 }
@@ -118,27 +80,40 @@ pub fn truth(
     ensures env { IfOk result (λ _. env.new.items ≡ env.old.items) }
 {
     match f {
-        Formula::In(a, b) => Ok(is_within(alloc, tables, env.as_slice(), a, b)?),
-        Formula::Equal(a, b) => Ok(is_equal(alloc, tables, env.as_slice(), a, b)?),
+        Formula::Compared(comparison, a, b) => {
+            Ok(compares(alloc, tables, env.as_slice(), *comparison, a, b)?)
+        }
         Formula::AtLeast(n, e) => Ok(has_at_least(alloc, tables, env.as_slice(), *n, e)?),
         Formula::Not(g) => {
             let holds = truth(alloc, tables, env, g)?;
             Ok(!holds)
         }
-        Formula::And(parts) => Ok(all_true(alloc, tables, env, parts)?),
-        Formula::Or(parts) => Ok(any_true(alloc, tables, env, parts)?),
-        Formula::All(e, g) => {
-            let domain = value(alloc, tables, env.as_slice(), e)?;
-            Ok(true_for_all(alloc, tables, env, domain.rows(), g)?)
+        Formula::Junction(connective, parts) => {
+            Ok(true_of(alloc, tables, env, *connective, parts)?)
         }
-        Formula::Exists(e, g) => {
+        Formula::Quantified(quantifier, e, g) => {
             let domain = value(alloc, tables, env.as_slice(), e)?;
-            Ok(true_for_some(alloc, tables, env, domain.rows(), g)?)
+            Ok(true_for(alloc, tables, env, *quantifier, domain.rows(), g)?)
         }
-        Formula::Lone(e, g) => {
-            let domain = value(alloc, tables, env.as_slice(), e)?;
-            Ok(true_for_at_most_one(alloc, tables, env, domain.rows(), g)?)
-        }
+    }
+}
+
+// Whether all formulas are true, or some.
+#[cycle(truth)]
+fn true_of(
+    alloc: Global,
+    tables: &Tables,
+    env: &mut Vec<Atom>,
+    connective: Connective,
+    parts: &[Formula],
+) -> Result<bool, AllocError>
+    requires proper { All (λ f. IsProper (arities tables.now) (length env.old.items) (formula_tree f)) parts.now }
+    ensures truth { IfOk result (λ b. IsTrue b ↔ HoldsOf connective (λ f. Truth (tabled tables.now) (reverse env.old.items) (formula_tree f)) parts.now) }
+    ensures env { IfOk result (λ _. env.new.items ≡ env.old.items) }
+{
+    match connective {
+        Connective::And => Ok(all_true(alloc, tables, env, parts)?),
+        Connective::Or => Ok(any_true(alloc, tables, env, parts)?),
     }
 }
 
@@ -182,6 +157,28 @@ fn any_true(
         }
     }
     Ok(false)
+}
+
+// Whether the formula is true at the atoms of all of these tuples, of some, or of no two.
+#[cycle(truth)]
+fn true_for(
+    alloc: Global,
+    tables: &Tables,
+    env: &mut Vec<Atom>,
+    quantifier: Quantifier,
+    rows: &[Tuple],
+    f: &Formula,
+) -> Result<bool, AllocError>
+    requires proper { IsProper (arities tables.now) (length env.old.items + 1) (formula_tree f.now) }
+    requires single { All (λ row. length row ≡ 1) rows.now }
+    ensures truth { IfOk result (λ b. IsTrue b ↔ IsTrueAtRows quantifier (tabled tables.now) (reverse env.old.items) (formula_tree f.now) rows.now) }
+    ensures env { IfOk result (λ _. env.new.items ≡ env.old.items) }
+{
+    match quantifier {
+        Quantifier::All => Ok(true_for_all(alloc, tables, env, rows, f)?),
+        Quantifier::Exists => Ok(true_for_some(alloc, tables, env, rows, f)?),
+        Quantifier::Lone => Ok(true_for_at_most_one(alloc, tables, env, rows, f)?),
+    }
 }
 
 // Whether the formula is true at the atom of each of these tuples.
@@ -277,40 +274,34 @@ fn true_at(
     Ok(holds)
 }
 
-// Whether the value of the one expression is in that of the other.
-fn is_within(
+// Whether the values of the two expressions compare so.
+fn compares(
     alloc: Global,
     tables: &Tables,
     env: &[Atom],
+    comparison: Comparison,
     a: &Expression,
     b: &Expression,
 ) -> Result<bool, AllocError>
     requires left { IsWellFormed (arities tables.now) (length env.now) (expression_tree a.now) }
     requires right { IsWellFormed (arities tables.now) (length env.now) (expression_tree b.now) }
-    ensures { IfOk result (λ is. IsTrue is ↔ IsWithin (InValue (tabled tables.now) (reverse env.now) (expression_tree a.now)) (InValue (tabled tables.now) (reverse env.now) (expression_tree b.now))) }
+    ensures { IfOk result (λ is. IsTrue is ↔ Compares comparison (InValue (tabled tables.now) (reverse env.now) (expression_tree a.now)) (InValue (tabled tables.now) (reverse env.now) (expression_tree b.now))) }
 {
     let left = value(alloc, tables, env, a)?;
     let right = value(alloc, tables, env, b)?;
-    Ok(left.is_subset(&right))
+    match comparison {
+        Comparison::In => Ok(left.is_subset(&right)),
+        Comparison::Equal => Ok(are_equal(&left, &right)),
+    }
 }
 
-// Whether the two values have the same tuples.
-fn is_equal(
-    alloc: Global,
-    tables: &Tables,
-    env: &[Atom],
-    a: &Expression,
-    b: &Expression,
-) -> Result<bool, AllocError>
-    requires left { IsWellFormed (arities tables.now) (length env.now) (expression_tree a.now) }
-    requires right { IsWellFormed (arities tables.now) (length env.now) (expression_tree b.now) }
-    ensures { IfOk result (λ is. IsTrue is ↔ AreEqual (InValue (tabled tables.now) (reverse env.now) (expression_tree a.now)) (InValue (tabled tables.now) (reverse env.now) (expression_tree b.now))) }
+// Whether the sets have the same tuples.
+fn are_equal(left: &TupleSet, right: &TupleSet) -> bool
+    ensures { IsTrue result ↔ AreEqual (Contains left.now.rows) (Contains right.now.rows) }
 {
-    let left = value(alloc, tables, env, a)?;
-    let right = value(alloc, tables, env, b)?;
-    let within = left.is_subset(&right);
-    let around = right.is_subset(&left);
-    Ok(within && around)
+    let within = left.is_subset(right);
+    let around = right.is_subset(left);
+    within && around
 }
 
 // Whether the value has so many tuples or more.

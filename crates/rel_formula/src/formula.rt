@@ -3,7 +3,9 @@ ghost use Rattle.std.specs.Prelude.{◌≡◌, map, IfOk};
 ghost use Rattle.rel_formula.specs.Kernel.{conjunction, disjunction, formulas_of};
 ghost use Rattle.rel_formula.specs.View.{expression_tree, formula_tree};
 
+use crate::connectives::{Comparison, Connective, Quantifier};
 use std::alloc::{AllocError, Global};
+use tuple_core::{Operator, UnaryOperator};
 
 /// An expression, whose value is a set of tuples of one arity.
 #[derive(Drop)]
@@ -18,38 +20,21 @@ pub enum Expression {
     Univ,
     /// Each atom of these beside itself.
     Iden,
-    Union(Box<Expression>, Box<Expression>),
-    Minus(Box<Expression>, Box<Expression>),
-    Meet(Box<Expression>, Box<Expression>),
-    Product(Box<Expression>, Box<Expression>),
-    Join(Box<Expression>, Box<Expression>),
-    Transpose(Box<Expression>),
-    Closure(Box<Expression>),
-    /// The second set, and the pairs of the first whose first atom is first in no pair of the second.
-    Override(Box<Expression>, Box<Expression>),
-    /// The tuples of the second set whose first atom is in the first, which is a set of atoms.
-    Dom(Box<Expression>, Box<Expression>),
-    /// The tuples of the first set whose last atom is in the second, which is a set of atoms.
-    Ran(Box<Expression>, Box<Expression>),
+    Binary(Operator, Box<Expression>, Box<Expression>),
+    /// Of a set of pairs.
+    Unary(UnaryOperator, Box<Expression>),
 }
 
 /// A formula, which is true or false.
 #[derive(Drop)]
 pub enum Formula {
-    /// Each tuple of the first set is in the second.
-    In(Expression, Expression),
-    Equal(Expression, Expression),
+    Compared(Comparison, Expression, Expression),
     /// The set has so many tuples or more.
     AtLeast(u32, Expression),
     Not(Box<Formula>),
-    And(Vec<Formula>),
-    Or(Vec<Formula>),
-    /// For each atom of the set.
-    All(Expression, Box<Formula>),
-    /// For some atom of the set.
-    Exists(Expression, Box<Formula>),
-    /// For at most one atom of the set.
-    Lone(Expression, Box<Formula>),
+    Junction(Connective, Vec<Formula>),
+    /// Of the atoms of a set.
+    Quantified(Quantifier, Expression, Box<Formula>),
 }
 
 impl Expression {
@@ -63,53 +48,14 @@ impl Expression {
             Expression::None => Ok(Expression::None),
             Expression::Univ => Ok(Expression::Univ),
             Expression::Iden => Ok(Expression::Iden),
-            Expression::Union(a, b) => {
+            Expression::Binary(operator, a, b) => {
                 let left = a.copy(alloc)?;
                 let right = b.copy(alloc)?;
-                Ok(Expression::Union(Box::new(alloc, left)?, Box::new(alloc, right)?))
+                Ok(Expression::Binary(*operator, Box::new(alloc, left)?, Box::new(alloc, right)?))
             }
-            Expression::Minus(a, b) => {
-                let left = a.copy(alloc)?;
-                let right = b.copy(alloc)?;
-                Ok(Expression::Minus(Box::new(alloc, left)?, Box::new(alloc, right)?))
-            }
-            Expression::Meet(a, b) => {
-                let left = a.copy(alloc)?;
-                let right = b.copy(alloc)?;
-                Ok(Expression::Meet(Box::new(alloc, left)?, Box::new(alloc, right)?))
-            }
-            Expression::Product(a, b) => {
-                let left = a.copy(alloc)?;
-                let right = b.copy(alloc)?;
-                Ok(Expression::Product(Box::new(alloc, left)?, Box::new(alloc, right)?))
-            }
-            Expression::Join(a, b) => {
-                let left = a.copy(alloc)?;
-                let right = b.copy(alloc)?;
-                Ok(Expression::Join(Box::new(alloc, left)?, Box::new(alloc, right)?))
-            }
-            Expression::Transpose(a) => {
+            Expression::Unary(operator, a) => {
                 let pairs = a.copy(alloc)?;
-                Ok(Expression::Transpose(Box::new(alloc, pairs)?))
-            }
-            Expression::Closure(a) => {
-                let pairs = a.copy(alloc)?;
-                Ok(Expression::Closure(Box::new(alloc, pairs)?))
-            }
-            Expression::Override(a, b) => {
-                let left = a.copy(alloc)?;
-                let right = b.copy(alloc)?;
-                Ok(Expression::Override(Box::new(alloc, left)?, Box::new(alloc, right)?))
-            }
-            Expression::Dom(a, b) => {
-                let left = a.copy(alloc)?;
-                let right = b.copy(alloc)?;
-                Ok(Expression::Dom(Box::new(alloc, left)?, Box::new(alloc, right)?))
-            }
-            Expression::Ran(a, b) => {
-                let left = a.copy(alloc)?;
-                let right = b.copy(alloc)?;
-                Ok(Expression::Ran(Box::new(alloc, left)?, Box::new(alloc, right)?))
+                Ok(Expression::Unary(*operator, Box::new(alloc, pairs)?))
             }
         }
     }
@@ -120,14 +66,14 @@ impl Formula {
     pub fn all_of(parts: Vec<Formula>) -> Formula
         ensures { formula_tree result ≡ conjunction (formulas_of (map formula_tree parts.items)) }
     {
-        Formula::And(parts)
+        Formula::Junction(Connective::And, parts)
     }
 
     /// The formula that is true where some of these is.
     pub fn any_of(parts: Vec<Formula>) -> Formula
         ensures { formula_tree result ≡ disjunction (formulas_of (map formula_tree parts.items)) }
     {
-        Formula::Or(parts)
+        Formula::Junction(Connective::Or, parts)
     }
 
     /// An equal formula.
@@ -136,26 +82,20 @@ impl Formula {
         ensures { IfOk result (λ f. formula_tree f ≡ formula_tree self.now) }
     {
         match self {
-            Formula::In(a, b) => Ok(Formula::In(a.copy(alloc)?, b.copy(alloc)?)),
-            Formula::Equal(a, b) => Ok(Formula::Equal(a.copy(alloc)?, b.copy(alloc)?)),
+            Formula::Compared(comparison, a, b) => {
+                Ok(Formula::Compared(*comparison, a.copy(alloc)?, b.copy(alloc)?))
+            }
             Formula::AtLeast(n, e) => Ok(Formula::AtLeast(*n, e.copy(alloc)?)),
             Formula::Not(f) => {
                 let inner = f.copy(alloc)?;
                 Ok(Formula::Not(Box::new(alloc, inner)?))
             }
-            Formula::And(parts) => Ok(Formula::all_of(copies(alloc, parts)?)),
-            Formula::Or(parts) => Ok(Formula::any_of(copies(alloc, parts)?)),
-            Formula::All(e, f) => {
-                let body = f.copy(alloc)?;
-                Ok(Formula::All(e.copy(alloc)?, Box::new(alloc, body)?))
+            Formula::Junction(connective, parts) => {
+                Ok(Formula::Junction(*connective, copies(alloc, parts)?))
             }
-            Formula::Exists(e, f) => {
+            Formula::Quantified(quantifier, e, f) => {
                 let body = f.copy(alloc)?;
-                Ok(Formula::Exists(e.copy(alloc)?, Box::new(alloc, body)?))
-            }
-            Formula::Lone(e, f) => {
-                let body = f.copy(alloc)?;
-                Ok(Formula::Lone(e.copy(alloc)?, Box::new(alloc, body)?))
+                Ok(Formula::Quantified(*quantifier, e.copy(alloc)?, Box::new(alloc, body)?))
             }
         }
     }

@@ -2,6 +2,7 @@
 //! evaluator that says whether a scenario is an instance.
 #![tactic(auto)]
 
+mod connectives;
 mod evaluate;
 mod formula;
 mod instance;
@@ -10,6 +11,7 @@ mod problem;
 mod scenario;
 mod tables;
 
+pub use crate::connectives::{Comparison, Connective, Quantifier};
 pub use crate::formula::{Expression, Formula};
 pub use crate::instance::holds;
 pub use crate::problem::{Cell, Problem, Relation};

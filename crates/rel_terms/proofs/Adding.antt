@@ -1,16 +1,15 @@
 -- How a running number goes on.
-use Rattle.std.proofs.Common.{◌≡◌, ℕ, ◌+◌, ◌*◌, ◌≤◌, ◌<◌, ◌^◌, List, [], ◌∷◌, inl, inr, refl, sym, ◌∙◌, ap, subst, arith, length, Contains}
-use Rattle.std.proofs.Math.Nat.{mul-le-mul_left, two-mul, one-mul}
+use Rattle.std.proofs.Common.{◌≡◌, ℕ, ◌+◌, ◌*◌, ◌≤◌, ◌<◌, ◌^◌, List, inl, inr, refl, sym, ◌∙◌, ap, subst, arith, length, Contains}
+use Rattle.std.proofs.Math.Nat.{mul-le-mul_left, one-mul}
 use Rattle.std.proofs.lemmas.Bool.{cases_lt}
 use Rattle.tuple_core.specs.declared.atom.Atom.{Atom}
 use Rattle.tuple_core.specs.Operators.{Pred}
-use Rattle.tuple_core.specs.Gains.{Same}
 use Rattle.tuple_core.specs.Rows.{Rows, IsRows, IsSetOf}
 use Rattle.rel_formula.specs.Meaning.{HasAtLeast}
 use Rattle.rel_formula.specs.Sizes.{HasSize}
 use Rattle.rel_terms.specs.Numbers.{Number, Is, ◌⊕◌, ◌⊗◌, Only}
 use Rattle.rel_terms.specs.Counting.{Adds, AddsForEach}
-use Rattle.rel_terms.proofs.Numbers.{Once, only, only_is, only_sum, only_product}
+use Rattle.rel_terms.proofs.Numbers.{only, only_is, only_sum, only_product}
 use Rattle.rel_formula.proofs.Counts.{no_longer}
 use Rattle.rel_terms.proofs.TupleSizes.{size_once, size_same, rows_size}
 use Rattle.std.proofs.lemmas.List.Elements.{All-contains}

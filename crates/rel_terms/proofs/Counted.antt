@@ -1,16 +1,19 @@
 -- The numbers of terms and the upper values of expressions, operator by operator.
-use Rattle.std.proofs.Common.{◌≡◌, ℕ, ◌+◌, ◌-◌, ◌*◌, ◌≤◌, ◌<◌, ◌^◌, ◌↔◌, List, [], ◌∷◌, ◌++◌, Contains, refl, sym, ◌∙◌, ap, subst, arith}
-use Rattle.tuple_core.specs.declared.atom.Atom.{Atom}
-use Rattle.tuple_core.specs.Operators.{Pred, United, Met, Multiplied, Joined, Transposed, Closed, DomainIn, RangeIn}
+use Rattle.std.proofs.Common.{◌≡◌, ℕ, ◌≤◌, ◌^◌, ◌↔◌, [], ◌∷◌, ◌++◌, Contains, refl, ◌∙◌, ap, arith}
+use Rattle.tuple_core.specs.declared.operator.Operator.{Operator}
+use Rattle.tuple_core.specs.declared.operator.Operator.TheVariants as operator
+use Rattle.tuple_core.specs.declared.operator.UnaryOperator.{UnaryOperator}
+use Rattle.tuple_core.specs.declared.operator.UnaryOperator.TheVariants as unary_operator
+use Rattle.tuple_core.specs.Operators.{Pred, Closed, turned, may_combine, arity_with}
 use Rattle.tuple_core.specs.Gains.{Same}
 use Rattle.tuple_core.specs.Rows.{Rows, IsSetOf}
-use Rattle.tuple_core.proofs.Congruence.{same_itself, same_back, United-same, Met-same, Joined-same, Multiplied-same, Transposed-same, Closed-same, DomainIn-same, RangeIn-same}
+use Rattle.tuple_core.proofs.Congruence.{same_back, Closed-same, may_combine_same, turned_same}
 use Rattle.rel_formula.specs.Sizes.{HasSize}
 use Rattle.rel_terms.specs.Numbers.{Number, Is, ◌⊕◌, ◌⊗◌}
-use Rattle.rel_terms.specs.Terms.{Meeting}
+use Rattle.rel_terms.specs.Terms.{Meeting, own_terms, turn_terms}
 use Rattle.rel_terms.specs.Counting.{Adds, IsCounted}
 use Rattle.rel_terms.proofs.TupleSizes.{size_same}
-use Rattle.rel_terms.proofs.Adding.{adds_same, adds_then, adds_both, adds_left}
+use Rattle.rel_terms.proofs.Adding.{adds_same, adds_then, adds_both}
 
 -- one number has both facts
 abbrev pub Alike : Number → Number → Type 0
@@ -67,71 +70,36 @@ binary {C = C} {D = D} {Own = Own} {b = b} {x = x} {y = y} {a = a} j R' Own' e f
       (λ l. let rise = g.adds.rises in adds_alike Own Own' y a (alike (counted_same f (omega arith)) (counted_same g l)) o.adds);
 }
 
--- and one that adds two numbers
-binary_sum : {l r v : Rows} {n m k : ℕ} {P Q R : Pred} {C D E F : Number} {b x y a : ℕ} (j : ℕ) (R' : Pred) (E' F' : Number) → k ≡ j →
-    IsCounted l n P C b x → IsCounted r m Q D x y → IsCounted v k R (E ⊕ F) y a →
-    (Same (Contains l.rows) P → Same (Contains r.rows) Q → Same R R') →
-    (Same (Contains l.rows) P → Alike E E') → (Same (Contains r.rows) Q → Alike F F') → IsCounted v j R' (C ⊕ D ⊕ E' ⊕ F') b a
-binary_sum {C = C} {D = D} {E = E} {F = F} {b = b} {x = x} {y = y} {a = a} j R' E' F' e f g o same left right =
-    let h = binary j R' (E' ⊕ F') e f g o same (λ s t. alike_sum E F E' F' (left s) (right t)) in
-    record { arity_is = h.arity_is; just = h.just; adds = adds_left (C ⊕ D) E' F' b a h.adds }
-
-pub union_counted : {l r v : Rows} {n m : ℕ} {P Q : Pred} {C D : Number} {b x y a : ℕ} → IsCounted l n P C b x → IsCounted r m Q D x y →
-    IsCounted v l.arity (United (Contains l.rows) (Contains r.rows)) (HasSize (Contains l.rows) ⊕ HasSize (Contains r.rows)) y a →
-    IsCounted v n (United P Q) (C ⊕ D ⊕ HasSize P ⊕ HasSize Q) b a
-union_counted {n = n} {P = P} {Q = Q} f g o = binary_sum n (United P Q) (HasSize P) (HasSize Q) f.arity_is f g o United-same alike_size alike_size
-
-pub minus_counted : {l r v : Rows} {n m : ℕ} {P Q : Pred} {C D : Number} {b x y a : ℕ} → IsCounted l n P C b x → IsCounted r m Q D x y →
-    IsCounted v l.arity (Contains l.rows) (HasSize (Contains l.rows) ⊕ HasSize (Contains r.rows)) y a →
-    IsCounted v n P (C ⊕ D ⊕ HasSize P ⊕ HasSize Q) b a
-minus_counted {n = n} {P = P} {Q = Q} f g o = binary_sum n P (HasSize P) (HasSize Q) f.arity_is f g o (λ s t. s) alike_size alike_size
-
-pub meet_counted : {l r v : Rows} {n m : ℕ} {P Q : Pred} {C D : Number} {b x y a : ℕ} → IsCounted l n P C b x → IsCounted r m Q D x y →
-    IsCounted v l.arity (Met (Contains l.rows) (Contains r.rows)) (HasSize (Contains l.rows) ⊕ HasSize (Contains r.rows)) y a →
-    IsCounted v n (Met P Q) (C ⊕ D ⊕ HasSize P ⊕ HasSize Q) b a
-meet_counted {n = n} {P = P} {Q = Q} f g o = binary_sum n (Met P Q) (HasSize P) (HasSize Q) f.arity_is f g o Met-same alike_size alike_size
-
-pub override_counted : {l r v : Rows} {n m : ℕ} {P Q : Pred} {C D : Number} {b x y a : ℕ} → IsCounted l n P C b x → IsCounted r m Q D x y →
-    IsCounted v 2 (United (Contains l.rows) (Contains r.rows)) (HasSize (Contains l.rows) ⊕ Is 2 ⊗ HasSize (Contains r.rows)) y a →
-    IsCounted v 2 (United P Q) (C ⊕ D ⊕ HasSize P ⊕ Is 2 ⊗ HasSize Q) b a
-override_counted {r = r} {P = P} {Q = Q} f g o =
-    binary_sum 2 (United P Q) (HasSize P) (Is 2 ⊗ HasSize Q) refl f g o United-same alike_size (λ s. alike_product (Is 2) (HasSize (Contains r.rows)) (Is 2) (HasSize Q) (alike_itself (Is 2)) (alike_size s))
-
-pub product_counted : {l r v : Rows} {n m : ℕ} {P Q : Pred} {C D : Number} {b x y a : ℕ} → IsCounted l n P C b x → IsCounted r m Q D x y →
-    IsCounted v (l.arity + r.arity) (Multiplied (Contains l.rows) (Contains r.rows)) (HasSize (Contains l.rows) ⊗ HasSize (Contains r.rows)) y a →
-    IsCounted v (n + m) (Multiplied P Q) (C ⊕ D ⊕ HasSize P ⊗ HasSize Q) b a
-product_counted {l = l} {r = r} {n = n} {m = m} {P = P} {Q = Q} f g o =
-    binary (n + m) (Multiplied P Q) (HasSize P ⊗ HasSize Q) (let e = f.arity_is in let h = g.arity_is in omega arith) f g o Multiplied-same
-    (λ s t. alike_product (HasSize (Contains l.rows)) (HasSize (Contains r.rows)) (HasSize P) (HasSize Q) (alike_size s) (alike_size t))
-
 Meeting-same : {P Q R S : Pred} → Same P R → Same Q S → Same (Meeting P Q) (Meeting R S)
 Meeting-same f g = record {
   to = λ t h. (h.0, h.1, h.2, f.to (h.0 ++ h.1 ∷ []) h.3, g.to (h.1 ∷ h.2) h.4, h.5);
   back = λ t h. (h.0, h.1, h.2, f.back (h.0 ++ h.1 ∷ []) h.3, g.back (h.1 ∷ h.2) h.4, h.5);
 }
 
-pub join_counted : {l r v : Rows} {n m : ℕ} {P Q : Pred} {C D : Number} {b x y a : ℕ} → IsCounted l n P C b x → IsCounted r m Q D x y →
-    IsCounted v (l.arity + r.arity - 2) (Joined (Contains l.rows) (Contains r.rows)) (HasSize (Meeting (Contains l.rows) (Contains r.rows))) y a →
-    IsCounted v (n + m - 2) (Joined P Q) (C ⊕ D ⊕ HasSize (Meeting P Q)) b a
-join_counted {n = n} {m = m} {P = P} {Q = Q} f g o =
-    binary (n + m - 2) (Joined P Q) (HasSize (Meeting P Q)) (let e = f.arity_is in let h = g.arity_is in omega arith) f g o Joined-same (λ s t. alike_size (Meeting-same s t))
+own_alike : (o : Operator) {P Q R S : Pred} → Same P R → Same Q S → Alike (own_terms o P Q) (own_terms o R S)
+own_alike operator.Union {P} {Q} {R} {S} f g = alike_sum (HasSize P) (HasSize Q) (HasSize R) (HasSize S) (alike_size f) (alike_size g)
+own_alike operator.Minus {P} {Q} {R} {S} f g = alike_sum (HasSize P) (HasSize Q) (HasSize R) (HasSize S) (alike_size f) (alike_size g)
+own_alike operator.Meet {P} {Q} {R} {S} f g = alike_sum (HasSize P) (HasSize Q) (HasSize R) (HasSize S) (alike_size f) (alike_size g)
+own_alike operator.Product {P} {Q} {R} {S} f g = alike_product (HasSize P) (HasSize Q) (HasSize R) (HasSize S) (alike_size f) (alike_size g)
+own_alike operator.Join f g = alike_size (Meeting-same f g)
+own_alike operator.Override {P} {Q} {R} {S} f g =
+    alike_sum (HasSize P) (Is 2 ⊗ HasSize Q) (HasSize R) (Is 2 ⊗ HasSize S) (alike_size f)
+    (alike_product (Is 2) (HasSize Q) (Is 2) (HasSize S) (alike_itself (Is 2)) (alike_size g))
+own_alike operator.Dom f g = alike_size g
+own_alike operator.Ran f g = alike_size f
 
-pub transpose_counted : {l v : Rows} {n : ℕ} {P : Pred} {C : Number} {b x a : ℕ} → IsCounted l n P C b x →
-    IsCounted v 2 (Transposed (Contains l.rows)) (HasSize (Contains l.rows)) x a → IsCounted v 2 (Transposed P) (C ⊕ HasSize P) b a
-transpose_counted {P = P} f o = unary 2 (Transposed P) (HasSize P) refl f o Transposed-same alike_size
+turn_alike : (o : UnaryOperator) {P R : Pred} → Same P R → Alike (turn_terms o P) (turn_terms o R)
+turn_alike unary_operator.Transpose f = alike_size f
+turn_alike unary_operator.Closure {P} {R} f =
+    alike_product (Is 6) (HasSize (Meeting (Closed P) (Closed P))) (Is 6) (HasSize (Meeting (Closed R) (Closed R)))
+    (alike_itself (Is 6)) (alike_size (Meeting-same (Closed-same f) (Closed-same f)))
 
-pub closure_counted : {l v : Rows} {n : ℕ} {P : Pred} {C : Number} {b x a : ℕ} → IsCounted l n P C b x →
-    IsCounted v 2 (Closed (Contains l.rows)) (Is 6 ⊗ HasSize (Meeting (Closed (Contains l.rows)) (Closed (Contains l.rows)))) x a →
-    IsCounted v 2 (Closed P) (C ⊕ Is 6 ⊗ HasSize (Meeting (Closed P) (Closed P))) b a
-closure_counted {l = l} {P = P} f o =
-    let W = Closed (Contains l.rows) in
-    unary 2 (Closed P) (Is 6 ⊗ HasSize (Meeting (Closed P) (Closed P))) refl f o Closed-same
-    (λ s. alike_product (Is 6) (HasSize (Meeting W W)) (Is 6) (HasSize (Meeting (Closed P) (Closed P))) (alike_itself (Is 6)) (alike_size (Meeting-same (Closed-same s) (Closed-same s))))
+pub combined_counted : (o : Operator) {l r v : Rows} {n m : ℕ} {P Q : Pred} {C D : Number} {b x y a : ℕ} → IsCounted l n P C b x → IsCounted r m Q D x y →
+    IsCounted v (arity_with o l.arity r.arity) (may_combine o (Contains l.rows) (Contains r.rows)) (own_terms o (Contains l.rows) (Contains r.rows)) y a →
+    IsCounted v (arity_with o n m) (may_combine o P Q) (C ⊕ D ⊕ own_terms o P Q) b a
+combined_counted o {l} {r} {v} {n} {m} {P} {Q} f g is =
+    binary (arity_with o n m) (may_combine o P Q) (own_terms o P Q) (ap (λ k. arity_with o k r.arity) f.arity_is ∙ ap (arity_with o n) g.arity_is) f g is (may_combine_same o) (own_alike o)
 
-pub domain_counted : {s l v : Rows} {n m : ℕ} {S P : Pred} {C D : Number} {b x y a : ℕ} → IsCounted s n S C b x → IsCounted l m P D x y →
-    IsCounted v l.arity (DomainIn (Contains s.rows) (Contains l.rows)) (HasSize (Contains l.rows)) y a → IsCounted v m (DomainIn S P) (C ⊕ D ⊕ HasSize P) b a
-domain_counted {m = m} {S = S} {P = P} f g o = binary m (DomainIn S P) (HasSize P) g.arity_is f g o DomainIn-same (λ s t. alike_size t)
-
-pub range_counted : {l s v : Rows} {n m : ℕ} {P S : Pred} {C D : Number} {b x y a : ℕ} → IsCounted l n P C b x → IsCounted s m S D x y →
-    IsCounted v l.arity (RangeIn (Contains l.rows) (Contains s.rows)) (HasSize (Contains l.rows)) y a → IsCounted v n (RangeIn P S) (C ⊕ D ⊕ HasSize P) b a
-range_counted {n = n} {P = P} {S = S} f g o = binary n (RangeIn P S) (HasSize P) f.arity_is f g o RangeIn-same (λ s t. alike_size s)
+pub turned_counted : (o : UnaryOperator) {l v : Rows} {n : ℕ} {P : Pred} {C : Number} {b x a : ℕ} → IsCounted l n P C b x →
+    IsCounted v 2 (turned o (Contains l.rows)) (turn_terms o (Contains l.rows)) x a → IsCounted v 2 (turned o P) (C ⊕ turn_terms o P) b a
+turned_counted o {P = P} f is = unary 2 (turned o P) (turn_terms o P) refl f is (turned_same o) (turn_alike o)

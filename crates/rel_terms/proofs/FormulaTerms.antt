@@ -1,24 +1,34 @@
 -- The numbers of terms of the formulas over expressions and of the quantifiers.
-use Rattle.std.proofs.Common.{◌≡◌, ℕ, ◌+◌, ◌*◌, ◌≤◌, ◌<◌, ◌^◌, List, [], ◌∷◌, All, Contains, length, refl, sym, ◌∙◌, ap, subst, arith}
+use Rattle.std.proofs.Common.{◌≡◌, ℕ, ◌+◌, ◌*◌, List, Contains, length, ◌∙◌, subst, arith}
 use Rattle.tuple_core.specs.declared.atom.Atom.{Atom}
 use Rattle.tuple_core.specs.Operators.{Pred}
-use Rattle.tuple_core.specs.Rows.{Rows, IsRows, IsSetOf}
+use Rattle.tuple_core.specs.Gains.{Same}
+use Rattle.tuple_core.specs.Rows.{Rows, IsRows}
+use Rattle.rel_formula.specs.declared.connectives.Comparison.{Comparison}
+use Rattle.rel_formula.specs.declared.connectives.Comparison.TheVariants as comparison
 use Rattle.rel_formula.specs.Kernel.{FormulaTree}
 use Rattle.rel_formula.specs.Meaning.{Structure}
 use Rattle.rel_formula.specs.Sizes.{HasSize}
 use Rattle.rel_terms.specs.Numbers.{Number, Is, ◌⊕◌, ◌⊗◌}
-use Rattle.rel_terms.specs.Terms.{SumsOver}
+use Rattle.rel_terms.specs.Terms.{SumsOver, compared_terms}
 use Rattle.rel_terms.specs.Counting.{Adds, IsCounted, RowsHave}
 use Rattle.rel_terms.proofs.Numbers.{only_is, only_product}
 use Rattle.rel_terms.proofs.TupleSizes.{rows_size, rows_list}
-use Rattle.rel_terms.proofs.Adding.{adds_then, adds_both, adds_only, adds_left}
-use Rattle.rel_terms.proofs.Counted.{adds_alike, alike_size, counted_same}
+use Rattle.rel_terms.proofs.Adding.{adds_then, adds_both, adds_only}
+use Rattle.rel_terms.proofs.Counted.{Alike, adds_alike, alike_size, alike_sum, counted_same}
 use Rattle.rel_terms.proofs.PartTerms.{AtomHas, rows_sums}
 
--- the size of an operand that was counted before
-pub operand_adds : {v : Rows} {n : ℕ} {P : Pred} {C D : Number} {e b x y a : ℕ} → IsCounted v n P C e x → x ≤ y → Adds D b y → Adds (HasSize (Contains v.rows)) y a → Adds (D ⊕ HasSize P) b a
-operand_adds {v = v} {P = P} {D = D} {b = b} {y = y} {a = a} h low sofar size =
-    adds_then D (HasSize P) b y a sofar size.rises (λ l. adds_alike (HasSize (Contains v.rows)) (HasSize P) y a (alike_size (counted_same h (omega arith))) size)
+compared_alike : (c : Comparison) {P Q R S : Pred} → Same P R → Same Q S → Alike (compared_terms c P Q) (compared_terms c R S)
+compared_alike comparison.In f g = alike_size f
+compared_alike comparison.Equal {P} {Q} {R} {S} f g = alike_sum (HasSize P) (HasSize Q) (HasSize R) (HasSize S) (alike_size f) (alike_size g)
+
+-- a comparison of operands that were counted before
+pub compared_adds : (c : Comparison) {l r : Rows} {n m : ℕ} {P Q : Pred} {C D : Number} {b x y a : ℕ} → IsCounted l n P C b x → IsCounted r m Q D x y →
+    Adds (compared_terms c (Contains l.rows) (Contains r.rows)) y a → Adds (C ⊕ D ⊕ compared_terms c P Q) b a
+compared_adds c {l} {r} {P = P} {Q = Q} {C = C} {D = D} {b = b} {x = x} {y = y} {a = a} f g own =
+    adds_then (C ⊕ D) (compared_terms c P Q) b y a (adds_both C D b x y f.adds g.adds) own.rises (λ low.
+    let rise = g.adds.rises in
+    adds_alike (compared_terms c (Contains l.rows) (Contains r.rows)) (compared_terms c P Q) y a (compared_alike c (counted_same f (omega arith)) (counted_same g low)) own)
 
 pub at_least_adds : {v : Rows} {n : ℕ} {P : Pred} {C : Number} {b x a : ℕ} (m : ℕ) (rows : List (List Atom)) → IsRows v → rows ≡ v.rows → IsCounted v n P C b x → Adds (Is (length rows * (m + 1))) x a → Adds (C ⊕ HasSize P ⊗ Is (m + 1)) b a
 at_least_adds {v = v} {P = P} {C = C} {b = b} {x = x} {a = a} m rows well e h product =

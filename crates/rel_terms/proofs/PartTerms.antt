@@ -1,14 +1,15 @@
 -- The terms of lists of formulas, and of a formula at the atoms of a list, part by part.
-use Rattle.std.proofs.Common.{◌≡◌, ℕ, suc, ◌+◌, ◌*◌, ◌≤◌, ◌<◌, ◌^◌, ◌↔◌, List, [], ◌∷◌, ◌++◌, map, take, drop, length, get_or, All, Vec, Global, Contains, refl, sym, ◌∙◌, ap, subst, arith}
+use Rattle.std.proofs.Common.{◌≡◌, ℕ, suc, ◌+◌, ◌≤◌, ◌<◌, ◌^◌, List, [], ◌∷◌, ◌++◌, map, take, drop, length, get_or, All, Vec, Global, refl, sym, ◌∙◌, ap, subst, arith}
 use Rattle.std.proofs.lemmas.List.{take_more, take_all, take-append-drop}
 use Rattle.tuple_core.specs.declared.atom.Atom.{Atom}
 use Rattle.tuple_core.specs.Operators.{Pred, BeginsWith}
-use Rattle.rel_formula.specs.declared.formula.Formula.{Formula, And, Or}
+use Rattle.rel_formula.specs.declared.formula.Formula.{Formula, Junction}
+use Rattle.rel_formula.specs.declared.connectives.Connective.{Connective}
 use Rattle.rel_formula.specs.Kernel.{FormulaTree, formulas_of}
 use Rattle.rel_formula.specs.View.{formula_tree}
 use Rattle.rel_formula.specs.Meaning.{Structure}
 use Rattle.rel_formula.specs.Sizes.{IsListOf}
-use Rattle.rel_formula.proofs.AndOrParts.{And-tree, Or-tree}
+use Rattle.rel_formula.proofs.AndOrParts.{Junction-tree}
 use Rattle.rel_terms.specs.Numbers.{Number, Is, ◌⊕◌}
 use Rattle.rel_terms.specs.Terms.{FormulaHas, FormulasHave, SumsTo, SumsOver}
 use Rattle.rel_terms.specs.Counting.{Adds, RowsHave}
@@ -60,11 +61,8 @@ module _ (M : Structure) (env : List Atom) where
       let sums = adds_alike (Is 1 ⊕ (PartsHave xs ⊕ PartsHave ys)) (Is 1 ⊕ PartsHave (xs ++ ys)) b a (alike_sum (Is 1) (PartsHave xs ⊕ PartsHave ys) (Is 1) (PartsHave (xs ++ ys)) (alike_itself (Is 1)) (parts_append xs ys)) all in
       subst (λ zs. Adds (Is 1 ⊕ PartsHave zs) b a) (take-append-drop i fs) sums
 
-  pub adds_and : (parts : Vec Formula Global) (b a : ℕ) → Adds (Is 1 ⊕ PartsHave parts.items) b a → Adds (FormulaHas M env (formula_tree (And parts))) b a
-  adds_and parts b a h = subst (λ (g : FormulaTree). Adds (FormulaHas M env g) b a) (sym (And-tree parts)) h
-
-  pub adds_or : (parts : Vec Formula Global) (b a : ℕ) → Adds (Is 1 ⊕ PartsHave parts.items) b a → Adds (FormulaHas M env (formula_tree (Or parts))) b a
-  adds_or parts b a h = subst (λ (g : FormulaTree). Adds (FormulaHas M env g) b a) (sym (Or-tree parts)) h
+  pub adds_junction : (c : Connective) (parts : Vec Formula Global) (b a : ℕ) → Adds (Is 1 ⊕ PartsHave parts.items) b a → Adds (FormulaHas M env (formula_tree (Junction c parts))) b a
+  adds_junction c parts b a h = subst (λ (g : FormulaTree). Adds (FormulaHas M env g) b a) (sym (Junction-tree c parts)) h
 
 module _ (M : Structure) (env : List Atom) (more : ℕ) (f : FormulaTree) where
   -- what the formula adds at an atom

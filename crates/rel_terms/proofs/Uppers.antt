@@ -6,7 +6,9 @@ use Rattle.std.proofs.lemmas.List.Elements.{All-contains}
 use Rattle.tuple_core.specs.declared.atom.Atom.{Atom}
 use Rattle.tuple_core.specs.Operators.{Pred, Walk}
 use Rattle.rel_formula.specs.declared.problem.Relation.{Relation}
-use Rattle.rel_formula.specs.Kernel.{ExpressionTree, rel, var, nothing, univ, iden, union, minus, meet, product, join, transpose, closure, override, dom, ran}
+use Rattle.tuple_core.specs.declared.operator.Operator.TheVariants as operator
+use Rattle.tuple_core.specs.declared.operator.UnaryOperator.TheVariants as unary_operator
+use Rattle.rel_formula.specs.Kernel.{ExpressionTree, rel, var, nothing, univ, iden, binary, unary}
 use Rattle.rel_formula.specs.Bounds.{Bounded, IsProblem, relation_at}
 use Rattle.rel_formula.specs.Meaning.{Structure, InValue}
 use Rattle.rel_formula.specs.Instance.{InRelation, structure_of}
@@ -25,16 +27,16 @@ module _ (M N : Structure) (values : (r : ℕ) (t : List Atom) → M.values r t 
   in_upper nothing t v = absurd v
   in_upper univ t v = universe t v
   in_upper iden t v = (v.0, universe (v.0 ∷ []) v.1, v.2)
-  in_upper (union x y) t v = elim v [ inl l ↦ inl (in_upper x t l) | inr r ↦ inr (in_upper y t r) ]
-  in_upper (minus x y) t v = in_upper x t v.0
-  in_upper (meet x y) t v = (in_upper x t v.0, in_upper y t v.1)
-  in_upper (product x y) t v = (v.0, v.1, in_upper x v.0 v.2, in_upper y v.1 v.3, v.4)
-  in_upper (join x y) t v = (v.0, v.1, in_upper x v.0 v.2, in_upper y v.1 v.3, v.4)
-  in_upper (transpose x) t v = (v.0, v.1, in_upper x (v.0 ∷ v.1 ∷ []) v.2, v.3)
-  in_upper (closure x) t v = (v.0, v.1, v.2, v.3, walk_within (InValue M env x) (InUpper N (IsAtomAt env) x) (in_upper x) v.0 v.1 v.2 v.4)
-  in_upper (override x y) t v = elim v [ inl r ↦ inr (in_upper y t r) | inr l ↦ inl (in_upper x t l.0) ]
-  in_upper (dom s x) t v = (in_upper x t v.0, (v.1.0, v.1.1, in_upper s (v.1.0 ∷ []) v.1.2))
-  in_upper (ran x s) t v = (in_upper x t v.0, (v.1.0, v.1.1, in_upper s (v.1.0 ∷ []) v.1.2))
+  in_upper (binary operator.Union x y) t v = elim v [ inl l ↦ inl (in_upper x t l) | inr r ↦ inr (in_upper y t r) ]
+  in_upper (binary operator.Minus x y) t v = in_upper x t v.0
+  in_upper (binary operator.Meet x y) t v = (in_upper x t v.0, in_upper y t v.1)
+  in_upper (binary operator.Product x y) t v = (v.0, v.1, in_upper x v.0 v.2, in_upper y v.1 v.3, v.4)
+  in_upper (binary operator.Join x y) t v = (v.0, v.1, in_upper x v.0 v.2, in_upper y v.1 v.3, v.4)
+  in_upper (unary unary_operator.Transpose x) t v = (v.0, v.1, in_upper x (v.0 ∷ v.1 ∷ []) v.2, v.3)
+  in_upper (unary unary_operator.Closure x) t v = (v.0, v.1, v.2, v.3, walk_within (InValue M env x) (InUpper N (IsAtomAt env) x) (in_upper x) v.0 v.1 v.2 v.4)
+  in_upper (binary operator.Override x y) t v = elim v [ inl r ↦ inr (in_upper y t r) | inr l ↦ inl (in_upper x t l.0) ]
+  in_upper (binary operator.Dom s x) t v = (in_upper x t v.0, (v.1.0, v.1.1, in_upper s (v.1.0 ∷ []) v.1.2))
+  in_upper (binary operator.Ran x s) t v = (in_upper x t v.0, (v.1.0, v.1.1, in_upper s (v.1.0 ∷ []) v.1.2))
 
 -- a relation's value lies in its upper set
 value_in : (p : Bounded) (Chosen : ℕ → Type 0) → IsProblem p → (r : ℕ) (t : List Atom) → InRelation p Chosen r t → InUpperSet p r t

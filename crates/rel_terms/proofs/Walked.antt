@@ -1,10 +1,10 @@
 -- Walks that grow by one pair, until none is new.
-use Rattle.std.proofs.Common.{◌≡◌, ◌≢◌, ℕ, zero, suc, ◌+◌, ◌-◌, ◌≤◌, ◌<◌, ◌⊎◌, inl, inr, List, [], ◌∷◌, All, AllPairs, Contains, length, refl, sym, ◌∙◌, ap, subst, arith}
+use Rattle.std.proofs.Common.{◌≡◌, ◌≢◌, ℕ, zero, suc, ◌≤◌, inl, inr, List, [], ◌∷◌, All, AllPairs, Contains, length, refl, sym, ◌∙◌, arith}
 use Rattle.std.specs.Prelude.{remove}
 use Rattle.std.proofs.lemmas.List.Elements.{All-contains, Contains-append_cases, Contains-append_left, Contains-append_right, Contains-push_cases}
-use Rattle.std.proofs.lemmas.List.Sorted.{IsPermutation-remove, IsPermutation-sym, Contains-permutation, length_permutation}
+use Rattle.std.proofs.lemmas.List.Sorted.{IsPermutation-remove, Contains-permutation, length_permutation}
 use Rattle.tuple_core.specs.declared.atom.Atom.{Atom}
-use Rattle.tuple_core.specs.Operators.{Pred, United, Joined, Closed}
+use Rattle.tuple_core.specs.Operators.{United, Joined, Closed}
 use Rattle.tuple_core.specs.Gains.{Same}
 use Rattle.tuple_core.specs.Rows.{Rows, IsRows, IsSetOf}
 use Rattle.tuple_core.proofs.Walks.{closed_more, has_walks}

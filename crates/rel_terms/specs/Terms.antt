@@ -1,9 +1,17 @@
 -- The number of terms of a problem: the size of what a translation of its formula looks at, over the upper values.
 use Rattle.std.specs.Prelude.{◌≡◌, ◌+◌, ◌≤◌, ◌^◌, ℕ, List, [], ◌∷◌, ◌++◌, map}
 use Rattle.tuple_core.specs.declared.atom.Atom.{Atom}
+use Rattle.tuple_core.specs.declared.operator.Operator.{Operator}
+use Rattle.tuple_core.specs.declared.operator.Operator.TheVariants as operator
+use Rattle.tuple_core.specs.declared.operator.UnaryOperator.{UnaryOperator}
+use Rattle.tuple_core.specs.declared.operator.UnaryOperator.TheVariants as unary_operator
 use Rattle.tuple_core.specs.Operators.{Pred, Closed}
-use Rattle.rel_formula.specs.Kernel.{ExpressionTree, rel, var, nothing, univ, iden, union, minus, meet, product, join, transpose, closure, override, dom, ran}
-use Rattle.rel_formula.specs.Kernel.{FormulaTree, within, equal, at_least, negation, conjunction, disjunction, for_all, for_some, for_at_most_one, FormulaTrees, no_formulas, more_formulas}
+use Rattle.rel_formula.specs.declared.connectives.Comparison.{Comparison}
+use Rattle.rel_formula.specs.declared.connectives.Comparison.TheVariants as comparison
+use Rattle.rel_formula.specs.declared.connectives.Quantifier.{Quantifier}
+use Rattle.rel_formula.specs.declared.connectives.Quantifier.TheVariants as quantifier
+use Rattle.rel_formula.specs.Kernel.{ExpressionTree, rel, var, nothing, univ, iden, binary, unary}
+use Rattle.rel_formula.specs.Kernel.{FormulaTree, compared, at_least, negation, junction, quantified, FormulaTrees, no_formulas, more_formulas}
 use Rattle.rel_formula.specs.Bounds.{Bounded, HasFewAtoms, HasDisjointTops}
 use Rattle.rel_formula.specs.Meaning.{Structure}
 use Rattle.rel_formula.specs.Sizes.{IsListOf, HasSize}
@@ -32,6 +40,22 @@ InUpperAt M env e = InUpper M (IsAtomAt env) e
 abbrev pub UpperHas : Structure → List Atom → ExpressionTree → Number
 UpperHas M env e = HasSize (InUpperAt M env e)
 
+-- what an operator adds to the terms of its operands, over their upper values
+abbrev pub own_terms : Operator → Pred → Pred → Number
+own_terms operator.Union P Q = HasSize P ⊕ HasSize Q
+own_terms operator.Minus P Q = HasSize P ⊕ HasSize Q
+own_terms operator.Meet P Q = HasSize P ⊕ HasSize Q
+own_terms operator.Product P Q = HasSize P ⊗ HasSize Q
+own_terms operator.Join P Q = HasSize (Meeting P Q)
+own_terms operator.Override P Q = HasSize P ⊕ Is 2 ⊗ HasSize Q
+own_terms operator.Dom P Q = HasSize Q
+own_terms operator.Ran P Q = HasSize P
+
+-- and to those of one operand
+abbrev pub turn_terms : UnaryOperator → Pred → Number
+turn_terms unary_operator.Transpose P = HasSize P
+turn_terms unary_operator.Closure P = Is 6 ⊗ HasSize (Meeting (Closed P) (Closed P))
+
 -- the expression has n terms
 abbrev pub ExpressionHas : Structure → List Atom → ExpressionTree → Number
 ExpressionHas M env (rel r) n = UpperHas M env (rel r) n
@@ -39,29 +63,28 @@ ExpressionHas M env (var i) n = UpperHas M env (var i) n
 ExpressionHas M env nothing n = UpperHas M env nothing n
 ExpressionHas M env univ n = UpperHas M env univ n
 ExpressionHas M env iden n = UpperHas M env iden n
-ExpressionHas M env (union a b) n = (ExpressionHas M env a ⊕ ExpressionHas M env b ⊕ UpperHas M env a ⊕ UpperHas M env b) n
-ExpressionHas M env (minus a b) n = (ExpressionHas M env a ⊕ ExpressionHas M env b ⊕ UpperHas M env a ⊕ UpperHas M env b) n
-ExpressionHas M env (meet a b) n = (ExpressionHas M env a ⊕ ExpressionHas M env b ⊕ UpperHas M env a ⊕ UpperHas M env b) n
-ExpressionHas M env (override a b) n = (ExpressionHas M env a ⊕ ExpressionHas M env b ⊕ UpperHas M env a ⊕ Is 2 ⊗ UpperHas M env b) n
-ExpressionHas M env (product a b) n = (ExpressionHas M env a ⊕ ExpressionHas M env b ⊕ UpperHas M env a ⊗ UpperHas M env b) n
-ExpressionHas M env (join a b) n = (ExpressionHas M env a ⊕ ExpressionHas M env b ⊕ HasSize (Meeting (InUpperAt M env a) (InUpperAt M env b))) n
-ExpressionHas M env (transpose a) n = (ExpressionHas M env a ⊕ UpperHas M env a) n
-ExpressionHas M env (closure a) n = (ExpressionHas M env a ⊕ Is 6 ⊗ HasSize (Meeting (Closed (InUpperAt M env a)) (Closed (InUpperAt M env a)))) n
-ExpressionHas M env (dom s a) n = (ExpressionHas M env s ⊕ ExpressionHas M env a ⊕ UpperHas M env a) n
-ExpressionHas M env (ran a s) n = (ExpressionHas M env a ⊕ ExpressionHas M env s ⊕ UpperHas M env a) n
+ExpressionHas M env (binary o a b) n = (ExpressionHas M env a ⊕ ExpressionHas M env b ⊕ own_terms o (InUpperAt M env a) (InUpperAt M env b)) n
+ExpressionHas M env (unary o a) n = (ExpressionHas M env a ⊕ turn_terms o (InUpperAt M env a)) n
+
+-- what a comparison adds to the terms of its operands
+abbrev pub compared_terms : Comparison → Pred → Pred → Number
+compared_terms comparison.In P Q = HasSize P
+compared_terms comparison.Equal P Q = HasSize P ⊕ HasSize Q
+
+-- what a quantifier adds for each atom to the terms of its formula
+abbrev pub each_terms : Quantifier → ℕ
+each_terms quantifier.All = 1
+each_terms quantifier.Exists = 1
+each_terms quantifier.Lone = 2
 
 abbrev mutual
   -- the formula has n terms
   pub FormulaHas : Structure → List Atom → FormulaTree → Number
-  FormulaHas M env (within a b) n = (ExpressionHas M env a ⊕ ExpressionHas M env b ⊕ UpperHas M env a) n
-  FormulaHas M env (equal a b) n = (ExpressionHas M env a ⊕ ExpressionHas M env b ⊕ UpperHas M env a ⊕ UpperHas M env b) n
+  FormulaHas M env (compared c a b) n = (ExpressionHas M env a ⊕ ExpressionHas M env b ⊕ compared_terms c (InUpperAt M env a) (InUpperAt M env b)) n
   FormulaHas M env (at_least m e) n = (ExpressionHas M env e ⊕ UpperHas M env e ⊗ Is (m + 1)) n
   FormulaHas M env (negation f) n = (Is 1 ⊕ FormulaHas M env f) n
-  FormulaHas M env (conjunction fs) n = (Is 1 ⊕ FormulasHave M env fs) n
-  FormulaHas M env (disjunction fs) n = (Is 1 ⊕ FormulasHave M env fs) n
-  FormulaHas M env (for_all e f) n = (ExpressionHas M env e ⊕ SumsOver (InUpperAt M env e) (λ a. Is 1 ⊕ FormulaHas M (a ∷ env) f)) n
-  FormulaHas M env (for_some e f) n = (ExpressionHas M env e ⊕ SumsOver (InUpperAt M env e) (λ a. Is 1 ⊕ FormulaHas M (a ∷ env) f)) n
-  FormulaHas M env (for_at_most_one e f) n = (ExpressionHas M env e ⊕ SumsOver (InUpperAt M env e) (λ a. Is 2 ⊕ FormulaHas M (a ∷ env) f)) n
+  FormulaHas M env (junction c fs) n = (Is 1 ⊕ FormulasHave M env fs) n
+  FormulaHas M env (quantified q e f) n = (ExpressionHas M env e ⊕ SumsOver (InUpperAt M env e) (λ a. Is (each_terms q) ⊕ FormulaHas M (a ∷ env) f)) n
 
   -- the formulas of the list have n terms together
   pub FormulasHave : Structure → List Atom → FormulaTrees → Number

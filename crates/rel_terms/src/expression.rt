@@ -9,10 +9,7 @@ ghost use Rattle.rel_terms.specs.Upper.{InUpperSet, upper_structure};
 ghost use Rattle.rel_terms.specs.Terms.{InUpperAt, ExpressionHas};
 ghost use Rattle.rel_terms.specs.Counting.{IsCounted, arities_of};
 
-use crate::operators::{
-    closed, domain_in, identity, joined, lessened, met, multiplied, overridden, range_in, single,
-    transposed, united, whole,
-};
+use crate::operators::{combined, identity, single, turned_pairs, whole};
 use crate::tally::Tally;
 use rel_formula::{Expression, Problem};
 use std::alloc::{AllocError, Global};
@@ -40,53 +37,14 @@ pub fn upper(
         Expression::None => Ok(TupleSet::new(alloc, 1)),
         Expression::Univ => Ok(whole(alloc, tally, universe)?),
         Expression::Iden => Ok(identity(alloc, tally, universe)?),
-        Expression::Union(a, b) => {
+        Expression::Binary(operator, a, b) => {
             let left = upper(alloc, problem, universe, env, tally, a)?;
             let right = upper(alloc, problem, universe, env, tally, b)?;
-            Ok(united(alloc, tally, &left, &right)?)
+            Ok(combined(alloc, tally, *operator, left, &right)?)
         }
-        Expression::Minus(a, b) => {
-            let left = upper(alloc, problem, universe, env, tally, a)?;
-            let right = upper(alloc, problem, universe, env, tally, b)?;
-            Ok(lessened(tally, left, &right))
-        }
-        Expression::Meet(a, b) => {
-            let left = upper(alloc, problem, universe, env, tally, a)?;
-            let right = upper(alloc, problem, universe, env, tally, b)?;
-            Ok(met(alloc, tally, &left, &right)?)
-        }
-        Expression::Product(a, b) => {
-            let left = upper(alloc, problem, universe, env, tally, a)?;
-            let right = upper(alloc, problem, universe, env, tally, b)?;
-            Ok(multiplied(alloc, tally, &left, &right)?)
-        }
-        Expression::Join(a, b) => {
-            let left = upper(alloc, problem, universe, env, tally, a)?;
-            let right = upper(alloc, problem, universe, env, tally, b)?;
-            Ok(joined(alloc, tally, &left, &right)?)
-        }
-        Expression::Transpose(a) => {
+        Expression::Unary(operator, a) => {
             let pairs = upper(alloc, problem, universe, env, tally, a)?;
-            Ok(transposed(alloc, tally, &pairs)?)
-        }
-        Expression::Closure(a) => {
-            let pairs = upper(alloc, problem, universe, env, tally, a)?;
-            Ok(closed(alloc, tally, &pairs)?)
-        }
-        Expression::Override(a, b) => {
-            let left = upper(alloc, problem, universe, env, tally, a)?;
-            let right = upper(alloc, problem, universe, env, tally, b)?;
-            Ok(overridden(alloc, tally, &left, &right)?)
-        }
-        Expression::Dom(s, a) => {
-            let atoms = upper(alloc, problem, universe, env, tally, s)?;
-            let tuples = upper(alloc, problem, universe, env, tally, a)?;
-            Ok(domain_in(alloc, tally, &atoms, &tuples)?)
-        }
-        Expression::Ran(a, s) => {
-            let tuples = upper(alloc, problem, universe, env, tally, a)?;
-            let atoms = upper(alloc, problem, universe, env, tally, s)?;
-            Ok(range_in(alloc, tally, &tuples, &atoms)?)
+            Ok(turned_pairs(alloc, tally, *operator, &pairs)?)
         }
     }
 }

@@ -1,19 +1,19 @@
 // The number of terms of a formula, and of a problem.
-ghost use Rattle.std.specs.Prelude.{◌≡◌, ◌≤◌, ◌<◌, ◌+◌, ◌^◌, ◌∷◌, ℕ, List, All, length, map, reverse, IfOk, IfSome, IfNone};
+ghost use Rattle.std.specs.Prelude.{◌≡◌, ◌≤◌, ◌<◌, ◌+◌, ◌^◌, ◌∷◌, ℕ, List, All, Contains, length, map, reverse, IfOk, IfSome, IfNone};
 ghost use Rattle.rel_formula.specs.View.{expression_tree, formula_tree};
-ghost use Rattle.rel_formula.specs.Kernel.{within, equal, at_least, formulas_of};
+ghost use Rattle.rel_formula.specs.Kernel.{compared, at_least, formulas_of};
 ghost use Rattle.rel_formula.specs.Bounds.{IsProblem};
 ghost use Rattle.rel_formula.specs.Shape.{IsProper, IsWellFormed};
 ghost use Rattle.rel_formula.specs.Instance.{InSome};
 ghost use Rattle.tuple_core.specs.Rows.{IsSetOf};
 ghost use Rattle.rel_terms.specs.Numbers.{Is, ◌⊕◌};
 ghost use Rattle.rel_terms.specs.Upper.{InUpperSet, upper_structure};
-ghost use Rattle.rel_terms.specs.Terms.{FormulaHas, FormulasHave, HasTerms};
+ghost use Rattle.rel_terms.specs.Terms.{FormulaHas, FormulasHave, HasTerms, compared_terms, each_terms};
 ghost use Rattle.rel_terms.specs.Counting.{Adds, RowsHave, arities_of};
 
 use crate::expression::upper;
 use crate::tally::Tally;
-use rel_formula::{Expression, Formula, Problem};
+use rel_formula::{Comparison, Expression, Formula, Problem, Quantifier};
 use std::alloc::{AllocError, Global};
 use tuple_core::{Atom, Tuple, TupleSet};
 
@@ -69,13 +69,13 @@ fn add_formula(
 {
     tally.look()?;
     match f {
-        Formula::In(a, b) => Ok(add_within(alloc, problem, universe, env.as_slice(), tally, a, b)?),
-        Formula::Equal(a, b) => Ok(add_equal(
+        Formula::Compared(comparison, a, b) => Ok(add_compared(
             alloc,
             problem,
             universe,
             env.as_slice(),
             tally,
+            *comparison,
             a,
             b,
         )?),
@@ -86,19 +86,11 @@ fn add_formula(
             tally.add(1);
             Ok(add_formula(alloc, problem, universe, env, tally, g)?)
         }
-        Formula::And(parts) => Ok(add_parts(alloc, problem, universe, env, tally, parts)?),
-        Formula::Or(parts) => Ok(add_parts(alloc, problem, universe, env, tally, parts)?),
-        Formula::All(e, g) => {
+        Formula::Junction(_, parts) => Ok(add_parts(alloc, problem, universe, env, tally, parts)?),
+        Formula::Quantified(quantifier, e, g) => {
             let domain = upper(alloc, problem, universe, env.as_slice(), tally, e)?;
-            Ok(add_for_each(alloc, problem, universe, env, tally, domain.rows(), 1, g)?)
-        }
-        Formula::Exists(e, g) => {
-            let domain = upper(alloc, problem, universe, env.as_slice(), tally, e)?;
-            Ok(add_for_each(alloc, problem, universe, env, tally, domain.rows(), 1, g)?)
-        }
-        Formula::Lone(e, g) => {
-            let domain = upper(alloc, problem, universe, env.as_slice(), tally, e)?;
-            Ok(add_for_each(alloc, problem, universe, env, tally, domain.rows(), 2, g)?)
+            let more = terms_for_each(*quantifier);
+            Ok(add_for_each(alloc, problem, universe, env, tally, domain.rows(), more, g)?)
         }
     }
 }
@@ -181,13 +173,14 @@ fn add_at(
     Ok(())
 }
 
-// Adds the terms of an inclusion.
-fn add_within(
+// Adds the terms of a comparison.
+fn add_compared(
     alloc: Global,
     problem: &Problem,
     universe: &TupleSet,
     env: &[Atom],
     tally: &mut Tally,
+    comparison: Comparison,
     a: &Expression,
     b: &Expression,
 ) -> Result<(), AllocError>
@@ -195,35 +188,35 @@ fn add_within(
     requires universe { IsSetOf universe.now 1 (InSome problem.now.tops (InUpperSet problem.now)) }
     requires left { IsWellFormed (arities_of problem.now) (length env.now) (expression_tree a.now) }
     requires right { IsWellFormed (arities_of problem.now) (length env.now) (expression_tree b.now) }
-    ensures { IfOk result (λ _. Adds (FormulaHas (upper_structure problem.now) (reverse env.now) (within (expression_tree a.now) (expression_tree b.now))) tally.old.terms tally.new.terms) }
-{
-    let left = upper(alloc, problem, universe, env, tally, a)?;
-    upper(alloc, problem, universe, env, tally, b)?;
-    tally.add_size(&left);
-    Ok(())
-}
-
-// Adds the terms of an equation.
-fn add_equal(
-    alloc: Global,
-    problem: &Problem,
-    universe: &TupleSet,
-    env: &[Atom],
-    tally: &mut Tally,
-    a: &Expression,
-    b: &Expression,
-) -> Result<(), AllocError>
-    requires problem { IsProblem problem.now }
-    requires universe { IsSetOf universe.now 1 (InSome problem.now.tops (InUpperSet problem.now)) }
-    requires left { IsWellFormed (arities_of problem.now) (length env.now) (expression_tree a.now) }
-    requires right { IsWellFormed (arities_of problem.now) (length env.now) (expression_tree b.now) }
-    ensures { IfOk result (λ _. Adds (FormulaHas (upper_structure problem.now) (reverse env.now) (equal (expression_tree a.now) (expression_tree b.now))) tally.old.terms tally.new.terms) }
+    ensures { IfOk result (λ _. Adds (FormulaHas (upper_structure problem.now) (reverse env.now) (compared comparison (expression_tree a.now) (expression_tree b.now))) tally.old.terms tally.new.terms) }
 {
     let left = upper(alloc, problem, universe, env, tally, a)?;
     let right = upper(alloc, problem, universe, env, tally, b)?;
-    tally.add_size(&left);
-    tally.add_size(&right);
+    add_sizes(tally, comparison, &left, &right);
     Ok(())
+}
+
+// Adds what a comparison of two sets adds itself.
+fn add_sizes(tally: &mut Tally, comparison: Comparison, left: &TupleSet, right: &TupleSet)
+    ensures { Adds (compared_terms comparison (Contains left.now.rows) (Contains right.now.rows)) tally.old.terms tally.new.terms }
+{
+    match comparison {
+        Comparison::In => tally.add_size(left),
+        Comparison::Equal => {
+            tally.add_size(left);
+            tally.add_size(right);
+        }
+    }
+}
+
+// What a quantifier adds for each atom.
+fn terms_for_each(quantifier: Quantifier) -> usize
+    ensures { result ≡ each_terms quantifier }
+{
+    match quantifier {
+        Quantifier::All | Quantifier::Exists => 1,
+        Quantifier::Lone => 2,
+    }
 }
 
 // Adds the terms of a count of tuples.

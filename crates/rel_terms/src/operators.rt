@@ -2,16 +2,16 @@
 // nothing but its arity.
 ghost use Rattle.std.specs.Prelude.{◌≡◌, ◌≤◌, ◌<◌, ◌+◌, ◌-◌, ◌^◌, ◌∷◌, [], ℕ, List, Contains, IfOk};
 ghost use Rattle.tuple_core.specs.declared.atom.Atom.{Atom as AtomRecord};
-ghost use Rattle.tuple_core.specs.Operators.{United, Met, Multiplied, Joined, Transposed, Closed, DomainIn, RangeIn};
+ghost use Rattle.tuple_core.specs.Operators.{United, Met, Multiplied, Joined, Transposed, Closed, DomainIn, RangeIn, turned, may_combine, arity_with, Fit};
 ghost use Rattle.rel_formula.specs.Sizes.{HasSize};
 ghost use Rattle.rel_terms.specs.Numbers.{Is, ◌⊕◌, ◌⊗◌};
-ghost use Rattle.rel_terms.specs.Terms.{Meeting};
+ghost use Rattle.rel_terms.specs.Terms.{Meeting, own_terms, turn_terms};
 ghost use Rattle.rel_terms.specs.Counting.{IsCounted};
 
 use crate::pairs::{add_meetings, joins};
 use crate::tally::Tally;
 use std::alloc::{AllocError, Global};
-use tuple_core::{Atom, Tuple, TupleSet};
+use tuple_core::{Atom, Operator, Tuple, TupleSet, UnaryOperator};
 
 // A set that is there.
 pub fn whole(alloc: Global, tally: &mut Tally, set: &TupleSet) -> Result<TupleSet, AllocError>
@@ -56,7 +56,7 @@ pub fn identity(
 }
 
 // The tuples of either set.
-pub fn united(
+fn united(
     alloc: Global,
     tally: &mut Tally,
     left: &TupleSet,
@@ -72,7 +72,7 @@ pub fn united(
 }
 
 // The tuples of the one set, of which the other takes none away for sure.
-pub fn lessened(tally: &mut Tally, left: TupleSet, right: &TupleSet) -> TupleSet
+fn lessened(tally: &mut Tally, left: TupleSet, right: &TupleSet) -> TupleSet
     ensures { IsCounted result left.arity (Contains left.rows) (HasSize (Contains left.rows) ⊕ HasSize (Contains right.now.rows)) tally.old.terms tally.new.terms }
 {
     tally.add_size(&left);
@@ -81,7 +81,7 @@ pub fn lessened(tally: &mut Tally, left: TupleSet, right: &TupleSet) -> TupleSet
 }
 
 // The tuples of both sets.
-pub fn met(
+fn met(
     alloc: Global,
     tally: &mut Tally,
     left: &TupleSet,
@@ -97,7 +97,7 @@ pub fn met(
 }
 
 // The pairs of either set: each of the other counts twice.
-pub fn overridden(
+fn overridden(
     alloc: Global,
     tally: &mut Tally,
     left: &TupleSet,
@@ -114,7 +114,7 @@ pub fn overridden(
 }
 
 // Each tuple of the one set followed by each of the other.
-pub fn multiplied(
+fn multiplied(
     alloc: Global,
     tally: &mut Tally,
     left: &TupleSet,
@@ -132,7 +132,7 @@ pub fn multiplied(
 }
 
 // What the tuples of the one set join to with those of the other: each pair that meets counts.
-pub fn joined(
+fn joined(
     alloc: Global,
     tally: &mut Tally,
     left: &TupleSet,
@@ -151,11 +151,7 @@ pub fn joined(
 }
 
 // The pairs turned round.
-pub fn transposed(
-    alloc: Global,
-    tally: &mut Tally,
-    pairs: &TupleSet,
-) -> Result<TupleSet, AllocError>
+fn transposed(alloc: Global, tally: &mut Tally, pairs: &TupleSet) -> Result<TupleSet, AllocError>
     requires { pairs.now.arity ≡ 2 }
     ensures { IfOk result (λ v. IsCounted v 2 (Transposed (Contains pairs.now.rows)) (HasSize (Contains pairs.now.rows)) tally.old.terms tally.new.terms) }
 {
@@ -165,7 +161,7 @@ pub fn transposed(
 
 // The pairs with a walk from the first atom to the second: each pair of two of these that meet counts six times. The
 // walks grow step by step, and no further once they count too much.
-pub fn closed(alloc: Global, tally: &mut Tally, pairs: &TupleSet) -> Result<TupleSet, AllocError>
+fn closed(alloc: Global, tally: &mut Tally, pairs: &TupleSet) -> Result<TupleSet, AllocError>
     requires { pairs.now.arity ≡ 2 }
     ensures { IfOk result (λ v. IsCounted v 2 (Closed (Contains pairs.now.rows)) (Is 6 ⊗ HasSize (Meeting (Closed (Contains pairs.now.rows)) (Closed (Contains pairs.now.rows)))) tally.old.terms tally.new.terms) }
 {
@@ -188,7 +184,7 @@ pub fn closed(alloc: Global, tally: &mut Tally, pairs: &TupleSet) -> Result<Tupl
 }
 
 // The tuples whose first atom is in the unary set `atoms`.
-pub fn domain_in(
+fn domain_in(
     alloc: Global,
     tally: &mut Tally,
     atoms: &TupleSet,
@@ -202,7 +198,7 @@ pub fn domain_in(
 }
 
 // The tuples whose last atom is in the unary set `atoms`.
-pub fn range_in(
+fn range_in(
     alloc: Global,
     tally: &mut Tally,
     tuples: &TupleSet,
@@ -213,4 +209,43 @@ pub fn range_in(
 {
     tally.add_size(tuples);
     tuples.ran(alloc, atoms)
+}
+
+// What the operator may make of two sets.
+pub fn combined(
+    alloc: Global,
+    tally: &mut Tally,
+    operator: Operator,
+    left: TupleSet,
+    right: &TupleSet,
+) -> Result<TupleSet, AllocError>
+    requires { Fit operator left.arity right.now.arity }
+    ensures { IfOk result (λ v. IsCounted v (arity_with operator left.arity right.now.arity) (may_combine operator (Contains left.rows) (Contains right.now.rows)) (own_terms operator (Contains left.rows) (Contains right.now.rows)) tally.old.terms tally.new.terms) }
+{
+    match operator {
+        Operator::Union => Ok(united(alloc, tally, &left, right)?),
+        Operator::Minus => Ok(lessened(tally, left, right)),
+        Operator::Meet => Ok(met(alloc, tally, &left, right)?),
+        Operator::Product => Ok(multiplied(alloc, tally, &left, right)?),
+        Operator::Join => Ok(joined(alloc, tally, &left, right)?),
+        Operator::Override => Ok(overridden(alloc, tally, &left, right)?),
+        Operator::Dom => Ok(domain_in(alloc, tally, &left, right)?),
+        Operator::Ran => Ok(range_in(alloc, tally, &left, right)?),
+    }
+}
+
+// What the operator makes of a set of pairs.
+pub fn turned_pairs(
+    alloc: Global,
+    tally: &mut Tally,
+    operator: UnaryOperator,
+    pairs: &TupleSet,
+) -> Result<TupleSet, AllocError>
+    requires { pairs.now.arity ≡ 2 }
+    ensures { IfOk result (λ v. IsCounted v 2 (turned operator (Contains pairs.now.rows)) (turn_terms operator (Contains pairs.now.rows)) tally.old.terms tally.new.terms) }
+{
+    match operator {
+        UnaryOperator::Transpose => Ok(transposed(alloc, tally, pairs)?),
+        UnaryOperator::Closure => Ok(closed(alloc, tally, pairs)?),
+    }
 }

@@ -1,5 +1,5 @@
 // A running number of terms, which isn't followed above the limit.
-ghost use Rattle.std.specs.Prelude.{◌≡◌, ◌≤◌, ◌<◌, ◌↔◌, ◌^◌, ◌*◌, ℕ, IsTrue, Contains, IfSome, IfNone, length, OnOk};
+ghost use Rattle.std.specs.Prelude.{◌≡◌, ◌≤◌, ◌<◌, ◌↔◌, ◌^◌, ◌*◌, ◌+◌, ℕ, IsTrue, Contains, IfSome, IfNone, length, OnOk, OnErr};
 ghost use Rattle.rel_formula.specs.Sizes.{HasSize};
 ghost use Rattle.rel_terms.specs.Numbers.{Is};
 ghost use Rattle.rel_terms.specs.Counting.{Adds};
@@ -17,13 +17,14 @@ const MOST_LOOKS: u32 = 268_435_456;
 #[derive(Drop)]
 pub struct Tally {
     pub terms: u32,
-    looks: u32,
+    pub looks: u32,
 }
 
 impl Tally {
-    // No terms.
+    // No terms, and nothing looked at.
     pub fn new() -> Tally
-        ensures { result.terms ≡ 0 }
+        ensures terms { result.terms ≡ 0 }
+        ensures looks { result.looks ≡ 0 }
     {
         Tally { terms: 0, looks: 0 }
     }
@@ -49,7 +50,9 @@ impl Tally {
 
     // Notes that one more node is looked at. After the most nodes it answers want of memory.
     pub fn look(&mut self) -> Result<(), AllocError>
-        ensures { OnOk result (self.new.terms ≡ self.old.terms) }
+        ensures terms { OnOk result (self.new.terms ≡ self.old.terms) }
+        ensures looks { OnOk result (self.new.looks ≡ self.old.looks + 1) }
+        ensures err { OnErr result (2 ^ 28 ≤ self.old.looks) }
     {
         if self.looks >= MOST_LOOKS {
             return Err(AllocError);

@@ -1,16 +1,18 @@
 -- Upper values are made of the problem's atoms.
-use Rattle.std.proofs.Common.{◌≡◌, ℕ, ◌<◌, ◌≤◌, ◌⊎◌, inl, inr, List, [], ◌∷◌, ◌++◌, Contains, All, length, refl, subst, sym, arith}
+use Rattle.std.proofs.Common.{ℕ, inl, inr, List, [], ◌∷◌, Contains, All, length, refl, subst, sym, arith}
 use Rattle.std.proofs.lemmas.Bool.{cases_lt}
 use Rattle.std.proofs.lemmas.List.{get_or_past}
 use Rattle.std.proofs.lemmas.List.Elements.{All-contains, Contains-get_or, Contains-append_cases, Contains-append_left, Contains-append_right}
 use Rattle.tuple_core.specs.declared.atom.Atom.{Atom}
+use Rattle.tuple_core.specs.declared.operator.Operator.TheVariants as operator
+use Rattle.tuple_core.specs.declared.operator.UnaryOperator.TheVariants as unary_operator
 use Rattle.tuple_core.specs.Operators.{Pred, Walk}
 use Rattle.tuple_core.specs.Gains.{Same}
 use Rattle.bool_matrix.specs.Cells.{Cells, ThereIn}
 use Rattle.bool_matrix.specs.Closure.{HasFewAtoms as BeginsWithFew}
 use Rattle.rel_formula.specs.declared.problem.Relation.{Relation}
 use Rattle.rel_formula.specs.Bounds.{Bounded, IsAtomOf, HasFewAtoms, relation_at}
-use Rattle.rel_formula.specs.Kernel.{ExpressionTree, rel, var, nothing, univ, iden, union, minus, meet, product, join, transpose, closure, override, dom, ran}
+use Rattle.rel_formula.specs.Kernel.{ExpressionTree, rel, var, nothing, univ, iden, binary, unary}
 use Rattle.rel_formula.proofs.Lists.{some-Contains}
 use Rattle.rel_formula.proofs.OpenCells.{cons_cases}
 use Rattle.rel_formula.proofs.Tabled.{no_relation}
@@ -50,29 +52,29 @@ module _ (p : Bounded) where
     upper_atoms iden t a u c =
         let is = in_upper_set u.1.0 (u.0 ∷ []) u.0 u.1.2 (first_of u.0 []) in
         two u.0 u.0 a (subst (λ v. Contains v a) u.2 c) is is
-    upper_atoms (union x y) t a u c = elim u [ inl l ↦ upper_atoms x t a l c | inr r ↦ upper_atoms y t a r c ]
-    upper_atoms (minus x y) t a u c = upper_atoms x t a u c
-    upper_atoms (meet x y) t a u c = upper_atoms x t a u.0 c
-    upper_atoms (product x y) t a u c = elim (Contains-append_cases u.0 u.1 a (subst (λ v. Contains v a) u.4 c)) [
+    upper_atoms (binary operator.Union x y) t a u c = elim u [ inl l ↦ upper_atoms x t a l c | inr r ↦ upper_atoms y t a r c ]
+    upper_atoms (binary operator.Minus x y) t a u c = upper_atoms x t a u c
+    upper_atoms (binary operator.Meet x y) t a u c = upper_atoms x t a u.0 c
+    upper_atoms (binary operator.Product x y) t a u c = elim (Contains-append_cases u.0 u.1 a (subst (λ v. Contains v a) u.4 c)) [
       | inl l ↦ upper_atoms x u.0 a u.2 l
       | inr r ↦ upper_atoms y u.1 a u.3 r
     ]
-    upper_atoms (join x y) t a u c =
+    upper_atoms (binary operator.Join x y) t a u c =
         let j = u.4 in
         elim (Contains-append_cases j.0 j.2 a (subst (λ v. Contains v a) j.5 c)) [
           | inl l ↦ upper_atoms x u.0 a u.2 (subst (λ v. Contains v a) (sym j.3) (Contains-append_left j.0 (j.1 ∷ []) a l))
           | inr r ↦ upper_atoms y u.1 a u.3 (subst (λ v. Contains v a) (sym j.4) (Contains-append_right (j.1 ∷ []) j.2 a r))
         ]
-    upper_atoms (transpose x) t a u c =
+    upper_atoms (unary unary_operator.Transpose x) t a u c =
         let f = upper_atoms x (u.0 ∷ u.1 ∷ []) u.0 u.2 (first_of u.0 (u.1 ∷ [])) in
         let g = upper_atoms x (u.0 ∷ u.1 ∷ []) u.1 u.2 (Contains-append_right (u.0 ∷ []) (u.1 ∷ []) u.1 (first_of u.1 [])) in
         two u.1 u.0 a (subst (λ v. Contains v a) u.3 c) g f
-    upper_atoms (closure x) t a u c =
+    upper_atoms (unary unary_operator.Closure x) t a u c =
         let ends = walk_ends (InUpperAt (upper_structure p) env x) (upper_atoms x) u.0 u.1 u.2 u.4 in
         two u.0 u.2 a (subst (λ v. Contains v a) u.3 c) ends.0 ends.1
-    upper_atoms (override x y) t a u c = elim u [ inl l ↦ upper_atoms x t a l c | inr r ↦ upper_atoms y t a r c ]
-    upper_atoms (dom s x) t a u c = upper_atoms x t a u.0 c
-    upper_atoms (ran x s) t a u c = upper_atoms x t a u.0 c
+    upper_atoms (binary operator.Override x y) t a u c = elim u [ inl l ↦ upper_atoms x t a l c | inr r ↦ upper_atoms y t a r c ]
+    upper_atoms (binary operator.Dom s x) t a u c = upper_atoms x t a u.0 c
+    upper_atoms (binary operator.Ran x s) t a u c = upper_atoms x t a u.0 c
 
     -- at most 64 atoms begin a pair
     pub few_begin : (e : ExpressionTree) (m : Cells) → HasFewAtoms p → Same (ThereIn m) (InUpperAt (upper_structure p) env e) → BeginsWithFew 64 (ThereIn m)

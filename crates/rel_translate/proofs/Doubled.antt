@@ -1,13 +1,13 @@
 -- Each atom of a matrix beside itself.
-use Rattle.std.proofs.Common.{◌≡◌, ℕ, Bool, IsTrue, List, [], ◌∷◌, Contains, length, refl, sym, ◌∙◌, ap, subst}
+use Rattle.std.proofs.Common.{◌≡◌, ℕ, Bool, IsTrue, List, [], ◌∷◌, Contains, sym, ◌∙◌, ap, subst}
 use Rattle.tuple_core.specs.declared.atom.Atom.{Atom}
-use Rattle.tuple_core.specs.Operators.{Pred, BeginsWith}
+use Rattle.tuple_core.specs.Operators.{Pred}
 use Rattle.tuple_core.specs.Gains.{Same, SomeGives}
 use Rattle.bool_circuit.specs.Network.{Network}
 use Rattle.bool_circuit.specs.Value.{value_at}
 use Rattle.bool_matrix.specs.declared.entry.Entry.{Entry}
 use Rattle.bool_matrix.specs.Cells.{Cells, TrueIn, ThereIn}
-use Rattle.rel_formula.proofs.Valued.{Doubles, one_atom, first_same, double_is}
+use Rattle.rel_formula.proofs.Valued.{Doubles}
 
 -- t is the entry's atom beside itself
 abbrev pub DoubleAt : Entry → Pred

@@ -1,26 +1,24 @@
 -- The nodes of formulas over expressions, of negations, and of lists of formulas.
-use Rattle.std.proofs.Common.{◌≡◌, ℕ, zero, suc, ◌+◌, ◌*◌, ◌==◌, ◌≤◌, ◌<◌, ◌↔◌, ◌⊎◌, inl, inr, Bool, true, false, IsTrue, List, [], ◌∷◌, All, AllPairs, Contains, length, get_or, take, refl, sym, ◌∙◌, ap, subst, arith}
+use Rattle.std.proofs.Common.{◌≡◌, ℕ, zero, suc, ◌+◌, ◌*◌, ◌==◌, ◌≤◌, ◌<◌, ◌↔◌, inl, inr, Bool, true, false, IsTrue, List, [], ◌∷◌, length, get_or, refl, sym, ◌∙◌, ap, subst, arith}
 use Rattle.std.proofs.Math.Nat.{mul-add}
 use Rattle.std.proofs.lemmas.Bool.{eqb-true, eq-eqb}
 use Rattle.tuple_core.specs.declared.atom.Atom.{Atom}
 use Rattle.tuple_core.specs.Operators.{Pred}
-use Rattle.tuple_core.specs.Gains.{Same}
 use Rattle.bool_circuit.specs.Network.{Network, size}
 use Rattle.bool_circuit.specs.Value.{value_at, Extends}
 use Rattle.bool_circuit.specs.Folding.{IsConstant}
 use Rattle.bool_circuit.proofs.CallerLemmas.{Extends-trans}
-use Rattle.bool_matrix.specs.Cells.{Cells, TrueIn, ThereIn, IsWithin, Says}
+use Rattle.bool_matrix.specs.Cells.{Cells, TrueIn, IsWithin, Says}
 use Rattle.bool_matrix.specs.Counter.{HasAtLeast}
 use Rattle.bool_matrix.proofs.ComparedEntries.{says_same}
 use Rattle.rel_formula.specs.Bounds.{Bounded}
 use Rattle.rel_formula.specs.Kernel.{ExpressionTree, FormulaTree, within, equal, at_least, negation}
 use Rattle.rel_formula.specs.Meaning.{InValue}
 use Rattle.rel_terms.specs.Numbers.{Number, Is, ◌⊕◌, ◌⊗◌}
-use Rattle.rel_terms.proofs.Adding.{sum_right}
-use Rattle.rel_translate.specs.Tables.{structure_at, IsWell}
-use Rattle.rel_translate.specs.Makes.{HasRoomFor, Spends, TermsOf, FormulaTermsOf, IsMatrixFor, IsMade, AreMade, Tells, IsTold}
-use Rattle.rel_translate.proofs.Operators.{SizeOf, there_size, left_most, sum_size, Parts}
-use Rattle.rel_translate.proofs.Spending.{IsAtMost, spends_own, spends_same, room_same, room_left, room_own}
+use Rattle.rel_translate.specs.Tables.{structure_at}
+use Rattle.rel_translate.specs.Makes.{HasRoomFor, Spends, TermsOf, FormulaTermsOf, IsMade, AreMade, Tells, IsTold}
+use Rattle.rel_translate.proofs.Operators.{SizeOf, there_size, left_most, sum_size}
+use Rattle.rel_translate.proofs.Spending.{IsAtMost, spends_own, spends_same, room_left, room_own}
 
 -- without tuples that are there none is true
 no_tuple : (network : Network) (m : Cells) (s : ℕ → Bool) (t : List Atom) → length m.entries ≡ 0 → TrueIn network m s t → ⊥
@@ -70,8 +68,7 @@ module _ (p : Bounded) (env : List Atom) where
     within_room h = room_own (SizeOf p env a) (length l.entries) h both.spends (left_most p env both)
 
     pub equal_room : HasRoomFor (size start) (FormulaTermsOf p env (equal a b)) → size mid + 16 * (length l.entries + length r.entries) < 1073741823
-    equal_room h = room_own (SizeOf p env a ⊕ SizeOf p env b) (length l.entries + length r.entries)
-        (room_same (size start) (FormulaTermsOf p env (equal a b)) (Parts p env both ⊕ (SizeOf p env a ⊕ SizeOf p env b)) (sum_right (Parts p env both) (SizeOf p env a) (SizeOf p env b)) h) both.spends (sum_size p env both)
+    equal_room h = room_own (SizeOf p env a ⊕ SizeOf p env b) (length l.entries + length r.entries) h both.spends (sum_size p env both)
 
     pub constant_room : {C : Number} → HasRoomFor (size start) ((TermsOf p env a ⊕ TermsOf p env b) ⊕ C) → size mid < 1073741823
     constant_room {C} h = let l = room_own C 0 h both.spends (λ n c. omega arith) in omega arith
@@ -93,10 +90,9 @@ module _ (p : Bounded) (env : List Atom) where
       pub equal_told : Says new node (λ s. IsWithin (TrueIn mid l s) (TrueIn mid r s) × IsWithin (TrueIn mid r s) (TrueIn mid l s)) → size new ≤ size mid + 3 * (length l.entries + length r.entries)
           → (length l.entries + length r.entries ≡ 0 → ⊥) → IsTold start new p env (equal a b) node
       equal_told says most some =
-          tells_same (λ s. IsWithin (ValueAt s a) (ValueAt s b) × IsWithin (ValueAt s b) (ValueAt s a)) (FormulaTermsOf p env (equal a b)) (λ s. (λ h. h, λ h. h)) (sum_right (Parts p env both) (SizeOf p env a) (SizeOf p env b))
-          (tells_own {D = SizeOf p env a ⊕ SizeOf p env b} (λ s. IsWithin (ValueAt s a) (ValueAt s b) × IsWithin (ValueAt s b) (ValueAt s a)) (length l.entries + length r.entries) both.spends extends
+          tells_own {D = SizeOf p env a ⊕ SizeOf p env b} (λ s. IsWithin (ValueAt s a) (ValueAt s b) × IsWithin (ValueAt s b) (ValueAt s a)) (length l.entries + length r.entries) both.spends extends
           (says_same (λ s. (λ h. ((within_same s).0 h.0, (around_same s).0 h.1), λ h. ((within_same s).1 h.0, (around_same s).1 h.1))) says)
-          (less (length l.entries + length r.entries) most some) (sum_size p env both))
+          (less (length l.entries + length r.entries) most some) (sum_size p env both)
         where
           less : (k : ℕ) → size new ≤ size mid + 3 * k → (k ≡ 0 → ⊥) → size new < size mid + 16 * k
           less zero m n = absurd (n refl)
@@ -104,12 +100,11 @@ module _ (p : Bounded) (env : List Atom) where
 
       pub equal_none : Says new node (λ s. IsTrue true) → size new ≤ size mid → IsConstant new node → length l.entries ≡ 0 → length r.entries ≡ 0 → IsTold start new p env (equal a b) node
       equal_none says most constant left right =
-          tells_same (λ s. IsWithin (ValueAt s a) (ValueAt s b) × IsWithin (ValueAt s b) (ValueAt s a)) (FormulaTermsOf p env (equal a b)) (λ s. (λ h. h, λ h. h)) (sum_right (Parts p env both) (SizeOf p env a) (SizeOf p env b))
-          (tells_constant {D = SizeOf p env a ⊕ SizeOf p env b} (λ s. IsWithin (ValueAt s a) (ValueAt s b) × IsWithin (ValueAt s b) (ValueAt s a)) both.spends extends
+          tells_constant {D = SizeOf p env a ⊕ SizeOf p env b} (λ s. IsWithin (ValueAt s a) (ValueAt s b) × IsWithin (ValueAt s b) (ValueAt s a)) both.spends extends
           (says_same (λ s. (
             λ h. (λ t v. absurd (no_tuple mid l s t left ((both.left.is.value s).back t v)), λ t v. absurd (no_tuple mid r s t right ((both.right.is.value s).back t v))),
             λ h. refl,
-          )) says) most constant)
+          )) says) most constant
 
   module _ {start mid : Network} {e : ExpressionTree} {m : Cells} (n : ℕ) (one : IsMade start mid p env e m) where
     count_same : (s : ℕ → Bool) → HasAtLeast n (TrueIn mid m s) ↔ HasAtLeast n (ValueAt s e)
@@ -165,7 +160,7 @@ module _ (p : Bounded) (env : List Atom) where
     within_parts h = room_left used (TermsOf p env a ⊕ TermsOf p env b) (SizeOf p env a) h
 
     pub equal_parts : HasRoomFor used (FormulaTermsOf p env (equal a b)) → HasRoomFor used (TermsOf p env a ⊕ TermsOf p env b)
-    equal_parts h = room_left used (TermsOf p env a ⊕ TermsOf p env b) (SizeOf p env a) (room_left used ((TermsOf p env a ⊕ TermsOf p env b) ⊕ SizeOf p env a) (SizeOf p env b) h)
+    equal_parts h = room_left used (TermsOf p env a ⊕ TermsOf p env b) (SizeOf p env a ⊕ SizeOf p env b) h
 
   pub count_parts : (used n : ℕ) (e : ExpressionTree) → HasRoomFor used (FormulaTermsOf p env (at_least n e)) → HasRoomFor used (TermsOf p env e)
   count_parts used n e h = room_left used (TermsOf p env e) (SizeOf p env e ⊗ Is (n + 1)) h
@@ -174,9 +169,7 @@ module _ (p : Bounded) (env : List Atom) where
   count_room_none {e = e} n one h = let l = room_own (SizeOf p env e ⊗ Is (n + 1)) 0 h one.spends (λ k c. omega arith) in omega arith
 
   pub constant_room_both : {start mid : Network} {a b : ExpressionTree} {l r : Cells} → AreMade start mid p env a b l r → HasRoomFor (size start) (FormulaTermsOf p env (equal a b)) → size mid < 1073741823
-  constant_room_both {a = a} {b = b} both h =
-      let k = room_own (SizeOf p env a ⊕ SizeOf p env b) 0 (room_same _ (FormulaTermsOf p env (equal a b)) ((TermsOf p env a ⊕ TermsOf p env b) ⊕ (SizeOf p env a ⊕ SizeOf p env b)) (sum_right (TermsOf p env a ⊕ TermsOf p env b) (SizeOf p env a) (SizeOf p env b)) h) both.spends (λ n c. omega arith) in
-      omega arith
+  constant_room_both {a = a} {b = b} both h = let k = room_own (SizeOf p env a ⊕ SizeOf p env b) 0 h both.spends (λ n c. omega arith) in omega arith
 
 -- what a test says where it is false
 pub truth_not : (b : Bool) {P : Type 0} → IsTrue b ↔ P → b ≡ false → P → ⊥

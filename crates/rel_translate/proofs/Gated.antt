@@ -1,5 +1,5 @@
 -- What gates say of the facts that their operands say.
-use Rattle.std.proofs.Common.{◌≡◌, ℕ, ◌<◌, ◌↔◌, ◌⊎◌, inl, inr, Bool, not, ◌&&◌, ◌||◌, IsTrue, length, arith}
+use Rattle.std.proofs.Common.{ℕ, ◌<◌, ◌⊎◌, inl, inr, Bool, not, ◌&&◌, ◌||◌, IsTrue, length, arith}
 use Rattle.bool_circuit.specs.Network.{Network}
 use Rattle.bool_circuit.specs.Value.{value_at, Extends, Stands}
 use Rattle.bool_circuit.proofs.CallerLemmas.{Extends-trans}

@@ -1,10 +1,10 @@
 -- Lists of formulas, and a formula at the atoms of a quantifier's domain, step by step.
-use Rattle.std.proofs.Common.{◌≡◌, ℕ, zero, suc, ◌+◌, ◌*◌, ◌≤◌, ◌<◌, ◌↔◌, ◌⊎◌, inl, inr, Bool, true, false, IsTrue, List, [], ◌∷◌, ◌++◌, All, AllPairs, Contains, Vec, Global, map, length, get_or, take, drop, refl, sym, ◌∙◌, ap, subst, arith}
+use Rattle.std.proofs.Common.{◌≡◌, ℕ, ◌+◌, ◌≤◌, ◌<◌, ◌↔◌, ◌⊎◌, inl, inr, Bool, IsTrue, List, [], ◌∷◌, All, AllPairs, Contains, map, length, get_or, take, drop, refl, sym, ◌∙◌, ap, subst, arith}
 use Rattle.std.specs.List.{Any}
 use Rattle.std.specs.declared.cmp.Ordering.TheVariants.{Less, Equal}
 use Rattle.std.proofs.lemmas.Bool.{cases_lt}
 use Rattle.std.proofs.lemmas.Cmp.{tied_itself}
-use Rattle.std.proofs.lemmas.List.{take_all, take-append-drop, take-map, length-map, get_or-map, get_or_default}
+use Rattle.std.proofs.lemmas.List.{take_all, take-append-drop, length-map, get_or-map, get_or_default}
 use Rattle.std.proofs.lemmas.List.Elements.{All-contains, All-map, Contains-get_or}
 use Rattle.tuple_core.specs.declared.atom.Atom.{Atom}
 use Rattle.tuple_core.specs.Operators.{Pred, BeginsWith}
@@ -16,27 +16,30 @@ use Rattle.bool_circuit.specs.Value.{value_at, Extends}
 use Rattle.bool_circuit.specs.Folding.{IsConstant}
 use Rattle.bool_circuit.proofs.CallerLemmas.{Extends-trans}
 use Rattle.bool_matrix.specs.declared.entry.Entry.{Entry}
-use Rattle.bool_matrix.specs.Cells.{Cells, TrueIn, ThereIn, Says}
+use Rattle.bool_matrix.specs.Cells.{Cells, TrueIn, Says}
 use Rattle.bool_matrix.proofs.ComparedEntries.{says_same}
 use Rattle.bool_matrix.proofs.Nodes.{says_kept}
-use Rattle.rel_formula.specs.declared.formula.Formula.{Formula, And, Or}
+use Rattle.rel_formula.specs.declared.connectives.Connective.{Connective}
+use Rattle.rel_formula.specs.declared.connectives.Connective.TheVariants as connective
+use Rattle.rel_formula.specs.declared.connectives.Quantifier.{Quantifier}
+use Rattle.rel_formula.specs.declared.connectives.Quantifier.TheVariants as quantifier
+use Rattle.rel_formula.specs.declared.formula.Formula.{Formula}
 use Rattle.rel_formula.specs.Bounds.{Bounded, IsAtomOf}
-use Rattle.rel_formula.specs.Kernel.{ExpressionTree, FormulaTree, for_all, for_some, for_at_most_one, formulas_of}
+use Rattle.rel_formula.specs.Kernel.{ExpressionTree, FormulaTree, quantified}
 use Rattle.rel_formula.specs.View.{formula_tree}
-use Rattle.rel_formula.specs.Meaning.{Structure, InValue, Truth}
-use Rattle.rel_formula.specs.Evaluation.{IsTrueAt}
+use Rattle.rel_formula.specs.Meaning.{Structure, InValue, HoldsFor, Truth}
+use Rattle.rel_formula.specs.Evaluation.{IsTrueAt, HoldsOf}
 use Rattle.rel_formula.specs.Shape.{arity_of}
-use Rattle.rel_formula.proofs.AndOrParts.{And-tree, Or-tree, Truth-And, Truth-Or}
 use Rattle.rel_formula.proofs.Valued.{one_atom, first_same}
 use Rattle.rel_terms.specs.Numbers.{Number, Is, ◌⊕◌}
 use Rattle.rel_terms.specs.Upper.{upper_structure}
-use Rattle.rel_terms.specs.Terms.{FormulaHas, FormulasHave, SumsOver}
+use Rattle.rel_terms.specs.Terms.{FormulaHas, SumsOver, each_terms}
 use Rattle.rel_terms.specs.Counting.{RowsHave, arities_of}
 use Rattle.rel_terms.proofs.PartTerms.{PartsHave, parts_append, AtomHas, rows_append, rows_sums}
-use Rattle.rel_translate.specs.Tables.{structure_at, IsWell}
-use Rattle.rel_translate.specs.Makes.{HasRoomFor, Spends, TermsOf, FormulaTermsOf, IsMatrixFor, IsMade, Tells, IsTold}
-use Rattle.rel_translate.specs.Grounding.{IsImplied, IsMet, AreNotBothMet}
-use Rattle.rel_translate.proofs.Lists.{take_last, all_more, any_more, two_more}
+use Rattle.rel_translate.specs.Tables.{structure_at}
+use Rattle.rel_translate.specs.Makes.{HasRoomFor, Spends, TermsOf, FormulaTermsOf, IsMade, Tells, IsTold}
+use Rattle.rel_translate.specs.Grounding.{Connects, Guarded, IsGuarded, IsMet, AreNotBothMet, IsGrounded}
+use Rattle.rel_translate.proofs.Lists.{take_last, junction_more, connects_same, guarded_same, two_more}
 use Rattle.rel_translate.proofs.MatrixSizes.{tuples_list}
 use Rattle.rel_translate.proofs.Spending.{spends_both, spends_same, room_same, room_left, room_right}
 use Rattle.rel_translate.proofs.Gated.{says_later}
@@ -218,34 +221,24 @@ module _ {now mid : Network} (old : Network) (p : Bounded) (env : List Atom) (f 
         λ h. (told.says.value s).1 (subst (λ b. Truth (structure_at p s) (b ∷ env) f) (first_same h.0 a x.tuple h.1 row) h.2),
       )
 
-  met_same : (s : ℕ → Bool) → (IsTrue (value_at mid x.node s) × IsTrue (value_at mid body s)) ↔ IsMet old s p env f x
-  met_same s = (λ h. ((guard_same s).0 h.0, (body_same s).0 h.1), λ h. ((guard_same s).1 h.0, (body_same s).1 h.1))
+  guarded_at : (c : Connective) (s : ℕ → Bool) → Guarded c (IsTrue (value_at mid x.node s)) (IsTrue (value_at mid body s)) ↔ IsGuarded c old s p env f x
+  guarded_at c s = guarded_same c (guard_same s) (body_same s)
 
-  pub all_turn : {new : Network} {all node : ℕ} → Says now all (λ s. All (IsImplied old s p env f) (take i es)) → Says new node (λ s. IsTrue (value_at mid all s) × (IsTrue (value_at mid x.node s) → IsTrue (value_at mid body s))) →
-      Says new node (λ s. All (IsImplied old s p env f) (take (i + 1) es))
-  all_turn {all = all} before says =
+  pub guarded_turn : {new : Network} {so_far node : ℕ} (c : Connective) → Says now so_far (λ s. HoldsOf c (IsGuarded c old s p env f) (take i es)) →
+      Says new node (λ s. Connects c (IsTrue (value_at mid so_far s)) (Guarded c (IsTrue (value_at mid x.node s)) (IsTrue (value_at mid body s)))) →
+      Says new node (λ s. HoldsOf c (IsGuarded c old s p env f) (take (i + 1) es))
+  guarded_turn c before says =
       let later = says_later told.spends.extends before in
       says_same (λ s.
-      let step = all_more (IsImplied old s p env f) es i x l e in (
-        λ h. step.1 ((later.value s).0 h.0, λ g. (body_same s).0 (h.1 ((guard_same s).1 g))),
-        λ h. let r = step.0 h in ((later.value s).1 r.0, λ g. (body_same s).1 (r.1 ((guard_same s).0 g))),
-      )) says
-
-  pub some_turn : {new : Network} {any node : ℕ} → Says now any (λ s. Any (IsMet old s p env f) (take i es)) → Says new node (λ s. IsTrue (value_at mid any s) ⊎ (IsTrue (value_at mid x.node s) × IsTrue (value_at mid body s))) →
-      Says new node (λ s. Any (IsMet old s p env f) (take (i + 1) es))
-  some_turn before says =
-      let later = says_later told.spends.extends before in
-      says_same (λ s.
-      let step = any_more (IsMet old s p env f) es i x l e in (
-        λ h. step.1 (elim h [ inl b ↦ inl ((later.value s).0 b) | inr m ↦ inr ((met_same s).0 m) ]),
-        λ h. elim (step.0 h) [ inl b ↦ inl ((later.value s).1 b) | inr m ↦ inr ((met_same s).1 m) ],
-      )) says
+      let step = junction_more (IsGuarded c old s p env f) c es i x l e in
+      let both = connects_same c (later.value s) (guarded_at c s) in
+      (λ h. step.1 (both.0 h), λ h. both.1 (step.0 h))) says
 
   pub found_turn : {later new : Network} {found node : ℕ} → Extends mid later → Says now found (λ s. Any (IsMet old s p env f) (take i es)) → Says new node (λ s. IsTrue (value_at later found s) ⊎ (IsTrue (value_at later x.node s) × IsTrue (value_at later body s))) →
       Says new node (λ s. Any (IsMet old s p env f) (take (i + 1) es))
   found_turn {later} {new} {found} extends before says =
       let mine = says_later told.spends.extends before in
-      some_turn before (says_same (λ s.
+      guarded_turn connective.Or before (says_same (λ s.
       let kept_found = says_kept mid later extends found mine.there s in
       let kept_guard = says_kept mid later extends x.node (let m = extends_mid.longer in omega arith) s in
       let kept_body = says_kept mid later extends body told.says.there s in (
@@ -261,8 +254,8 @@ module _ {now mid : Network} (old : Network) (p : Bounded) (env : List Atom) (f 
       let lone = says_later told.spends.extends before_lone in
       says_same (λ s.
       let step = two_more (IsMet old s p env f) es i x l e in (
-        λ h. step.1 ((lone.value s).0 h.0, λ any met. let m = (met_same s).1 met in h.1 ((found.value s).1 any) m.0 m.1),
-        λ h. let r = step.0 h in ((lone.value s).1 r.0, λ g b c. r.1 ((found.value s).0 g) ((met_same s).0 (b, c))),
+        λ h. step.1 ((lone.value s).0 h.0, λ any met. let m = (guarded_at connective.Or s).1 met in h.1 ((found.value s).1 any) m.0 m.1),
+        λ h. let r = step.0 h in ((lone.value s).1 r.0, λ g b c. r.1 ((found.value s).0 g) ((guarded_at connective.Or s).0 (b, c))),
       )) says
 
 -- from the tuples of the domain's matrix to its value
@@ -283,11 +276,11 @@ module _ (network : Network) (s : ℕ → Bool) (p : Bounded) (env : List Atom) 
   body_at : (e : Entry) (a : Atom) → a ∷ [] ≡ e.tuple → IsTrueAt (structure_at p s) env f e.tuple → BodyAt a
   body_at e a is h = subst BodyAt (first_same h.0 a e.tuple h.1 (sym is)) h.2
 
-  pub implied_is : All (IsImplied network s p env f) m.entries ↔ ((a : Atom) → P (a ∷ []) → BodyAt a)
+  implied_is : All (IsGuarded connective.And network s p env f) m.entries ↔ ((a : Atom) → P (a ∷ []) → BodyAt a)
   implied_is = (
     λ all a v.
         let g = value.back (a ∷ []) v in
-        body_at g.0 a g.2.0 (All-contains (IsImplied network s p env f) m.entries g.0 all g.1 g.2.1),
+        body_at g.0 a g.2.0 (All-contains (IsGuarded connective.And network s p env f) m.entries g.0 all g.1 g.2.1),
     λ each k d l h.
         let e = get_or m.entries k d in
         let c = Contains-get_or m.entries k d l in
@@ -295,7 +288,7 @@ module _ (network : Network) (s : ℕ → Bool) (p : Bounded) (env : List Atom) 
         (at.0, at.1, each at.0 (entry_value e at.0 c at.1 h)),
   )
 
-  pub met_is : Any (IsMet network s p env f) m.entries ↔ ((a : Atom) × P (a ∷ []) × BodyAt a)
+  met_is : Any (IsMet network s p env f) m.entries ↔ ((a : Atom) × P (a ∷ []) × BodyAt a)
   met_is = (
     λ h.
         let c : Contains m.entries h.1 = (h.0, h.2, h.3) in
@@ -306,7 +299,7 @@ module _ (network : Network) (s : ℕ → Bool) (p : Bounded) (env : List Atom) 
         (g.1.0, g.0, g.1.1, g.1.2, (g.2.1, (h.0, sym g.2.0, h.2))),
   )
 
-  pub lone_is : AllPairs (λ d e. tuple_cmp d.tuple e.tuple ≡ Less) m.entries → AllPairs (AreNotBothMet network s p env f) m.entries ↔ ((a b : Atom) → P (a ∷ []) → BodyAt a → P (b ∷ []) → BodyAt b → a ≡ b)
+  lone_is : AllPairs (λ d e. tuple_cmp d.tuple e.tuple ≡ Less) m.entries → AllPairs (AreNotBothMet network s p env f) m.entries ↔ ((a b : Atom) → P (a ∷ []) → BodyAt a → P (b ∷ []) → BodyAt b → a ≡ b)
   lone_is ascending = (
     λ two a b v h w k.
         let c = value.back (a ∷ []) v in
@@ -338,6 +331,11 @@ module _ (network : Network) (s : ℕ → Bool) (p : Bounded) (env : List Atom) 
         cc,
   )
 
+  pub grounded_is : AllPairs (λ d e. tuple_cmp d.tuple e.tuple ≡ Less) m.entries → (q : Quantifier) → IsGrounded q network s p env f m.entries ↔ HoldsFor q P BodyAt
+  grounded_is ascending quantifier.All = implied_is
+  grounded_is ascending quantifier.Exists = met_is
+  grounded_is ascending quantifier.Lone = lone_is ascending
+
 -- a quantifier, from the matrix of its domain and the node of its loop
 module _ (p : Bounded) (env : List Atom) {start mid : Network} {e : ExpressionTree} {m : Cells} (domain : IsMade start mid p env e m) (unary : arity_of (arities_of p) e ≡ 1) where
   abbrev DomainAt : (ℕ → Bool) → Pred
@@ -364,7 +362,7 @@ module _ (p : Bounded) (env : List Atom) {start mid : Network} {e : ExpressionTr
     pub domain_room : HasRoomFor (size start) (TermsOf p env e ⊕ Sums) → HasRoomFor (size mid) (RowsHave (upper_structure p) env more f (tuples_of m.entries))
     domain_room h = room_same (size mid) Sums (RowsHave (upper_structure p) env more f (tuples_of m.entries)) (λ n. (sums_are n).0) (room_right Sums h domain.spends)
 
-    pub grounded : {new : Network} {node : ℕ} (F G : (ℕ → Bool) → Type 0) → ((s : ℕ → Bool) → F s ↔ G s) → Tells mid new node F (RowsHave (upper_structure p) env more f (tuples_of m.entries)) → Tells start new node G (TermsOf p env e ⊕ Sums)
+    grounded : {new : Network} {node : ℕ} (F G : (ℕ → Bool) → Type 0) → ((s : ℕ → Bool) → F s ↔ G s) → Tells mid new node F (RowsHave (upper_structure p) env more f (tuples_of m.entries)) → Tells start new node G (TermsOf p env e ⊕ Sums)
     grounded F G same t = record {
       spends = spends_both domain.spends (spends_same (λ n. (sums_are n).0) t.spends);
       says = says_same same t.says;
@@ -374,15 +372,6 @@ module _ (p : Bounded) (env : List Atom) {start mid : Network} {e : ExpressionTr
       ];
     }
 
-  module _ {new : Network} {node : ℕ} (f : FormulaTree) where
-    pub for_all_told : Tells mid new node (λ s. All (IsImplied mid s p env f) m.entries) (RowsHave (upper_structure p) env 1 f (tuples_of m.entries)) → IsTold start new p env (for_all e f) node
-    for_all_told t = grounded 1 f (λ s. All (IsImplied mid s p env f) m.entries) (λ s. Truth (structure_at p s) env (for_all e f))
-        (λ s. implied_is mid s p env f m (DomainAt s) (domain.is.is.value s) domain_single) t
-
-    pub for_some_told : Tells mid new node (λ s. Any (IsMet mid s p env f) m.entries) (RowsHave (upper_structure p) env 1 f (tuples_of m.entries)) → IsTold start new p env (for_some e f) node
-    for_some_told t = grounded 1 f (λ s. Any (IsMet mid s p env f) m.entries) (λ s. Truth (structure_at p s) env (for_some e f))
-        (λ s. met_is mid s p env f m (DomainAt s) (domain.is.is.value s) domain_single) t
-
-    pub lone_told : Tells mid new node (λ s. AllPairs (AreNotBothMet mid s p env f) m.entries) (RowsHave (upper_structure p) env 2 f (tuples_of m.entries)) → IsTold start new p env (for_at_most_one e f) node
-    lone_told t = grounded 2 f (λ s. AllPairs (AreNotBothMet mid s p env f) m.entries) (λ s. Truth (structure_at p s) env (for_at_most_one e f))
-        (λ s. lone_is mid s p env f m (DomainAt s) (domain.is.is.value s) domain_single domain.is.well.ascending) t
+  pub quantified_told : {new : Network} {node : ℕ} (q : Quantifier) (f : FormulaTree) → Tells mid new node (λ s. IsGrounded q mid s p env f m.entries) (RowsHave (upper_structure p) env (each_terms q) f (tuples_of m.entries)) → IsTold start new p env (quantified q e f) node
+  quantified_told q f t = grounded (each_terms q) f (λ s. IsGrounded q mid s p env f m.entries) (λ s. Truth (structure_at p s) env (quantified q e f))
+      (λ s. grounded_is mid s p env f m (DomainAt s) (domain.is.is.value s) domain_single domain.is.well.ascending q) t

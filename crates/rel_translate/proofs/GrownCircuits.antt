@@ -8,7 +8,7 @@ use Rattle.tuple_core.proofs.Congruence.{same_back, same_then}
 use Rattle.bool_circuit.specs.Network.{Network}
 use Rattle.bool_circuit.specs.Value.{Extends}
 use Rattle.bool_circuit.proofs.CallerLemmas.{Stands-kept}
-use Rattle.bool_matrix.specs.Cells.{Cells, IsCells, IsMatrixOf, TrueIn, ThereIn}
+use Rattle.bool_matrix.specs.Cells.{Cells, IsCells, IsMatrixOf}
 use Rattle.bool_matrix.proofs.Loops.{of_kept, true_in_kept}
 use Rattle.rel_formula.specs.Bounds.{Bounded, IsAtomOf}
 use Rattle.rel_translate.specs.Tables.{IsWell, AreTables, IsReady}

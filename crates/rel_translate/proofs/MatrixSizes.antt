@@ -1,5 +1,5 @@
 -- How many tuples of a matrix are there, and how many of them join.
-use Rattle.std.proofs.Common.{◌≡◌, ℕ, ◌≤◌, List, [], ◌∷◌, map, length, Contains, sym, ◌∙◌, ap, arith}
+use Rattle.std.proofs.Common.{◌≡◌, ℕ, ◌≤◌, List, length, Contains, sym, ◌∙◌, ap, arith}
 use Rattle.std.specs.declared.cmp.Ordering.TheVariants.{Less}
 use Rattle.std.proofs.lemmas.List.{length-map}
 use Rattle.std.proofs.lemmas.List.Elements.{All-contains}
@@ -10,7 +10,7 @@ use Rattle.tuple_core.specs.Gains.{Same}
 use Rattle.bool_matrix.specs.declared.entry.Entry.{Entry}
 use Rattle.bool_matrix.specs.Cells.{Cells, IsCells, ThereIn}
 use Rattle.bool_matrix.specs.Terms.{tuples, joins}
-use Rattle.bool_matrix.proofs.DistinctLists.{In, tuples_distinct, tuple_there, there_tuple}
+use Rattle.bool_matrix.proofs.DistinctLists.{tuples_distinct, tuple_there, there_tuple}
 use Rattle.bool_matrix.proofs.JoiningPairs.{joins_bounded}
 use Rattle.rel_formula.specs.Sizes.{IsListOf, HasSize}
 use Rattle.rel_formula.proofs.Lists.{pairs_map}

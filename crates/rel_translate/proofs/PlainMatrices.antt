@@ -1,11 +1,8 @@
 -- The matrices of the expressions without operands, and of two expressions.
-use Rattle.std.proofs.Common.{◌≡◌, ℕ, ◌+◌, ◌-◌, ◌<◌, Bool, List, [], ◌∷◌, length, reverse, get_or, refl, sym, ◌∙◌, ap, subst, arith}
+use Rattle.std.proofs.Common.{◌≡◌, ℕ, ◌-◌, ◌<◌, List, [], ◌∷◌, length, reverse, get_or, refl, sym, ◌∙◌, subst, arith}
 use Rattle.std.proofs.lemmas.List.{length-map}
 use Rattle.tuple_core.specs.declared.atom.Atom.{Atom}
-use Rattle.tuple_core.specs.Operators.{Pred}
-use Rattle.tuple_core.specs.Gains.{Same}
-use Rattle.tuple_core.proofs.Congruence.{same_itself}
-use Rattle.bool_circuit.specs.Network.{Network, size}
+use Rattle.bool_circuit.specs.Network.{Network}
 use Rattle.bool_circuit.proofs.Values.{Extends-refl}
 use Rattle.bool_matrix.specs.Cells.{Cells, TrueIn, ThereIn}
 use Rattle.rel_formula.specs.declared.problem.Relation.{Relation}

@@ -1,5 +1,5 @@
 -- What is spent, part by part, and the room that is left.
-use Rattle.std.proofs.Common.{◌≡◌, ℕ, ◌+◌, ◌*◌, ◌≤◌, ◌<◌, arith}
+use Rattle.std.proofs.Common.{ℕ, ◌+◌, ◌*◌, ◌≤◌, ◌<◌, arith}
 use Rattle.bool_circuit.specs.Network.{Network, size}
 use Rattle.bool_circuit.specs.Value.{Extends}
 use Rattle.bool_circuit.proofs.CallerLemmas.{Extends-trans}

@@ -1,41 +1,39 @@
 -- The matrices of relations and of the universe, tuple by tuple.
-use Rattle.std.proofs.Common.{◌≡◌, ℕ, zero, suc, ◌+◌, ◌≤◌, ◌<◌, ◌↔◌, ◌⊎◌, inl, inr, Bool, true, false, IsTrue, List, [], ◌∷◌, ◌++◌, All, AllPairs, Contains, Some, length, get_or, take, slice_get, refl, sym, ◌∙◌, ap, subst, arith}
+use Rattle.std.proofs.Common.{◌≡◌, ℕ, ◌+◌, ◌≤◌, ◌<◌, ◌↔◌, inl, inr, Bool, true, false, IsTrue, List, [], ◌∷◌, ◌++◌, All, AllPairs, Contains, Some, length, get_or, take, slice_get, refl, sym, ◌∙◌, ap, subst, arith}
 use Rattle.std.specs.List.{list_any}
 use Rattle.std.specs.Ordering.{eq_by_cmp}
 use Rattle.std.specs.declared.cmp.Ordering.TheVariants.{Less, Equal}
 use Rattle.std.proofs.lemmas.Bool.{cases_lt}
 use Rattle.std.proofs.lemmas.Cmp.{tied_itself}
-use Rattle.std.proofs.lemmas.List.{take_all, get_or_default, get_or-take, get_or-map, length-take-le, length-map, length_push, get_or_append_left, get_or_push}
-use Rattle.std.proofs.lemmas.List.Elements.{All-contains, Contains-get_or}
+use Rattle.std.proofs.lemmas.List.{take_all, get_or_default, get_or-take, get_or-map, length-take-le, length_push, get_or_append_left, get_or_push}
+use Rattle.std.proofs.lemmas.List.Elements.{Contains-get_or}
 use Rattle.tuple_core.specs.declared.atom.Atom.{Atom}
 use Rattle.tuple_core.specs.Operators.{Pred, United}
 use Rattle.tuple_core.specs.Order.{tuple_cmp, IsAscending}
 use Rattle.tuple_core.specs.Gains.{Same, Gains, SomeGives}
-use Rattle.tuple_core.specs.Rows.{Rows, IsRows}
 use Rattle.tuple_core.proofs.Ascending.{tuple_order}
 use Rattle.tuple_core.proofs.Congruence.{same_then}
-use Rattle.tuple_core.proofs.Steps.{gains_more, gains_same, more_gives}
+use Rattle.tuple_core.proofs.Steps.{more_gives}
 use Rattle.bool_circuit.specs.declared.shape.Shape.{Shape}
 use Rattle.bool_circuit.specs.Network.{Network, size, missing}
 use Rattle.bool_circuit.specs.Value.{value_at, Extends, Stands}
 use Rattle.bool_circuit.proofs.CallerLemmas.{Stands-kept}
 use Rattle.bool_matrix.specs.declared.entry.Entry.{Entry}
-use Rattle.bool_matrix.specs.Cells.{Cells, IsCells, IsOf, AtEntry, TrueAt, TrueIn, ThereIn, Says, IsMatrixOf, MatrixGains}
+use Rattle.bool_matrix.specs.Cells.{Cells, IsCells, IsOf, AtEntry, TrueAt, TrueIn, ThereIn, Says, MatrixGains}
 use Rattle.bool_matrix.specs.Edits.{Puts}
 use Rattle.bool_matrix.proofs.Nodes.{from_stands}
 use Rattle.bool_matrix.proofs.Loops.{of_empty, matrix_made}
 use Rattle.rel_formula.specs.declared.problem.Relation.{Relation}
-use Rattle.rel_formula.specs.declared.problem.Cell.{Cell}
 use Rattle.rel_formula.specs.Bounds.{Bounded, IsProblem, HasDisjointTops, relation_at, cell_of, cells_of}
 use Rattle.rel_formula.specs.Kernel.{rel}
-use Rattle.rel_formula.specs.Instance.{HasCell, InRelation, InSome}
+use Rattle.rel_formula.specs.Instance.{InRelation, InSome}
 use Rattle.rel_formula.proofs.Cells.{any_row}
 use Rattle.rel_formula.proofs.OpenCells.{open_cell, cell_open}
 use Rattle.rel_formula.proofs.Tabled.{no_relation, some_more}
-use Rattle.rel_terms.specs.Upper.{InUpperSet, upper_structure}
+use Rattle.rel_terms.specs.Upper.{InUpperSet}
 use Rattle.rel_terms.specs.Counting.{arities_of}
 use Rattle.rel_terms.proofs.Uppers.{lies_in}
-use Rattle.rel_translate.specs.Tables.{structure_at, IsWell, AreLeaves, IsRelationOf, IsUniverseOf}
+use Rattle.rel_translate.specs.Tables.{IsWell, AreLeaves, IsRelationOf, IsUniverseOf}
 
 -- the cells whose inputs are true
 abbrev pub ChosenAt : (ℕ → Bool) → ℕ → Type 0

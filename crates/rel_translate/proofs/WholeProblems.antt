@@ -1,16 +1,15 @@
 -- The whole problem: where the inputs choose its cells.
-use Rattle.std.proofs.Common.{◌≡◌, ℕ, ◌+◌, ◌*◌, ◌≤◌, ◌<◌, ◌^◌, ◌↔◌, ◌⊎◌, inl, inr, Bool, IsTrue, List, [], ◌∷◌, Contains, length, Some, slice_get, sym, ◌∙◌, ap, subst, arith}
-use Rattle.tuple_core.specs.declared.atom.Atom.{Atom}
+use Rattle.std.proofs.Common.{ℕ, ◌+◌, ◌≤◌, ◌<◌, ◌↔◌, inl, inr, List, [], Contains, length, arith}
 use Rattle.tuple_core.specs.Gains.{Same}
 use Rattle.bool_circuit.specs.Network.{Network, size}
-use Rattle.bool_matrix.specs.Cells.{Cells, Says}
+use Rattle.bool_matrix.specs.Cells.{Cells}
 use Rattle.rel_formula.specs.Bounds.{Bounded, IsProblem, cell_of, cells_of}
-use Rattle.rel_formula.specs.Instance.{HasCell, InRelation, InSome, structure_of, HoldsWhere, IsScenario, IsInstance}
+use Rattle.rel_formula.specs.Instance.{InRelation, InSome, structure_of, HoldsWhere, IsScenario, IsInstance}
 use Rattle.rel_formula.proofs.Congruence.{truth_same}
 use Rattle.rel_formula.proofs.Lists.{some_below}
 use Rattle.rel_terms.specs.Terms.{HasTerms, IsTranslatable}
 use Rattle.rel_translate.specs.Tables.{AreTables, IsReady}
-use Rattle.rel_translate.specs.Makes.{HasRoomFor, Tells, IsTold}
+use Rattle.rel_translate.specs.Makes.{HasRoomFor}
 
 module _ (p : Bounded) (C D : ℕ → Type 0) (same : (n : ℕ) → n < length (cells_of p) → C n ↔ D n) where
   relation_same : (r : ℕ) → Same (InRelation p C r) (InRelation p D r)

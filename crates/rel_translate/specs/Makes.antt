@@ -1,5 +1,5 @@
 -- What a translation makes, and how many nodes it may spend.
-use Rattle.std.specs.Prelude.{◌≡◌, ◌<◌, ◌≤◌, ◌+◌, ◌*◌, ◌⊎◌, ℕ, Bool, List}
+use Rattle.std.specs.Prelude.{◌<◌, ◌≤◌, ◌+◌, ◌*◌, ◌⊎◌, ℕ, Bool, List}
 use Rattle.tuple_core.specs.declared.atom.Atom.{Atom}
 use Rattle.bool_circuit.specs.Network.{Network, size}
 use Rattle.bool_circuit.specs.Value.{Extends}

@@ -2,7 +2,7 @@
 ghost use Rattle.std.specs.Prelude.{◌≡◌, ◌↔◌, ◌+◌, length, reverse, IfOk, IsTrue};
 ghost use Rattle.bool_circuit.specs.Network.{size};
 ghost use Rattle.rel_formula.specs.View.{expression_tree};
-ghost use Rattle.rel_formula.specs.Kernel.{within, equal, at_least};
+ghost use Rattle.rel_formula.specs.Kernel.{compared, within, equal, at_least};
 ghost use Rattle.rel_formula.specs.Shape.{arity_of, IsWellFormed};
 ghost use Rattle.rel_terms.specs.Counting.{arities_of};
 ghost use Rattle.rel_translate.specs.Tables.{IsReady};
@@ -13,7 +13,7 @@ use crate::gates::constant;
 use crate::tables::Tables;
 use bool_circuit::{Circuit, Node};
 use bool_matrix::Matrix;
-use rel_formula::{Expression, Problem};
+use rel_formula::{Comparison, Expression, Problem};
 use std::alloc::{AllocError, Global};
 use tuple_core::Atom;
 
@@ -31,8 +31,32 @@ fn are_empty(left: &Matrix, right: &Matrix) -> bool
     is_empty(left) && is_empty(right)
 }
 
+// The node of a comparison.
+pub fn is_compared(
+    alloc: Global,
+    problem: &Problem,
+    tables: &Tables,
+    env: &[Atom],
+    circuit: &mut Circuit,
+    comparison: Comparison,
+    a: &Expression,
+    b: &Expression,
+) -> Result<Node, AllocError>
+    requires ready { IsReady circuit.old problem.now tables.now.always tables.now.relations.items tables.now.universe (reverse env.now) }
+    requires left { IsWellFormed (arities_of problem.now) (length env.now) (expression_tree a.now) }
+    requires right { IsWellFormed (arities_of problem.now) (length env.now) (expression_tree b.now) }
+    requires arities { arity_of (arities_of problem.now) (expression_tree a.now) ≡ arity_of (arities_of problem.now) (expression_tree b.now) }
+    requires room { HasRoomFor (size circuit.old) (FormulaTermsOf problem.now (reverse env.now) (compared comparison (expression_tree a.now) (expression_tree b.now))) }
+    ensures { IfOk result (λ node. IsTold circuit.old circuit.new problem.now (reverse env.now) (compared comparison (expression_tree a.now) (expression_tree b.now)) node) }
+{
+    match comparison {
+        Comparison::In => Ok(is_within(alloc, problem, tables, env, circuit, a, b)?),
+        Comparison::Equal => Ok(is_equal(alloc, problem, tables, env, circuit, a, b)?),
+    }
+}
+
 // The node of an inclusion: a constant where no tuple of the first set is there.
-pub fn is_within(
+fn is_within(
     alloc: Global,
     problem: &Problem,
     tables: &Tables,
@@ -58,7 +82,7 @@ pub fn is_within(
 }
 
 // The node of an equation: a constant where no tuple is there.
-pub fn is_equal(
+fn is_equal(
     alloc: Global,
     problem: &Problem,
     tables: &Tables,

@@ -44,53 +44,14 @@ pub fn matrix(
         Expression::None => Ok(nothing(alloc)),
         Expression::Univ => Ok(tables.universe.copy(alloc)?),
         Expression::Iden => Ok(identity(alloc, &tables.universe)?),
-        Expression::Union(a, b) => {
+        Expression::Binary(operator, a, b) => {
             let left = matrix(alloc, problem, tables, env, circuit, a)?;
             let right = matrix(alloc, problem, tables, env, circuit, b)?;
-            Ok(left.union(alloc, circuit, &right)?)
+            Ok(left.combine(alloc, circuit, *operator, &right)?)
         }
-        Expression::Minus(a, b) => {
-            let left = matrix(alloc, problem, tables, env, circuit, a)?;
-            let right = matrix(alloc, problem, tables, env, circuit, b)?;
-            Ok(left.minus(alloc, circuit, &right)?)
-        }
-        Expression::Meet(a, b) => {
-            let left = matrix(alloc, problem, tables, env, circuit, a)?;
-            let right = matrix(alloc, problem, tables, env, circuit, b)?;
-            Ok(left.meet(alloc, circuit, &right)?)
-        }
-        Expression::Product(a, b) => {
-            let left = matrix(alloc, problem, tables, env, circuit, a)?;
-            let right = matrix(alloc, problem, tables, env, circuit, b)?;
-            Ok(left.product(alloc, circuit, &right)?)
-        }
-        Expression::Join(a, b) => {
-            let left = matrix(alloc, problem, tables, env, circuit, a)?;
-            let right = matrix(alloc, problem, tables, env, circuit, b)?;
-            Ok(left.join(alloc, circuit, &right)?)
-        }
-        Expression::Transpose(a) => {
+        Expression::Unary(operator, a) => {
             let pairs = matrix(alloc, problem, tables, env, circuit, a)?;
-            Ok(pairs.transpose(alloc)?)
-        }
-        Expression::Closure(a) => {
-            let pairs = matrix(alloc, problem, tables, env, circuit, a)?;
-            Ok(pairs.closure(alloc, circuit)?)
-        }
-        Expression::Override(a, b) => {
-            let left = matrix(alloc, problem, tables, env, circuit, a)?;
-            let right = matrix(alloc, problem, tables, env, circuit, b)?;
-            Ok(left.over(alloc, circuit, &right)?)
-        }
-        Expression::Dom(s, a) => {
-            let left = matrix(alloc, problem, tables, env, circuit, s)?;
-            let right = matrix(alloc, problem, tables, env, circuit, a)?;
-            Ok(right.dom(alloc, circuit, &left)?)
-        }
-        Expression::Ran(a, s) => {
-            let left = matrix(alloc, problem, tables, env, circuit, a)?;
-            let right = matrix(alloc, problem, tables, env, circuit, s)?;
-            Ok(left.ran(alloc, circuit, &right)?)
+            Ok(pairs.turn(alloc, circuit, *operator)?)
         }
     }
 }

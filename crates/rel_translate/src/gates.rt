@@ -1,15 +1,71 @@
 // Gates of nodes that say facts of the inputs.
-ghost use Rattle.std.specs.Prelude.{◌≤◌, ◌<◌, ◌+◌, ◌⊎◌, length, IfOk, OnOk, IsTrue};
+ghost use Rattle.std.specs.Prelude.{◌≡◌, ◌≤◌, ◌<◌, ◌+◌, ◌⊎◌, length, IfOk, OnOk, IsTrue};
 ghost use Rattle.bool_circuit.specs.Network.{size};
 ghost use Rattle.bool_circuit.specs.Value.{value_at, Extends};
 ghost use Rattle.bool_circuit.specs.Folding.{IsConstant};
 ghost use Rattle.bool_matrix.specs.Cells.{Says};
+ghost use Rattle.rel_translate.specs.Grounding.{Connects, Guarded, holds_of_none};
 
 use bool_circuit::{Circuit, MOST_NODES, Node};
+use rel_formula::Connective;
 use std::alloc::AllocError;
 
-// A node that is true where both are. It is no new one where one of them is a constant.
-pub fn both(circuit: &mut Circuit, a: Node, b: Node) -> Result<Node, AllocError>
+// A node that is true where both are, or where either is. It is no new one where the second is a constant.
+pub fn connected(
+    circuit: &mut Circuit,
+    connective: Connective,
+    a: Node,
+    b: Node,
+) -> Result<Node, AllocError>
+    requires first { a < length circuit.old.shapes }
+    requires second { b < length circuit.old.shapes }
+    requires room { size circuit.old < MOST_NODES }
+    ensures extends { Extends circuit.old circuit.new }
+    ensures says { IfOk result (λ n. Says circuit.new n (λ inputs. Connects connective (IsTrue (value_at circuit.old a inputs)) (IsTrue (value_at circuit.old b inputs)))) }
+    ensures size { size circuit.new ≤ size circuit.old + 1 }
+    ensures folded { IsConstant circuit.old b → size circuit.new ≤ size circuit.old }
+{
+    match connective {
+        Connective::And => Ok(both(circuit, a, b)?),
+        Connective::Or => Ok(either(circuit, a, b)?),
+    }
+}
+
+// A node that is true where `so_far` is, and the body where the guard is; or where `so_far` is, or both the guard and the
+// body.
+pub fn guarded_also(
+    circuit: &mut Circuit,
+    connective: Connective,
+    so_far: Node,
+    guard: Node,
+    body: Node,
+) -> Result<Node, AllocError>
+    requires so_far { so_far < length circuit.old.shapes }
+    requires guard { guard < length circuit.old.shapes }
+    requires body { body < length circuit.old.shapes }
+    requires room { size circuit.old + 2 < MOST_NODES }
+    ensures extends { Extends circuit.old circuit.new }
+    ensures says { IfOk result (λ n. Says circuit.new n (λ inputs. Connects connective (IsTrue (value_at circuit.old so_far inputs)) (Guarded connective (IsTrue (value_at circuit.old guard inputs)) (IsTrue (value_at circuit.old body inputs))))) }
+    ensures size { size circuit.new ≤ size circuit.old + 3 }
+{
+    match connective {
+        Connective::And => Ok(implied_also(circuit, so_far, guard, body)?),
+        Connective::Or => Ok(met_also(circuit, so_far, guard, body)?),
+    }
+}
+
+// What a junction of no formula is.
+pub fn of_none(connective: Connective) -> bool
+    ensures { result ≡ holds_of_none connective }
+{
+    match connective {
+        Connective::And => true,
+        Connective::Or => false,
+    }
+}
+
+// A node that is true where both are. It is no new one where the second is a constant.
+fn both(circuit: &mut Circuit, a: Node, b: Node) -> Result<Node, AllocError>
     requires first { a < length circuit.old.shapes }
     requires second { b < length circuit.old.shapes }
     requires room { size circuit.old < MOST_NODES }
@@ -23,7 +79,7 @@ pub fn both(circuit: &mut Circuit, a: Node, b: Node) -> Result<Node, AllocError>
 }
 
 // A node that is true where either is. It is no new one where the second is a constant.
-pub fn either(circuit: &mut Circuit, a: Node, b: Node) -> Result<Node, AllocError>
+fn either(circuit: &mut Circuit, a: Node, b: Node) -> Result<Node, AllocError>
     requires first { a < length circuit.old.shapes }
     requires second { b < length circuit.old.shapes }
     requires room { size circuit.old < MOST_NODES }
@@ -61,7 +117,7 @@ pub fn constant(circuit: &mut Circuit, b: bool) -> Result<Node, AllocError>
 }
 
 // A node that is true where `all` is, and the body where the guard is.
-pub fn implied_also(
+fn implied_also(
     circuit: &mut Circuit,
     all: Node,
     guard: Node,

@@ -1,7 +1,11 @@
 -- Operators on sets that have the same tuples.
-use Rattle.std.proofs.Common.{◌≡◌, ℕ, List, [], ◌∷◌, inl, inr, ◌↔◌, Contains, ◌∙◌}
+use Rattle.std.proofs.Common.{◌≡◌, ℕ, List, [], ◌∷◌, inl, inr, ◌↔◌, Contains, ◌∙◌, ap, refl}
 use Rattle.tuple_core.specs.declared.atom.Atom.{Atom}
-use Rattle.tuple_core.specs.Operators.{Pred, United, Without, Met, Joined, Multiplied, Transposed, Walk, Closed, IsFirstIn, Overridden, DomainIn, RangeIn, Moved}
+use Rattle.tuple_core.specs.declared.operator.Operator.{Operator}
+use Rattle.tuple_core.specs.declared.operator.Operator.TheVariants as operator
+use Rattle.tuple_core.specs.declared.operator.UnaryOperator.{UnaryOperator}
+use Rattle.tuple_core.specs.declared.operator.UnaryOperator.TheVariants as unary_operator
+use Rattle.tuple_core.specs.Operators.{Pred, United, Without, Met, Joined, Multiplied, Transposed, Walk, Closed, IsFirstIn, Overridden, DomainIn, RangeIn, Moved, combined, may_combine, turned, arity_with}
 use Rattle.tuple_core.specs.Gains.{Same}
 use Rattle.tuple_core.specs.Rows.{Rows, IsSetOf}
 
@@ -75,3 +79,36 @@ rows_same is = record { to = λ t. (is.just t).0; back = λ t. (is.just t).1 }
 
 pub set_of_same : {v : Rows} {n m : ℕ} {P Q : Pred} → n ≡ m → Same P Q → IsSetOf v n P → IsSetOf v m Q
 set_of_same e s is = record { arity_is = is.arity_is ∙ e; just = λ t. (λ c. s.to t ((is.just t).0 c), λ q. (is.just t).1 (s.back t q)) }
+
+-- an operator on sets that have the same tuples
+pub combined_same : (o : Operator) {P Q R S : Pred} → Same P R → Same Q S → Same (combined o P Q) (combined o R S)
+combined_same operator.Union f g = United-same f g
+combined_same operator.Minus f g = Without-same f g
+combined_same operator.Meet f g = Met-same f g
+combined_same operator.Product f g = Multiplied-same f g
+combined_same operator.Join f g = Joined-same f g
+combined_same operator.Override f g = Overridden-same f g
+combined_same operator.Dom f g = DomainIn-same f g
+combined_same operator.Ran f g = RangeIn-same f g
+
+pub may_combine_same : (o : Operator) {P Q R S : Pred} → Same P R → Same Q S → Same (may_combine o P Q) (may_combine o R S)
+may_combine_same operator.Union f g = United-same f g
+may_combine_same operator.Minus f g = f
+may_combine_same operator.Meet f g = Met-same f g
+may_combine_same operator.Product f g = Multiplied-same f g
+may_combine_same operator.Join f g = Joined-same f g
+may_combine_same operator.Override f g = United-same f g
+may_combine_same operator.Dom f g = DomainIn-same f g
+may_combine_same operator.Ran f g = RangeIn-same f g
+
+pub turned_same : (o : UnaryOperator) {P R : Pred} → Same P R → Same (turned o P) (turned o R)
+turned_same unary_operator.Transpose f = Transposed-same f
+turned_same unary_operator.Closure f = Closed-same f
+
+pub combined_is : (o : Operator) {l r v : Rows} {n m : ℕ} {P Q : Pred} → IsSetOf l n P → IsSetOf r m Q →
+    IsSetOf v (arity_with o l.arity r.arity) (combined o (Contains l.rows) (Contains r.rows)) → IsSetOf v (arity_with o n m) (combined o P Q)
+combined_is o {l} {r} {v} {n} {m} f g is =
+    set_of_same (ap (λ k. arity_with o k r.arity) f.arity_is ∙ ap (arity_with o n) g.arity_is) (combined_same o (rows_same f) (rows_same g)) is
+
+pub turned_is : (o : UnaryOperator) {l v : Rows} {n : ℕ} {P : Pred} → IsSetOf l n P → IsSetOf v 2 (turned o (Contains l.rows)) → IsSetOf v 2 (turned o P)
+turned_is o f is = set_of_same refl (turned_same o (rows_same f)) is

@@ -1,6 +1,10 @@
 -- What the relational operators do, said of sets of tuples as facts of a tuple.
-use Rattle.std.specs.Prelude.{◌≡◌, List, [], ◌∷◌, ◌++◌, ◌⊎◌, map}
+use Rattle.std.specs.Prelude.{◌≡◌, ◌≤◌, ◌+◌, ◌-◌, ℕ, List, [], ◌∷◌, ◌++◌, ◌⊎◌, map}
 use Rattle.tuple_core.specs.declared.atom.Atom.{Atom}
+use Rattle.tuple_core.specs.declared.operator.Operator.{Operator}
+use Rattle.tuple_core.specs.declared.operator.Operator.TheVariants as operator
+use Rattle.tuple_core.specs.declared.operator.UnaryOperator.{UnaryOperator}
+use Rattle.tuple_core.specs.declared.operator.UnaryOperator.TheVariants as unary_operator
 use Rattle.tuple_core.specs.Swap.{swap_atoms}
 
 -- a set of tuples, as the fact of belonging to it
@@ -75,3 +79,52 @@ Moved f P t = (u : List Atom) × P u × (t ≡ map f u)
 -- the tuples of P with a and b exchanged
 abbrev pub Swapped : Atom → Atom → Pred → Pred
 Swapped a b P = Moved (swap_atoms a b) P
+
+-- what an operator makes of two sets
+abbrev pub combined : Operator → Pred → Pred → Pred
+combined operator.Union P Q = United P Q
+combined operator.Minus P Q = Without P Q
+combined operator.Meet P Q = Met P Q
+combined operator.Product P Q = Multiplied P Q
+combined operator.Join P Q = Joined P Q
+combined operator.Override P Q = Overridden P Q
+combined operator.Dom P Q = DomainIn P Q
+combined operator.Ran P Q = RangeIn P Q
+
+-- what it may make of them, where they may have these tuples: `minus` and `override` take nothing away
+abbrev pub may_combine : Operator → Pred → Pred → Pred
+may_combine operator.Union P Q = United P Q
+may_combine operator.Minus P Q = P
+may_combine operator.Meet P Q = Met P Q
+may_combine operator.Product P Q = Multiplied P Q
+may_combine operator.Join P Q = Joined P Q
+may_combine operator.Override P Q = United P Q
+may_combine operator.Dom P Q = DomainIn P Q
+may_combine operator.Ran P Q = RangeIn P Q
+
+-- what an operator makes of a set of pairs
+abbrev pub turned : UnaryOperator → Pred → Pred
+turned unary_operator.Transpose P = Transposed P
+turned unary_operator.Closure P = Closed P
+
+-- the arity of what an operator makes of two sets, from theirs
+abbrev pub arity_with : Operator → ℕ → ℕ → ℕ
+arity_with operator.Union n m = n
+arity_with operator.Minus n m = n
+arity_with operator.Meet n m = n
+arity_with operator.Product n m = n + m
+arity_with operator.Join n m = n + m - 2
+arity_with operator.Override n m = 2
+arity_with operator.Dom n m = m
+arity_with operator.Ran n m = n
+
+-- sets of these arities are operands of the operator
+abbrev pub Fit : Operator → ℕ → ℕ → Type 0
+Fit operator.Union n m = n ≡ m
+Fit operator.Minus n m = n ≡ m
+Fit operator.Meet n m = n ≡ m
+Fit operator.Product n m = n + m ≤ 3
+Fit operator.Join n m = (3 ≤ n + m) × (n + m ≤ 5)
+Fit operator.Override n m = (n ≡ 2) × (m ≡ 2)
+Fit operator.Dom n m = n ≡ 1
+Fit operator.Ran n m = m ≡ 1

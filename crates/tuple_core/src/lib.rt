@@ -4,10 +4,12 @@
 mod atom;
 pub mod laws;
 mod name;
+mod operator;
 mod tuple;
 mod tuple_set;
 
 pub use crate::atom::Atom;
 pub use crate::name::Name;
+pub use crate::operator::{Operator, UnaryOperator};
 pub use crate::tuple::Tuple;
 pub use crate::tuple_set::TupleSet;

@@ -1,6 +1,6 @@
 // A set of tuples of one arity, kept and seen as the sorted list of them.
 ghost use Rattle.std.specs.Prelude.{◌≡◌, ◌≤◌, ◌<◌, ◌+◌, ◌-◌, ◌++◌, [], length, slice_get, Some, All, Contains, IfOk, OnErr, IsTrue, ◌↔◌, if◌then◌else◌, false};
-ghost use Rattle.tuple_core.specs.Operators.{United, Without, Met, Joined, Multiplied, Transposed, Closed, IsFirstIn, Overridden, DomainIn, RangeIn, Swapped, JoinsTo};
+ghost use Rattle.tuple_core.specs.Operators.{United, Without, Met, Joined, Multiplied, Transposed, Closed, IsFirstIn, Overridden, DomainIn, RangeIn, Swapped, JoinsTo, combined, turned, arity_with, Fit};
 ghost use Rattle.tuple_core.specs.Gains.{Gains, SomeGives};
 ghost use Rattle.tuple_core.specs.Order.{IsAscending};
 ghost use Rattle.tuple_core.specs.Rows.{IsRows, IsSetOf, SetGains};
@@ -8,6 +8,7 @@ ghost use Rattle.tuple_core.specs.Equality.{set_eq, set_eq_equiv};
 ghost use Rattle.std.specs.Cmp.{partial_equiv_from_equiv};
 
 use crate::atom::Atom;
+use crate::operator::{Operator, UnaryOperator};
 use crate::tuple::Tuple;
 use std::alloc::{AllocError, Global};
 use std::marker::Model;
@@ -253,6 +254,39 @@ impl TupleSet {
             out.insert_if(row, atoms.contains(&Tuple::single(row.last())))?;
         }
         Ok(out)
+    }
+
+    /// What the operator makes of this set and the other.
+    pub fn combine(
+        &self,
+        alloc: Global,
+        operator: Operator,
+        other: &TupleSet,
+    ) -> Result<TupleSet, AllocError>
+        requires { Fit operator self.now.arity other.now.arity }
+        ensures { IfOk result (λ v. IsSetOf v (arity_with operator self.now.arity other.now.arity) (combined operator (Contains self.now.rows) (Contains other.now.rows))) }
+    {
+        match operator {
+            Operator::Union => Ok(self.union(alloc, other)?),
+            Operator::Minus => Ok(self.minus(alloc, other)?),
+            Operator::Meet => Ok(self.meet(alloc, other)?),
+            Operator::Product => Ok(self.product(alloc, other)?),
+            Operator::Join => Ok(self.join(alloc, other)?),
+            Operator::Override => Ok(self.over(alloc, other)?),
+            Operator::Dom => Ok(other.dom(alloc, self)?),
+            Operator::Ran => Ok(self.ran(alloc, other)?),
+        }
+    }
+
+    /// What the operator makes of this set. The arity is 2.
+    pub fn turn(&self, alloc: Global, operator: UnaryOperator) -> Result<TupleSet, AllocError>
+        requires { self.now.arity ≡ 2 }
+        ensures { IfOk result (λ v. IsSetOf v 2 (turned operator (Contains self.now.rows))) }
+    {
+        match operator {
+            UnaryOperator::Transpose => Ok(self.transpose(alloc)?),
+            UnaryOperator::Closure => Ok(self.closure(alloc)?),
+        }
     }
 
     /// The tuples of this set with the atoms `a` and `b` exchanged.

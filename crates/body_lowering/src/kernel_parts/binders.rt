@@ -1,27 +1,17 @@
 // Quantifiers over several variables, each of which has a binder of its own.
 ghost use Rattle.std.specs.Prelude.{◌≡◌, ◌≤◌, ◌<◌, ◌+◌, ◌-◌, ◌++◌, [], IfOk, map};
 ghost use Rattle.alloy_syntax.specs.declared.tree.Quantifier.TheVariants.{One};
+ghost use Rattle.rel_formula.specs.Kernel as kernel;
 ghost use Rattle.rel_formula.specs.View.{expression_tree, formula_tree};
 ghost use Rattle.lowering_rules.specs.Binders as binders;
 ghost use Rattle.lowering_rules.specs.Binders.{under, variables, variable, bound_by, quantified_by};
-ghost use Rattle.body_lowering.specs.Kernel.Binding.{bound, unequal_to};
+ghost use Rattle.body_lowering.specs.Kernel.Binding.{unequal_to};
 
 use crate::kernel_parts::connectives::{both, implication, negation};
 use crate::kernel_parts::shifts::shifted;
 use alloy_syntax::tree::Quantifier;
-use rel_formula::{Expression, Formula};
+use rel_formula::{Comparison, Expression, Formula, Quantifier as Binder};
 use std::alloc::{AllocError, Global};
-
-/// What a binder says of the atoms of its set.
-#[derive(Clone, Copy)]
-pub(crate) enum Binder {
-    /// The body is true for each of them.
-    All,
-    /// It is true for some.
-    Exists,
-    /// It is true for at most one.
-    Lone,
-}
 
 /// A quantifier over variables with these domains, the outermost first, each under the binders of those before it; `apart`
 /// says which variables differ.
@@ -67,10 +57,22 @@ fn bound_to_one(
 ) -> Result<Formula, AllocError>
     ensures { IfOk result (λ f. formula_tree f ≡ quantified_by One (map expression_tree domains.items) [] (formula_tree body)) }
 {
-    let copy = body.copy(alloc)?;
-    let some = bound_by(alloc, Binder::Exists, copies(alloc, &domains)?, copy)?;
+    let some = bound_to_some(alloc, &domains, &body)?;
     let lone = bound_by(alloc, Binder::Lone, domains, body)?;
     Ok(both(alloc, some, lone)?)
+}
+
+// For some choice of the variables, with a copy of all.
+fn bound_to_some(
+    alloc: Global,
+    domains: &[Expression],
+    body: &Formula,
+) -> Result<Formula, AllocError>
+    ensures { IfOk result (λ f. formula_tree f ≡ bound_by kernel.for_some (map expression_tree domains.now) (formula_tree body.now)) }
+{
+    let domains = copies(alloc, domains)?;
+    let body = body.copy(alloc)?;
+    Ok(bound_by(alloc, Binder::Exists, domains, body)?)
 }
 
 // Equal expressions.
@@ -91,7 +93,7 @@ pub(crate) fn bound_by(
     domains: Vec<Expression>,
     body: Formula,
 ) -> Result<Formula, AllocError>
-    ensures { IfOk result (λ f. formula_tree f ≡ bound_by (bound binder) (map expression_tree domains.items) (formula_tree body)) }
+    ensures { IfOk result (λ f. formula_tree f ≡ bound_by (kernel.quantified binder) (map expression_tree domains.items) (formula_tree body)) }
 {
     let mut domains = domains;
     let mut formula = body;
@@ -108,13 +110,9 @@ fn with_binder(
     domain: Expression,
     body: Formula,
 ) -> Result<Formula, AllocError>
-    ensures { IfOk result (λ f. formula_tree f ≡ bound binder (expression_tree domain) (formula_tree body)) }
+    ensures { IfOk result (λ f. formula_tree f ≡ kernel.quantified binder (expression_tree domain) (formula_tree body)) }
 {
-    match binder {
-        Binder::All => Ok(Formula::All(domain, Box::new(alloc, body)?)),
-        Binder::Exists => Ok(Formula::Exists(domain, Box::new(alloc, body)?)),
-        Binder::Lone => Ok(Formula::Lone(domain, Box::new(alloc, body)?)),
-    }
+    Ok(Formula::Quantified(binder, domain, Box::new(alloc, body)?))
 }
 
 /// The body of `all`, where these are true of the variables.
@@ -192,7 +190,8 @@ fn difference(alloc: Global, depth: u32, level: u32, other: u32) -> Result<Formu
 {
     let left = Expression::Var(depth - 1 - level);
     let right = Expression::Var(depth - 1 - other);
-    Ok(negation(alloc, Formula::Equal(left, right))?)
+    let equal = Formula::Compared(Comparison::Equal, left, right);
+    Ok(negation(alloc, equal)?)
 }
 
 /// Adds the domain of each of `count` variables, as it is under the binders of those before it.

@@ -22,14 +22,24 @@ pub fn compared(
     ensures { IfOk result (λ p. part_view p ≡ comparison_lowered comparing (part_view left) (part_view right)) }
 {
     match left {
-        Part::Size(e) => {
-            let plain = size_compared(alloc, comparing.comparison, e, right.number())?;
-            Ok(Part::Formula(negation_if(alloc, comparing.negated, plain)?))
-        }
-        Part::Relation(a) => Ok(related(alloc, comparing, a, right)?),
-        Part::Formula(_) => Ok(related(alloc, comparing, Expression::None, right)?),
-        Part::Number(_) => Ok(related(alloc, comparing, Expression::None, right)?),
+        Part::Size(e) => sized(alloc, comparing, e, right.into_number()),
+        Part::Relation(a) => related(alloc, comparing, a, right),
+        Part::Formula(_) => related(alloc, comparing, Expression::None, right),
+        Part::Number(_) => related(alloc, comparing, Expression::None, right),
     }
+}
+
+// What a comparison says of the number of tuples, which may be negated.
+fn sized(
+    alloc: Global,
+    comparing: Comparing,
+    e: Expression,
+    number: u16,
+) -> Result<Part, AllocError>
+    ensures { IfOk result (λ p. part_view p ≡ formula (parts.negation_if comparing.negated (parts.size_compared comparing.comparison (expression_tree e) number))) }
+{
+    let plain = size_compared(alloc, comparing.comparison, e, number)?;
+    Ok(Part::Formula(negation_if(alloc, comparing.negated, plain)?))
 }
 
 // What a comparison says of a relation and an operand.
@@ -57,9 +67,9 @@ pub(crate) fn size_compared(
     match comparison {
         Comparison::AtLeast => Ok(at_least(number, e)),
         Comparison::Greater => Ok(more_than(number, e)),
-        Comparison::Less => Ok(less_than(alloc, number, e)?),
-        Comparison::AtMost => Ok(at_most(alloc, number, e)?),
-        Comparison::Equal => Ok(exactly(alloc, number, e)?),
+        Comparison::Less => less_than(alloc, number, e),
+        Comparison::AtMost => at_most(alloc, number, e),
+        Comparison::Equal => exactly(alloc, number, e),
         Comparison::In => Ok(Formula::all_of(Vec::new(alloc))),
     }
 }
@@ -74,8 +84,8 @@ pub(crate) fn relations_compared(
     ensures { formula_tree result ≡ parts.relations_compared comparison (expression_tree a) (expression_tree b) }
 {
     match comparison {
-        Comparison::In => Formula::In(a, b),
-        Comparison::Equal => Formula::Equal(a, b),
+        Comparison::In => Formula::Compared(rel_formula::Comparison::In, a, b),
+        Comparison::Equal => Formula::Compared(rel_formula::Comparison::Equal, a, b),
         _ => Formula::all_of(Vec::new(alloc)),
     }
 }

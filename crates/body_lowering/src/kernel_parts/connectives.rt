@@ -18,11 +18,7 @@ pub fn negation(alloc: Global, f: Formula) -> Result<Formula, AllocError>
 pub fn negation_if(alloc: Global, negated: bool, f: Formula) -> Result<Formula, AllocError>
     ensures { IfOk result (λ h. formula_tree h ≡ parts.negation_if negated (formula_tree f)) }
 {
-    if negated {
-        Ok(negation(alloc, f)?)
-    } else {
-        Ok(f)
-    }
+    if negated { negation(alloc, f) } else { Ok(f) }
 }
 
 /// Both formulas.
@@ -51,20 +47,40 @@ pub fn implication(alloc: Global, f: Formula, g: Formula) -> Result<Formula, All
 pub fn choice(alloc: Global, f: Formula, g: Formula, h: Formula) -> Result<Formula, AllocError>
     ensures { IfOk result (λ k. formula_tree k ≡ parts.choice (formula_tree f) (formula_tree g) (formula_tree h)) }
 {
-    let test = f.copy(alloc)?;
-    let yes = implication(alloc, test, g)?;
+    let yes = implied_by(alloc, &f, g)?;
     let no = either(alloc, f, h)?;
     Ok(both(alloc, yes, no)?)
+}
+
+// The second formula where one equal to the first is true.
+fn implied_by(alloc: Global, f: &Formula, g: Formula) -> Result<Formula, AllocError>
+    ensures { IfOk result (λ k. formula_tree k ≡ parts.implication (formula_tree f.now) (formula_tree g)) }
+{
+    let test = f.copy(alloc)?;
+    Ok(implication(alloc, test, g)?)
 }
 
 /// Both formulas or none.
 pub fn equivalence(alloc: Global, f: Formula, g: Formula) -> Result<Formula, AllocError>
     ensures { IfOk result (λ h. formula_tree h ≡ parts.equivalence (formula_tree f) (formula_tree g)) }
 {
-    let test = f.copy(alloc)?;
-    let other = g.copy(alloc)?;
-    let to = implication(alloc, test, other)?;
-    let not = negation(alloc, g)?;
-    let back = either(alloc, f, not)?;
+    let to = implied(alloc, &f, &g)?;
+    let back = unless(alloc, f, g)?;
     Ok(both(alloc, to, back)?)
+}
+
+// A formula equal to the second where one equal to the first is true.
+fn implied(alloc: Global, f: &Formula, g: &Formula) -> Result<Formula, AllocError>
+    ensures { IfOk result (λ h. formula_tree h ≡ parts.implication (formula_tree f.now) (formula_tree g.now)) }
+{
+    let other = g.copy(alloc)?;
+    Ok(implied_by(alloc, f, other)?)
+}
+
+// The first formula, unless the second is false.
+fn unless(alloc: Global, f: Formula, g: Formula) -> Result<Formula, AllocError>
+    ensures { IfOk result (λ h. formula_tree h ≡ parts.either (formula_tree f) (negation (formula_tree g))) }
+{
+    let not = negation(alloc, g)?;
+    Ok(either(alloc, f, not)?)
 }

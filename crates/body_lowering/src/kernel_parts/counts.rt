@@ -5,7 +5,7 @@ ghost use Rattle.rel_formula.specs.View.{expression_tree, formula_tree};
 ghost use Rattle.lowering_rules.specs.Parts as parts;
 
 use crate::kernel_parts::connectives::{both, negation};
-use alloy_syntax::tree::{Mark, Multiplicity};
+use alloy_syntax::tree::{Multiplicity, MultiplicityWord};
 use rel_formula::{Expression, Formula};
 use std::alloc::{AllocError, Global};
 
@@ -57,14 +57,14 @@ pub(crate) fn some_of(e: Expression) -> Formula
 pub fn no_of(alloc: Global, e: Expression) -> Result<Formula, AllocError>
     ensures { IfOk result (λ f. formula_tree f ≡ parts.no_of (expression_tree e)) }
 {
-    Ok(less_than(alloc, 1, e)?)
+    less_than(alloc, 1, e)
 }
 
 /// At most one tuple.
 pub(crate) fn lone_of(alloc: Global, e: Expression) -> Result<Formula, AllocError>
     ensures { IfOk result (λ f. formula_tree f ≡ parts.lone_of (expression_tree e)) }
 {
-    Ok(less_than(alloc, 2, e)?)
+    less_than(alloc, 2, e)
 }
 
 /// Just one tuple.
@@ -79,7 +79,7 @@ pub fn one_of(alloc: Global, e: Expression) -> Result<Formula, AllocError>
 /// What a multiplicity word says of an expression: `set`, and no word, nothing.
 pub fn marked(
     alloc: Global,
-    mark: Option<Mark>,
+    mark: Option<MultiplicityWord>,
     e: Expression,
 ) -> Result<Option<Formula>, AllocError>
     ensures { IfOk result (λ f. option_to_list (option_map formula_tree f) ≡ parts.marked mark (expression_tree e)) }

@@ -1,21 +1,19 @@
 // What prefixes and operators make of their operands.
 ghost use Rattle.std.specs.Prelude.{◌≡◌, IfOk, map};
-ghost use Rattle.rel_formula.specs.Kernel.{formulas_of};
+ghost use Rattle.rel_formula.specs.Kernel.{binary, formulas_of};
 ghost use Rattle.rel_formula.specs.View.{formula_tree};
 ghost use Rattle.lowering_rules.specs.Parts as parts;
-ghost use Rattle.lowering_rules.specs.Parts.{prefix_lowered, operator_lowered, list_lowered, join_lowered};
+ghost use Rattle.lowering_rules.specs.Parts.{expression_in, prefix_lowered, operator_lowered, list_lowered, join_lowered};
 ghost use Rattle.body_lowering.specs.Kernel.View.{part_view};
 
 use crate::kernel_parts::connectives::{both, either, equivalence, negation};
 use crate::kernel_parts::counts::{lone_of, no_of, one_of, some_of};
-use crate::kernel_parts::expressions::{
-    closure, domain, join, meet, minus, override_by, product, range, reflexive_closure, transpose,
-    union,
-};
+use crate::kernel_parts::expressions::{binary, join, reflexive_closure, unary};
 use crate::kernel_parts::part::Part;
 use alloy_syntax::tree::{Operator, Prefix};
 use rel_formula::Formula;
 use std::alloc::{AllocError, Global};
+use tuple_core::UnaryOperator;
 
 /// What a prefix makes of its operand.
 pub fn prefixed(alloc: Global, prefix: Prefix, x: Part) -> Result<Part, AllocError>
@@ -28,8 +26,16 @@ pub fn prefixed(alloc: Global, prefix: Prefix, x: Part) -> Result<Part, AllocErr
         Prefix::Lone => Ok(Part::Formula(lone_of(alloc, x.into_expression())?)),
         Prefix::One => Ok(Part::Formula(one_of(alloc, x.into_expression())?)),
         Prefix::Size => Ok(Part::Size(x.into_expression())),
-        Prefix::Transpose => Ok(Part::Relation(transpose(alloc, x.into_expression())?)),
-        Prefix::Closure => Ok(Part::Relation(closure(alloc, x.into_expression())?)),
+        Prefix::Transpose => Ok(Part::Relation(unary(
+            alloc,
+            UnaryOperator::Transpose,
+            x.into_expression(),
+        )?)),
+        Prefix::Closure => Ok(Part::Relation(unary(
+            alloc,
+            UnaryOperator::Closure,
+            x.into_expression(),
+        )?)),
         Prefix::ReflexiveClosure => Ok(Part::Relation(reflexive_closure(
             alloc,
             x.into_expression(),
@@ -42,41 +48,13 @@ pub fn operated(alloc: Global, operator: Operator, x: Part, y: Part) -> Result<P
     ensures { IfOk result (λ p. part_view p ≡ operator_lowered operator (part_view x) (part_view y)) }
 {
     match operator {
-        Operator::Union => Ok(Part::Relation(union(
-            alloc,
-            x.into_expression(),
-            y.into_expression(),
-        )?)),
-        Operator::Minus => Ok(Part::Relation(minus(
-            alloc,
-            x.into_expression(),
-            y.into_expression(),
-        )?)),
-        Operator::Override => Ok(Part::Relation(override_by(
-            alloc,
-            x.into_expression(),
-            y.into_expression(),
-        )?)),
-        Operator::Meet => Ok(Part::Relation(meet(
-            alloc,
-            x.into_expression(),
-            y.into_expression(),
-        )?)),
-        Operator::Product => Ok(Part::Relation(product(
-            alloc,
-            x.into_expression(),
-            y.into_expression(),
-        )?)),
-        Operator::Domain => Ok(Part::Relation(domain(
-            alloc,
-            x.into_expression(),
-            y.into_expression(),
-        )?)),
-        Operator::Range => Ok(Part::Relation(range(
-            alloc,
-            x.into_expression(),
-            y.into_expression(),
-        )?)),
+        Operator::Union => combined(alloc, tuple_core::Operator::Union, x, y),
+        Operator::Minus => combined(alloc, tuple_core::Operator::Minus, x, y),
+        Operator::Override => combined(alloc, tuple_core::Operator::Override, x, y),
+        Operator::Meet => combined(alloc, tuple_core::Operator::Meet, x, y),
+        Operator::Product => combined(alloc, tuple_core::Operator::Product, x, y),
+        Operator::Domain => combined(alloc, tuple_core::Operator::Dom, x, y),
+        Operator::Range => combined(alloc, tuple_core::Operator::Ran, x, y),
         Operator::Iff => Ok(Part::Formula(equivalence(
             alloc,
             x.into_formula(alloc),
@@ -93,6 +71,19 @@ pub fn operated(alloc: Global, operator: Operator, x: Part, y: Part) -> Result<P
             y.into_formula(alloc),
         )?)),
     }
+}
+
+// What an operator makes of two relations.
+fn combined(
+    alloc: Global,
+    operator: tuple_core::Operator,
+    x: Part,
+    y: Part,
+) -> Result<Part, AllocError>
+    ensures { IfOk result (λ p. part_view p ≡ parts.relation (binary operator (expression_in (part_view x)) (expression_in (part_view y)))) }
+{
+    let e = binary(alloc, operator, x.into_expression(), y.into_expression())?;
+    Ok(Part::Relation(e))
 }
 
 /// Whether a chain of the operator is one list.

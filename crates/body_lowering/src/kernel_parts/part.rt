@@ -39,11 +39,11 @@ impl Part {
     }
 
     /// The number; 0, where it is something else.
-    pub fn number(&self) -> u16
-        ensures { result ≡ number_in (part_view self.now) }
+    pub fn into_number(self) -> u16
+        ensures { result ≡ number_in (part_view self) }
     {
         match self {
-            Part::Number(n) => *n,
+            Part::Number(n) => n,
             _ => 0,
         }
     }

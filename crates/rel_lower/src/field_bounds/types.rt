@@ -42,9 +42,7 @@ pub fn bound_type(
     ensures { IfOk result (λ t. AreSame t (bound_type signatures.now (phrase_view bound.now))) }
 {
     match bound {
-        Phrase::Refers(_, Referent::Signature(signature)) => {
-            Ok(over(alloc, signatures, *signature)?)
-        }
+        Phrase::Refers(_, Referent::Signature(signature)) => { over(alloc, signatures, *signature) }
         Phrase::Bracketed(_, inner) => bound_type(alloc, work, signatures, inner),
         Phrase::Chain(first, links) => {
             let start = bound_type(alloc, work, signatures, first)?;

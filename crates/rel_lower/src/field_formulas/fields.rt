@@ -13,7 +13,7 @@ use body_lowering::kernel_parts::expressions::product;
 use body_lowering::{Room, bodies};
 use named_model::Named;
 use named_model::named::Field;
-use rel_formula::Formula;
+use rel_formula::{Comparison, Formula};
 use std::alloc::{AllocError, Global};
 
 /// Adds what is said of all fields of a model, in order of declaration. A relation's number above 255 is answered as want of
@@ -64,5 +64,5 @@ fn add_bound(
 {
     let bound = bodies::expression(alloc, model, room, 0, &field.bound)?;
     let tuples = product(alloc, relation(field.owner)?, bound)?;
-    Ok(formulas.push(Formula::In(relation(number)?, tuples))?)
+    Ok(formulas.push(Formula::Compared(Comparison::In, relation(number)?, tuples))?)
 }

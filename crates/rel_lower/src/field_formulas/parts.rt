@@ -9,14 +9,14 @@ ghost use Rattle.rel_lower.specs.Signatures.Said.{Says};
 
 use crate::signature_formulas::relations::relation;
 use named_model::phrase::{Link, Phrase};
-use rel_formula::{Expression, Formula};
+use rel_formula::{Expression, Formula, Quantifier};
 use std::alloc::{AllocError, Global};
 
 /// The formula of each atom of the domain.
 pub fn for_all(alloc: Global, domain: Expression, body: Formula) -> Result<Formula, AllocError>
     ensures { IfOk result (λ f. formula_tree f ≡ for_all (expression_tree domain) (formula_tree body)) }
 {
-    Ok(Formula::All(domain, Box::new(alloc, body)?))
+    Ok(Formula::Quantified(Quantifier::All, domain, Box::new(alloc, body)?))
 }
 
 /// Adds a formula of each atom of the relation of that number, if there is one.

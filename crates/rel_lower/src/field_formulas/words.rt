@@ -11,7 +11,7 @@ ghost use Rattle.rel_lower.specs.Signatures.Said.{Says};
 
 use crate::field_formulas::parts::{add_for_all, for_all, sides};
 use crate::signature_formulas::relations::relation;
-use alloy_syntax::tree::Mark;
+use alloy_syntax::tree::MultiplicityWord;
 use body_lowering::kernel_parts::counts::{marked, one_of};
 use body_lowering::kernel_parts::expressions::join;
 use body_lowering::{Room, bodies};
@@ -42,14 +42,14 @@ pub fn add_unary(
 // What the word before a unary bound says of an expression: that of `one`, where there is no word.
 fn word_before(
     alloc: Global,
-    mark: Option<Mark>,
+    mark: Option<MultiplicityWord>,
     e: Expression,
 ) -> Result<Option<Formula>, AllocError>
     ensures { IfOk result (λ f. option_to_list (option_map formula_tree f) ≡ word_before mark (expression_tree e)) }
 {
     match mark {
         None => Ok(Some(one_of(alloc, e)?)),
-        Some(mark) => Ok(marked(alloc, Some(mark), e)?),
+        Some(mark) => marked(alloc, Some(mark), e),
     }
 }
 

@@ -24,7 +24,7 @@ pub fn command_formula(
     ensures { IfOk result (λ f. formula_tree f ≡ command_says (named_view model.now) (base_of (named_view model.now)) (command_view command.now)) }
 {
     let target = target_formula(alloc, model, room, &command.target)?;
-    Ok(negation_if(alloc, is_check(command.kind), target)?)
+    negation_if(alloc, is_check(command.kind), target)
 }
 
 // Whether the command is a `check`.
@@ -44,9 +44,9 @@ fn target_formula(
     ensures { IfOk result (λ f. formula_tree f ≡ target_says (named_view model.now) (base_of (named_view model.now)) (target_view target.now)) }
 {
     match target {
-        Target::Block(formulas) => Ok(bodies::block(alloc, model, room, formulas)?),
-        Target::Predicate(number) => Ok(predicate_formula(alloc, model, room, *number)?),
-        Target::Assertion(number) => Ok(assertion_formula(alloc, model, room, *number)?),
+        Target::Block(formulas) => bodies::block(alloc, model, room, formulas),
+        Target::Predicate(number) => predicate_formula(alloc, model, room, *number),
+        Target::Assertion(number) => assertion_formula(alloc, model, room, *number),
     }
 }
 
@@ -60,7 +60,7 @@ fn predicate_formula(
 {
     match model.callees.get(number) {
         None => Ok(Formula::all_of(Vec::new(alloc))),
-        Some(callee) => Ok(bodies::predicate(alloc, model, room, callee)?),
+        Some(callee) => bodies::predicate(alloc, model, room, callee),
     }
 }
 
@@ -74,6 +74,6 @@ fn assertion_formula(
 {
     match model.assertions.get(number) {
         None => Ok(Formula::all_of(Vec::new(alloc))),
-        Some(said) => Ok(bodies::block(alloc, model, room, &said.formulas)?),
+        Some(said) => bodies::block(alloc, model, room, &said.formulas),
     }
 }

@@ -39,6 +39,6 @@ fn fact_formula(
 {
     match model.facts.get(fact.saturating_sub(1)) {
         None => Ok(Formula::all_of(Vec::new(alloc))),
-        Some(said) => Ok(bodies::block(alloc, model, room, &said.formulas)?),
+        Some(said) => bodies::block(alloc, model, room, &said.formulas),
     }
 }

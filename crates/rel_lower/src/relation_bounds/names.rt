@@ -21,7 +21,7 @@ pub fn field_name(alloc: Global, named: &Named, field: &Field) -> Result<Name, A
             field.name.text(),
         )?)
     } else {
-        Ok(Name::of(alloc, field.name.text())?)
+        Name::of(alloc, field.name.text())
     }
 }
 
@@ -61,5 +61,5 @@ fn qualified(alloc: Global, owner: &str, name: &str) -> Result<Name, AllocError>
     let mut text = String::from_str(alloc, owner)?;
     text.push_str(".")?;
     text.push_str(name)?;
-    Ok(Name::of(alloc, text.as_str())?)
+    Name::of(alloc, text.as_str())
 }

@@ -72,7 +72,7 @@ fn all_or_none(alloc: Global, set: &TupleSet, all: bool) -> Result<TupleSet, All
     ensures { IfOk result (λ v. IsSetOf v set.now.arity (λ t. IsTrue all × Contains set.now.rows t)) }
 {
     if all {
-        Ok(set.copy(alloc)?)
+        set.copy(alloc)
     } else {
         Ok(TupleSet::new(alloc, set.arity()))
     }

@@ -11,7 +11,7 @@ use alloy_syntax::tree::Manner;
 use body_lowering::kernel_parts::counts::no_of;
 use body_lowering::kernel_parts::expressions::{meet, union};
 use named_model::named::Signature;
-use rel_formula::{Expression, Formula};
+use rel_formula::{Comparison, Expression, Formula};
 use std::alloc::{AllocError, Global};
 
 // Whether a signature extends the one of that number.
@@ -94,7 +94,7 @@ fn add_union(
     ensures { IfOk result (λ _. Says formulas.old.items formulas.new.items (extensions_say signature (extensions signatures.now signature))) }
 {
     if let Some(union) = union_of_extensions(alloc, signatures, signature)? {
-        formulas.push(Formula::In(relation(signature)?, union))?;
+        formulas.push(Formula::Compared(Comparison::In, relation(signature)?, union))?;
     }
     Ok(())
 }

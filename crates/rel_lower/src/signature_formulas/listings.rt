@@ -7,7 +7,7 @@ ghost use Rattle.rel_lower.specs.Signatures.Said.{Says};
 ghost use Rattle.rel_lower.specs.Signatures.Extending.{size_says, size_in};
 
 use crate::signature_formulas::relations::relation;
-use alloy_syntax::tree::{Mark, Multiplicity};
+use alloy_syntax::tree::{Multiplicity, MultiplicityWord};
 use body_lowering::kernel_parts::counts::{at_most, exactly};
 use named_model::named::{Listing, Signature};
 use rel_formula::{Expression, Formula};
@@ -40,9 +40,9 @@ fn sized(alloc: Global, is_exact: bool, number: u16, e: Expression) -> Result<Fo
     ensures { IfOk result (λ f. formula_tree f ≡ size_says is_exact number (expression_tree e)) }
 {
     if is_exact {
-        Ok(exactly(alloc, number, e)?)
+        exactly(alloc, number, e)
     } else {
-        Ok(at_most(alloc, number, e)?)
+        at_most(alloc, number, e)
     }
 }
 
@@ -66,7 +66,7 @@ fn is_for(signature: usize, listing: &Listing) -> bool
 }
 
 // Whether the word is `one` or `lone`.
-fn is_alone(mark: Option<Mark>) -> bool
+fn is_alone(mark: Option<MultiplicityWord>) -> bool
     ensures { result ≡ is_alone mark }
 {
     match mark {

@@ -10,10 +10,10 @@ ghost use Rattle.rel_lower.specs.Signatures.Said.{Says};
 use crate::signature_formulas::extensions::{add_apart, add_extensions};
 use crate::signature_formulas::listings::add_listing;
 use crate::signature_formulas::relations::relation;
-use alloy_syntax::tree::{Manner, Mark};
+use alloy_syntax::tree::{Manner, MultiplicityWord};
 use body_lowering::kernel_parts::counts::marked;
 use named_model::named::{Listing, Signature};
-use rel_formula::Formula;
+use rel_formula::{Comparison, Formula};
 use std::alloc::{AllocError, Global};
 
 /// Adds what is said of the signatures, in order of declaration: each lies in its parent and apart from what extends that one
@@ -62,9 +62,9 @@ fn add_parent(
 {
     match signatures[signature].parent {
         None => Ok(()),
-        Some((manner, parent)) => Ok(add_within(
+        Some((manner, parent)) => add_within(
             alloc, formulas, signatures, signature, manner, parent,
-        )?),
+        ),
     }
 }
 
@@ -80,7 +80,8 @@ fn add_within(
     requires { signature < length signatures.now }
     ensures { IfOk result (λ _. Says formulas.old.items formulas.new.items (parent_says signatures.now signature (Some (manner, parent)))) }
 {
-    formulas.push(Formula::In(relation(signature)?, relation(parent)?))?;
+    let says = Formula::Compared(Comparison::In, relation(signature)?, relation(parent)?);
+    formulas.push(says)?;
     match manner {
         Manner::In => Ok(()),
         Manner::Extends => Ok(add_apart(alloc, formulas, signatures, signature, parent)?),
@@ -91,7 +92,7 @@ fn add_within(
 fn add_word(
     alloc: Global,
     formulas: &mut Vec<Formula>,
-    mark: Option<Mark>,
+    mark: Option<MultiplicityWord>,
     signature: usize,
 ) -> Result<(), AllocError>
     ensures { IfOk result (λ _. Says formulas.old.items formulas.new.items (marked mark (rel signature))) }

@@ -64,8 +64,11 @@ decreases-with_step l = 6 * l.at.levels + 3
 abbrev pub decreases-linked : goal.decreases-linked
 decreases-linked l = 6 * l.at.levels + 3
 
+abbrev pub decreases-block : goal.decreases-block
+decreases-block l = 6 * l.at.levels + 3
+
 abbrev pub decreases-meaning : goal.decreases-meaning
-decreases-meaning l = 6 * l.at.levels + 3
+decreases-meaning l = 6 * l.at.levels + 4
 
 abbrev pub decreases-add_all : goal.decreases-add_all
 decreases-add_all l = 6 * l.at.levels + 3
@@ -80,7 +83,7 @@ abbrev pub decreases-chain : goal.decreases-chain
 decreases-chain l = 6 * l.at.levels + 4
 
 abbrev pub decreases-call : goal.decreases-call
-decreases-call l = 6 * l.at.levels + 4
+decreases-call l = 6 * l.at.levels + 5
 
 abbrev pub decreases-variables_of : goal.decreases-variables_of
 decreases-variables_of l = 6 * l.at.levels + 4

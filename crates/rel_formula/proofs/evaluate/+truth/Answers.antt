@@ -1,17 +1,21 @@
-use Rattle.std.proofs.Common.{subst, sym, ◌∙◌, reverse, List, refl, ◌∷◌, length, All, AllPairs, IsTrue, ◌↔◌, rules, take, ◌+◌}
+use Rattle.std.proofs.Common.{subst, sym, ◌∙◌, reverse, List, refl, ◌∷◌, length, All, IsTrue, ◌↔◌, rules, take, ◌+◌}
 use Rattle.std.specs.List.{Any}
 use Rattle.tuple_core.specs.declared.atom.Atom.{Atom}
-use Rattle.tuple_core.specs.Rows.{IsSetOf}
+use Rattle.tuple_core.specs.Operators.{Pred}
+use Rattle.tuple_core.specs.Rows.{Rows, IsRows, IsSetOf}
 use Rattle.tuple_core.proofs.Steps.{then_same, all_step, all_done, all_no}
 use Rattle.rel_formula.specs.declared.formula.Formula.{Formula}
 use Rattle.rel_formula.specs.declared.formula.Formula.TheViews.{the_lemmas}
+use Rattle.rel_formula.specs.declared.connectives.Quantifier.{Quantifier}
+use Rattle.rel_formula.specs.declared.connectives.Quantifier.TheVariants as quantifier
+use Rattle.rel_formula.specs.Kernel.{FormulaTree}
 use Rattle.rel_formula.specs.View.{expression_tree, formula_tree}
-use Rattle.rel_formula.specs.Meaning.{InValue, Truth}
-use Rattle.rel_formula.specs.Evaluation.{IsTrueAt, AreNotBothTrue}
+use Rattle.rel_formula.specs.Meaning.{Structure, InValue, HoldsFor, Truth}
+use Rattle.rel_formula.specs.Evaluation.{HoldsOf, IsTrueAt, IsTrueAtRows}
 use Rattle.rel_formula.specs.Shape.{arity_of, IsProper}
 use Rattle.rel_formula.specs.Tables.{Tabled, arities, tabled}
 use Rattle.rel_formula.proofs.Counts.{distinct}
-use Rattle.rel_formula.proofs.AndOrParts.{Truth-And, Truth-Or, IsProper-And, IsProper-Or}
+use Rattle.rel_formula.proofs.AndOrParts.{Truth-Junction, IsProper-Junction}
 use Rattle.rel_formula.proofs.Loops.{any_none, found_first, found_none, found_two, none_two, for_all_is, for_some_is, for_two_is, says_not}
 use Rattle.rel_formula.proofs.evaluate.+truth.Goals.{true_for_at_most_one-then-holds+else-found, true_for_at_most_one-else-holds}
 use Rattle.rel_formula.proofs.evaluate.+truth.Goals as goal
@@ -23,6 +27,13 @@ Tells tables env p f = p ↔ Truth (tabled tables) (reverse env) (formula_tree f
 -- and where it is true at this tuple
 abbrev TellsAt : Tabled → List Atom → List Atom → Type 0 → Formula → Type 0
 TellsAt tables row env p f = p ↔ IsTrueAt (tabled tables) (reverse env) (formula_tree f) row
+
+-- at the rows of a set of atoms, and at the atoms
+for_so_many : (q : Quantifier) (v : Rows) (P : Pred) (M : Structure) (env : List Atom) (f : FormulaTree) → IsSetOf v 1 P → IsRows v →
+    IsTrueAtRows q M env f v.rows ↔ HoldsFor q P (λ a. Truth M (a ∷ env) f)
+for_so_many quantifier.All v P M env f is well = for_all_is v P (λ a. Truth M (a ∷ env) f) is well.arities
+for_so_many quantifier.Exists v P M env f is well = for_some_is v P (λ a. Truth M (a ∷ env) f) is well.arities
+for_so_many quantifier.Lone v P M env f is well = for_two_is v P (λ a. Truth M (a ∷ env) f) is well.arities (distinct v.rows well.ascending)
 
 pub all_true-loop-part-preserved : goal.all_true-loop-part-preserved
 all_true-loop-part-preserved t c =
@@ -115,66 +126,37 @@ true_for_at_most_one-returns-clause-truth t c =
     let P = IsTrueAt (tabled c.args.tables.now) (reverse c.args.env.now.items) (formula_tree c.args.f.now) in
     (λ e. none_two P c.args.rows.now c.loop-row.row-index c.loop-row-test.false c.loop-row.invariant.lone, λ h. refl)
 
-pub truth-all_true-requires : goal.truth-all_true-requires
-truth-all_true-requires t c =
+pub true_for-returns-in_ok-true_for_at_most_one-in-Lone-clause-truth : goal.true_for-returns-in_ok-true_for_at_most_one-in-Lone-clause-truth
+true_for-returns-in_ok-true_for_at_most_one-in-Lone-clause-truth t c =
+    subst (λ (q : Quantifier). IsTrue c.in_ok-true_for_at_most_one-in-Lone.field-0 ↔ IsTrueAtRows q (tabled c.args.tables.now) (reverse c.args.env.now.items) (formula_tree c.args.f.now) c.args.rows.now)
+    (sym c.in-Lone.is) c.in_ok-true_for_at_most_one-in-Lone.ensures.truth
+
+pub truth-true_of-requires : goal.truth-true_of-requires
+truth-true_of-requires t c =
     let ns = arities c.args.tables.now in
     let d = length c.args.env.now.items in
-    (search (rules, the_lemmas), subst (All (λ (f : Formula). IsProper ns d (formula_tree f))) (sym c.deref-in-And.ensures.value) ((IsProper-And ns d c.in-And.parts).0 (subst (λ (f : Formula). IsProper ns d (formula_tree f)) c.in-And.is c.requires.proper)))
+    (search (rules, the_lemmas), subst (All (λ (f : Formula). IsProper ns d (formula_tree f))) (sym c.deref-in-Junction.ensures.value) ((IsProper-Junction ns d c.in-Junction.connective c.in-Junction.parts).0 (subst (λ (f : Formula). IsProper ns d (formula_tree f)) c.in-Junction.is c.requires.proper)))
 
-pub truth-any_true-requires : goal.truth-any_true-requires
-truth-any_true-requires t c =
-    let ns = arities c.args.tables.now in
-    let d = length c.args.env.now.items in
-    (search (rules, the_lemmas), subst (All (λ (f : Formula). IsProper ns d (formula_tree f))) (sym c.deref-in-Or.ensures.value) ((IsProper-Or ns d c.in-Or.parts).0 (subst (λ (f : Formula). IsProper ns d (formula_tree f)) c.in-Or.is c.requires.proper)))
-
-pub truth-returns-in_ok-all_true-in-And-clause-truth : goal.truth-returns-in_ok-all_true-in-And-clause-truth
-truth-returns-in_ok-all_true-in-And-clause-truth t c =
+pub truth-returns-in_ok-true_of-in-Junction-clause-truth : goal.truth-returns-in_ok-true_of-in-Junction-clause-truth
+truth-returns-in_ok-true_of-in-Junction-clause-truth t c =
     let M = tabled c.args.tables.now in
     let env = reverse c.args.env.now.items in
-    let told = subst (λ (fs : List Formula). IsTrue c.in_ok-all_true-in-And.field-0 ↔ All (λ (f : Formula). Truth M env (formula_tree f)) fs) c.deref-in-And.ensures.value c.in_ok-all_true-in-And.ensures.truth in
-    let parts = Truth-And M env c.in-And.parts in
-    subst (Tells c.args.tables.now c.args.env.now.items (IsTrue c.in_ok-all_true-in-And.field-0)) (sym c.in-And.is) (then_same told (parts.1, parts.0))
+    let told = subst (λ (fs : List Formula). IsTrue c.in_ok-true_of-in-Junction.field-0 ↔ HoldsOf c.in-Junction.connective (λ (f : Formula). Truth M env (formula_tree f)) fs) c.deref-in-Junction.ensures.value c.in_ok-true_of-in-Junction.ensures.truth in
+    let parts = Truth-Junction M env c.in-Junction.connective c.in-Junction.parts in
+    subst (Tells c.args.tables.now c.args.env.now.items (IsTrue c.in_ok-true_of-in-Junction.field-0)) (sym c.in-Junction.is) (then_same told (parts.1, parts.0))
 
-pub truth-returns-in_ok-any_true-in-Or-clause-truth : goal.truth-returns-in_ok-any_true-in-Or-clause-truth
-truth-returns-in_ok-any_true-in-Or-clause-truth t c =
+pub truth-returns-in_ok-true_for-in-Quantified-clause-truth : goal.truth-returns-in_ok-true_for-in-Quantified-clause-truth
+truth-returns-in_ok-true_for-in-Quantified-clause-truth t c =
     let M = tabled c.args.tables.now in
     let env = reverse c.args.env.now.items in
-    let told = subst (λ (fs : List Formula). IsTrue c.in_ok-any_true-in-Or.field-0 ↔ Any (λ (f : Formula). Truth M env (formula_tree f)) fs) c.deref-in-Or.ensures.value c.in_ok-any_true-in-Or.ensures.truth in
-    let parts = Truth-Or M env c.in-Or.parts in
-    subst (Tells c.args.tables.now c.args.env.now.items (IsTrue c.in_ok-any_true-in-Or.field-0)) (sym c.in-Or.is) (then_same told (parts.1, parts.0))
-
-pub truth-returns-in_ok-true_for_all-in-All-clause-truth : goal.truth-returns-in_ok-true_for_all-in-All-clause-truth
-truth-returns-in_ok-true_for_all-in-All-clause-truth t c =
-    let M = tabled c.args.tables.now in
-    let env = reverse c.args.env.now.items in
-    let formed = subst (λ (f : Formula). IsProper (arities c.args.tables.now) (length c.args.env.now.items) (formula_tree f)) c.in-All.is c.requires.proper in
-    let set = subst (λ xs. IsSetOf c.in_ok-domain-in-All.domain (arity_of (arities c.args.tables.now) (expression_tree c.in-All.e)) (InValue M (reverse xs) (expression_tree c.in-All.e))) c.as_slice-in-All.ensures.value c.in_ok-domain-in-All.ensures in
-    let domain = subst (λ n. IsSetOf c.in_ok-domain-in-All.domain n (InValue M env (expression_tree c.in-All.e))) formed.1 set in
-    let told = subst (λ (g : Formula). IsTrue c.in_ok-true_for_all-in-All.field-0 ↔ All (IsTrueAt M env (formula_tree g)) c.rows.result.now) c.deref-in-All.ensures c.in_ok-true_for_all-in-All.ensures.truth in
-    let rows = subst (λ zs. IsTrue c.in_ok-true_for_all-in-All.field-0 ↔ All (IsTrueAt M env (formula_tree c.in-All.g.value)) zs) c.rows.ensures.value told in
-    subst (Tells c.args.tables.now c.args.env.now.items (IsTrue c.in_ok-true_for_all-in-All.field-0)) (sym c.in-All.is)
-    (then_same rows (for_all_is c.in_ok-domain-in-All.domain (InValue M env (expression_tree c.in-All.e)) (λ a. Truth M (a ∷ env) (formula_tree c.in-All.g.value)) domain c.rows.ensures.well.arities))
-
-pub truth-returns-in_ok-true_for_some-in-Exists-clause-truth : goal.truth-returns-in_ok-true_for_some-in-Exists-clause-truth
-truth-returns-in_ok-true_for_some-in-Exists-clause-truth t c =
-    let M = tabled c.args.tables.now in
-    let env = reverse c.args.env.now.items in
-    let formed = subst (λ (f : Formula). IsProper (arities c.args.tables.now) (length c.args.env.now.items) (formula_tree f)) c.in-Exists.is c.requires.proper in
-    let set = subst (λ xs. IsSetOf c.in_ok-domain-in-Exists.domain (arity_of (arities c.args.tables.now) (expression_tree c.in-Exists.e)) (InValue M (reverse xs) (expression_tree c.in-Exists.e))) c.as_slice-in-Exists.ensures.value c.in_ok-domain-in-Exists.ensures in
-    let domain = subst (λ n. IsSetOf c.in_ok-domain-in-Exists.domain n (InValue M env (expression_tree c.in-Exists.e))) formed.1 set in
-    let told = subst (λ (g : Formula). IsTrue c.in_ok-true_for_some-in-Exists.field-0 ↔ Any (IsTrueAt M env (formula_tree g)) c.rows-in-Exists.result.now) c.deref-in-Exists.ensures c.in_ok-true_for_some-in-Exists.ensures.truth in
-    let rows = subst (λ zs. IsTrue c.in_ok-true_for_some-in-Exists.field-0 ↔ Any (IsTrueAt M env (formula_tree c.in-Exists.g.value)) zs) c.rows-in-Exists.ensures.value told in
-    subst (Tells c.args.tables.now c.args.env.now.items (IsTrue c.in_ok-true_for_some-in-Exists.field-0)) (sym c.in-Exists.is)
-    (then_same rows (for_some_is c.in_ok-domain-in-Exists.domain (InValue M env (expression_tree c.in-Exists.e)) (λ a. Truth M (a ∷ env) (formula_tree c.in-Exists.g.value)) domain c.rows-in-Exists.ensures.well.arities))
-
-pub truth-returns-in_ok-true_for_at_most_one-in-Lone-clause-truth : goal.truth-returns-in_ok-true_for_at_most_one-in-Lone-clause-truth
-truth-returns-in_ok-true_for_at_most_one-in-Lone-clause-truth t c =
-    let M = tabled c.args.tables.now in
-    let env = reverse c.args.env.now.items in
-    let formed = subst (λ (f : Formula). IsProper (arities c.args.tables.now) (length c.args.env.now.items) (formula_tree f)) c.in-Lone.is c.requires.proper in
-    let set = subst (λ xs. IsSetOf c.in_ok-domain-in-Lone.domain (arity_of (arities c.args.tables.now) (expression_tree c.in-Lone.e)) (InValue M (reverse xs) (expression_tree c.in-Lone.e))) c.as_slice-in-Lone.ensures.value c.in_ok-domain-in-Lone.ensures in
-    let domain = subst (λ n. IsSetOf c.in_ok-domain-in-Lone.domain n (InValue M env (expression_tree c.in-Lone.e))) formed.1 set in
-    let told = subst (λ (g : Formula). IsTrue c.in_ok-true_for_at_most_one-in-Lone.field-0 ↔ AllPairs (AreNotBothTrue M env (formula_tree g)) c.rows-in-Lone.result.now) c.deref-in-Lone.ensures c.in_ok-true_for_at_most_one-in-Lone.ensures.truth in
-    let rows = subst (λ zs. IsTrue c.in_ok-true_for_at_most_one-in-Lone.field-0 ↔ AllPairs (AreNotBothTrue M env (formula_tree c.in-Lone.g.value)) zs) c.rows-in-Lone.ensures.value told in
-    subst (Tells c.args.tables.now c.args.env.now.items (IsTrue c.in_ok-true_for_at_most_one-in-Lone.field-0)) (sym c.in-Lone.is)
-    (then_same rows (for_two_is c.in_ok-domain-in-Lone.domain (InValue M env (expression_tree c.in-Lone.e)) (λ a. Truth M (a ∷ env) (formula_tree c.in-Lone.g.value)) domain c.rows-in-Lone.ensures.well.arities (distinct c.in_ok-domain-in-Lone.domain.rows c.rows-in-Lone.ensures.well.ascending)))
+    let q = c.in-Quantified.quantifier in
+    let e = expression_tree c.in-Quantified.e in
+    let g = formula_tree c.in-Quantified.g.value in
+    let holds = IsTrue c.in_ok-true_for-in-Quantified.field-0 in
+    let formed = subst (λ (f : Formula). IsProper (arities c.args.tables.now) (length c.args.env.now.items) (formula_tree f)) c.in-Quantified.is c.requires.proper in
+    let set = subst (λ xs. IsSetOf c.in_ok-domain-in-Quantified.domain (arity_of (arities c.args.tables.now) e) (InValue M (reverse xs) e)) c.as_slice-in-Quantified.ensures.value c.in_ok-domain-in-Quantified.ensures in
+    let domain = subst (λ n. IsSetOf c.in_ok-domain-in-Quantified.domain n (InValue M env e)) formed.1 set in
+    let told = subst (λ (f : Formula). holds ↔ IsTrueAtRows q M env (formula_tree f) c.rows.result.now) c.deref-in-Quantified.ensures c.in_ok-true_for-in-Quantified.ensures.truth in
+    let rows = subst (λ zs. holds ↔ IsTrueAtRows q M env g zs) c.rows.ensures.value told in
+    subst (Tells c.args.tables.now c.args.env.now.items holds) (sym c.in-Quantified.is)
+    (then_same rows (for_so_many q c.in_ok-domain-in-Quantified.domain (InValue M env e) M env g domain c.rows.ensures.well))

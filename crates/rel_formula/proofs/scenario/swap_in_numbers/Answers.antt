@@ -1,4 +1,4 @@
-use Rattle.std.proofs.Common.{◌≡◌, ◌<◌, ◌≤◌, ℕ, length, sym, subst, arith}
+use Rattle.std.proofs.Common.{◌<◌, ℕ, length, sym, subst, arith}
 use Rattle.std.proofs.lemmas.List.Sorted.{IsNonDecreasingBy-from_sort}
 use Rattle.tuple_core.specs.Swap.{swap_atoms}
 use Rattle.rel_formula.specs.Bounds.{cells_of}

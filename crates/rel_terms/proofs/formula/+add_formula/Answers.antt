@@ -1,4 +1,4 @@
-use Rattle.std.proofs.Common.{◌≡◌, ℕ, ◌+◌, subst, sym, ◌∙◌, ap, reverse, List, [], ◌∷◌, ◌++◌, length, map, All, rules, take}
+use Rattle.std.proofs.Common.{◌≡◌, ℕ, subst, sym, ◌∙◌, ap, reverse, List, [], ◌∷◌, length, map, All, rules}
 use Rattle.std.proofs.lemmas.List.{reverse-append}
 use Rattle.tuple_core.specs.declared.atom.Atom.{Atom}
 use Rattle.rel_formula.specs.declared.formula.Formula.{Formula}
@@ -7,13 +7,13 @@ use Rattle.rel_formula.specs.Bounds.{Bounded}
 use Rattle.rel_formula.specs.Kernel.{formulas_of}
 use Rattle.rel_formula.specs.View.{expression_tree, formula_tree}
 use Rattle.rel_formula.specs.Shape.{arity_of, IsProper}
-use Rattle.rel_formula.proofs.AndOrParts.{IsProper-And, IsProper-Or}
+use Rattle.rel_formula.proofs.AndOrParts.{IsProper-Junction}
 use Rattle.rel_terms.specs.Numbers.{Is, ◌⊕◌}
 use Rattle.rel_terms.specs.Upper.{upper_structure}
-use Rattle.rel_terms.specs.Terms.{InUpperAt, ExpressionHas, FormulaHas, FormulasHave}
+use Rattle.rel_terms.specs.Terms.{InUpperAt, ExpressionHas, FormulaHas, FormulasHave, each_terms}
 use Rattle.rel_terms.specs.Counting.{Adds, IsCounted, RowsHave, arities_of}
 use Rattle.rel_terms.proofs.Adding.{adds_both}
-use Rattle.rel_terms.proofs.PartTerms.{parts_more, parts_above, adds_and, adds_or, rows_more, rows_above}
+use Rattle.rel_terms.proofs.PartTerms.{parts_more, parts_above, adds_junction, rows_more, rows_above}
 use Rattle.rel_terms.proofs.FormulaTerms.{each_adds}
 use Rattle.rel_terms.proofs.formula.+add_formula.Goals as goal
 
@@ -68,21 +68,7 @@ add_formula-add_parts-requires t c =
         c.requires.problem,
         (
           c.requires.universe,
-          subst (All (λ (f : Formula). IsProper ns d (formula_tree f))) (sym c.deref-in-And.ensures.value) ((IsProper-And ns d c.in-And.parts).0 (subst (λ (f : Formula). IsProper ns d (formula_tree f)) c.in-And.is c.requires.proper)),
-        ),
-      ),
-    )
-
-pub add_formula-add_parts-requires-in-Or : goal.add_formula-add_parts-requires-in-Or
-add_formula-add_parts-requires-in-Or t c =
-    let ns = arities_of c.args.problem.now in
-    let d = length c.args.env.now.items in (
-      search (rules, the_lemmas),
-      (
-        c.requires.problem,
-        (
-          c.requires.universe,
-          subst (All (λ (f : Formula). IsProper ns d (formula_tree f))) (sym c.deref-in-Or.ensures.value) ((IsProper-Or ns d c.in-Or.parts).0 (subst (λ (f : Formula). IsProper ns d (formula_tree f)) c.in-Or.is c.requires.proper)),
+          subst (All (λ (f : Formula). IsProper ns d (formula_tree f))) (sym c.deref-in-Junction.ensures.value) ((IsProper-Junction ns d c.in-Junction.field-0 c.in-Junction.parts).0 (subst (λ (f : Formula). IsProper ns d (formula_tree f)) c.in-Junction.is c.requires.proper)),
         ),
       ),
     )
@@ -92,70 +78,33 @@ add_formula-returns-in_ok-add_formula-in-Not-clause-adds t c =
     let p = c.args.problem.now in
     let env = c.args.env.now.items in
     let inner = subst (HasAddedTo p env c.add.new.self.terms c.add_formula.new.tally.terms) c.deref.ensures c.in_ok-add_formula-in-Not.ensures.adds in
-    let one = subst (λ b. Adds (Is 1) b c.add.new.self.terms) c.in_ok-look.ensures c.add.ensures in
+    let one = subst (λ b. Adds (Is 1) b c.add.new.self.terms) c.in_ok-look.ensures.terms c.add.ensures in
     subst (HasAddedTo p env c.args.tally.now.terms c.add_formula.new.tally.terms) (sym c.in-Not.is) (adds_both (Is 1) (FormulaHas (upper_structure p) (reverse env) (formula_tree c.in-Not.g.value)) _ _ _ one inner)
 
-pub add_formula-returns-in_ok-add_parts-in-And-clause-adds : goal.add_formula-returns-in_ok-add_parts-in-And-clause-adds
-add_formula-returns-in_ok-add_parts-in-And-clause-adds t c =
+pub add_formula-returns-in_ok-add_parts-in-Junction-clause-adds : goal.add_formula-returns-in_ok-add_parts-in-Junction-clause-adds
+add_formula-returns-in_ok-add_parts-in-Junction-clause-adds t c =
     let p = c.args.problem.now in
     let M = upper_structure p in
     let env = c.args.env.now.items in
     let a = c.add_parts.new.tally.terms in
-    let start = subst (λ b. Adds (Is 1 ⊕ FormulasHave M (reverse env) (formulas_of (map formula_tree c.deref-in-And.result.now))) b a) c.in_ok-look.ensures c.in_ok-add_parts-in-And.ensures.adds in
-    let parts = subst (λ (fs : List Formula). Adds (Is 1 ⊕ FormulasHave M (reverse env) (formulas_of (map formula_tree fs))) c.args.tally.now.terms a) c.deref-in-And.ensures.value start in
-    subst (HasAddedTo p env c.args.tally.now.terms a) (sym c.in-And.is) (adds_and M (reverse env) c.in-And.parts c.args.tally.now.terms a parts)
+    let start = subst (λ b. Adds (Is 1 ⊕ FormulasHave M (reverse env) (formulas_of (map formula_tree c.deref-in-Junction.result.now))) b a) c.in_ok-look.ensures.terms c.in_ok-add_parts-in-Junction.ensures.adds in
+    let parts = subst (λ (fs : List Formula). Adds (Is 1 ⊕ FormulasHave M (reverse env) (formulas_of (map formula_tree fs))) c.args.tally.now.terms a) c.deref-in-Junction.ensures.value start in
+    subst (HasAddedTo p env c.args.tally.now.terms a) (sym c.in-Junction.is) (adds_junction M (reverse env) c.in-Junction.field-0 c.in-Junction.parts c.args.tally.now.terms a parts)
 
-pub add_formula-returns-in_ok-add_parts-in-Or-clause-adds : goal.add_formula-returns-in_ok-add_parts-in-Or-clause-adds
-add_formula-returns-in_ok-add_parts-in-Or-clause-adds t c =
+pub add_formula-returns-in_ok-add_for_each-in-Quantified-clause-adds : goal.add_formula-returns-in_ok-add_for_each-in-Quantified-clause-adds
+add_formula-returns-in_ok-add_for_each-in-Quantified-clause-adds t c =
     let p = c.args.problem.now in
     let M = upper_structure p in
     let env = c.args.env.now.items in
-    let a = c.add_parts-in-Or.new.tally.terms in
-    let start = subst (λ b. Adds (Is 1 ⊕ FormulasHave M (reverse env) (formulas_of (map formula_tree c.deref-in-Or.result.now))) b a) c.in_ok-look.ensures c.in_ok-add_parts-in-Or.ensures.adds in
-    let parts = subst (λ (fs : List Formula). Adds (Is 1 ⊕ FormulasHave M (reverse env) (formulas_of (map formula_tree fs))) c.args.tally.now.terms a) c.deref-in-Or.ensures.value start in
-    subst (HasAddedTo p env c.args.tally.now.terms a) (sym c.in-Or.is) (adds_or M (reverse env) c.in-Or.parts c.args.tally.now.terms a parts)
-
-pub add_formula-returns-in_ok-add_for_each-in-All-clause-adds : goal.add_formula-returns-in_ok-add_for_each-in-All-clause-adds
-add_formula-returns-in_ok-add_for_each-in-All-clause-adds t c =
-    let p = c.args.problem.now in
-    let M = upper_structure p in
-    let env = c.args.env.now.items in
-    let e = expression_tree c.in-All.e in
+    let q = c.in-Quantified.quantifier in
+    let e = expression_tree c.in-Quantified.e in
+    let g = formula_tree c.in-Quantified.g.value in
     let x = c.upper.new.tally.terms in
     let a = c.add_for_each.new.tally.terms in
-    let formed = subst (λ (f : Formula). IsProper (arities_of p) (length env) (formula_tree f)) c.in-All.is c.requires.proper in
-    let start = subst (λ b. IsCounted c.in_ok-domain-in-All.domain (arity_of (arities_of p) e) (InUpperAt M (reverse c.as_slice-in-All.result.now) e) (ExpressionHas M (reverse c.as_slice-in-All.result.now) e) b x) c.in_ok-look.ensures c.in_ok-domain-in-All.ensures in
-    let domain = subst (λ es. IsCounted c.in_ok-domain-in-All.domain (arity_of (arities_of p) e) (InUpperAt M (reverse es) e) (ExpressionHas M (reverse es) e) c.args.tally.now.terms x) c.as_slice-in-All.ensures.value start in
-    let sums = subst (λ (f : Formula). Adds (RowsHave M (reverse env) 1 (formula_tree f) c.rows.result.now) x a) c.deref-in-All.ensures c.in_ok-add_for_each-in-All.ensures.adds in
-    subst (HasAddedTo p env c.args.tally.now.terms a) (sym c.in-All.is)
-    (each_adds M (reverse env) 1 (formula_tree c.in-All.g.value) c.rows.result.now formed.1 c.rows.ensures.well c.rows.ensures.value domain sums)
-
-pub add_formula-returns-in_ok-add_for_each-in-Exists-clause-adds : goal.add_formula-returns-in_ok-add_for_each-in-Exists-clause-adds
-add_formula-returns-in_ok-add_for_each-in-Exists-clause-adds t c =
-    let p = c.args.problem.now in
-    let M = upper_structure p in
-    let env = c.args.env.now.items in
-    let e = expression_tree c.in-Exists.e in
-    let x = c.upper-in-Exists.new.tally.terms in
-    let a = c.add_for_each-in-Exists.new.tally.terms in
-    let formed = subst (λ (f : Formula). IsProper (arities_of p) (length env) (formula_tree f)) c.in-Exists.is c.requires.proper in
-    let start = subst (λ b. IsCounted c.in_ok-domain-in-Exists.domain (arity_of (arities_of p) e) (InUpperAt M (reverse c.as_slice-in-Exists.result.now) e) (ExpressionHas M (reverse c.as_slice-in-Exists.result.now) e) b x) c.in_ok-look.ensures c.in_ok-domain-in-Exists.ensures in
-    let domain = subst (λ es. IsCounted c.in_ok-domain-in-Exists.domain (arity_of (arities_of p) e) (InUpperAt M (reverse es) e) (ExpressionHas M (reverse es) e) c.args.tally.now.terms x) c.as_slice-in-Exists.ensures.value start in
-    let sums = subst (λ (f : Formula). Adds (RowsHave M (reverse env) 1 (formula_tree f) c.rows-in-Exists.result.now) x a) c.deref-in-Exists.ensures c.in_ok-add_for_each-in-Exists.ensures.adds in
-    subst (HasAddedTo p env c.args.tally.now.terms a) (sym c.in-Exists.is)
-    (each_adds M (reverse env) 1 (formula_tree c.in-Exists.g.value) c.rows-in-Exists.result.now formed.1 c.rows-in-Exists.ensures.well c.rows-in-Exists.ensures.value domain sums)
-
-pub add_formula-returns-in_ok-add_for_each-in-Lone-clause-adds : goal.add_formula-returns-in_ok-add_for_each-in-Lone-clause-adds
-add_formula-returns-in_ok-add_for_each-in-Lone-clause-adds t c =
-    let p = c.args.problem.now in
-    let M = upper_structure p in
-    let env = c.args.env.now.items in
-    let e = expression_tree c.in-Lone.e in
-    let x = c.upper-in-Lone.new.tally.terms in
-    let a = c.add_for_each-in-Lone.new.tally.terms in
-    let formed = subst (λ (f : Formula). IsProper (arities_of p) (length env) (formula_tree f)) c.in-Lone.is c.requires.proper in
-    let start = subst (λ b. IsCounted c.in_ok-domain-in-Lone.domain (arity_of (arities_of p) e) (InUpperAt M (reverse c.as_slice-in-Lone.result.now) e) (ExpressionHas M (reverse c.as_slice-in-Lone.result.now) e) b x) c.in_ok-look.ensures c.in_ok-domain-in-Lone.ensures in
-    let domain = subst (λ es. IsCounted c.in_ok-domain-in-Lone.domain (arity_of (arities_of p) e) (InUpperAt M (reverse es) e) (ExpressionHas M (reverse es) e) c.args.tally.now.terms x) c.as_slice-in-Lone.ensures.value start in
-    let sums = subst (λ (f : Formula). Adds (RowsHave M (reverse env) 2 (formula_tree f) c.rows-in-Lone.result.now) x a) c.deref-in-Lone.ensures c.in_ok-add_for_each-in-Lone.ensures.adds in
-    subst (HasAddedTo p env c.args.tally.now.terms a) (sym c.in-Lone.is)
-    (each_adds M (reverse env) 2 (formula_tree c.in-Lone.g.value) c.rows-in-Lone.result.now formed.1 c.rows-in-Lone.ensures.well c.rows-in-Lone.ensures.value domain sums)
+    let formed = subst (λ (f : Formula). IsProper (arities_of p) (length env) (formula_tree f)) c.in-Quantified.is c.requires.proper in
+    let start = subst (λ b. IsCounted c.in_ok-domain-in-Quantified.domain (arity_of (arities_of p) e) (InUpperAt M (reverse c.as_slice-in-Quantified.result.now) e) (ExpressionHas M (reverse c.as_slice-in-Quantified.result.now) e) b x) c.in_ok-look.ensures.terms c.in_ok-domain-in-Quantified.ensures in
+    let domain = subst (λ es. IsCounted c.in_ok-domain-in-Quantified.domain (arity_of (arities_of p) e) (InUpperAt M (reverse es) e) (ExpressionHas M (reverse es) e) c.args.tally.now.terms x) c.as_slice-in-Quantified.ensures.value start in
+    let body = subst (λ (f : Formula). Adds (RowsHave M (reverse env) c.terms_for_each-more.result (formula_tree f) c.rows.result.now) x a) c.deref-in-Quantified.ensures c.in_ok-add_for_each-in-Quantified.ensures.adds in
+    let sums = subst (λ more. Adds (RowsHave M (reverse env) more g c.rows.result.now) x a) c.terms_for_each-more.ensures body in
+    subst (HasAddedTo p env c.args.tally.now.terms a) (sym c.in-Quantified.is)
+    (each_adds M (reverse env) (each_terms q) g c.rows.result.now formed.1 c.rows.ensures.well c.rows.ensures.value domain sums)

@@ -1,8 +1,6 @@
-use Rattle.std.proofs.Common.{◌≡◌, ap, subst, sym, ◌∙◌, Contains, inl, length, List, All, arith}
+use Rattle.std.proofs.Common.{◌≡◌, ap, subst, sym, ◌∙◌, Contains, inl, length, All, arith}
 use Rattle.std.proofs.lemmas.List.Elements.{All-contains}
-use Rattle.tuple_core.specs.declared.atom.Atom.{Atom}
 use Rattle.tuple_core.specs.Operators.{Closed}
-use Rattle.tuple_core.specs.Gains.{Same}
 use Rattle.tuple_core.specs.Rows.{Rows, IsRows}
 use Rattle.tuple_core.proofs.Walks.{closed_pair}
 use Rattle.rel_terms.specs.Terms.{Meeting}

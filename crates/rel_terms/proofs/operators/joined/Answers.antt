@@ -1,4 +1,4 @@
-use Rattle.std.proofs.Common.{◌≡◌, ◌+◌, ◌-◌, Contains, arith}
+use Rattle.std.proofs.Common.{Contains, arith}
 use Rattle.rel_terms.specs.Terms.{Meeting}
 use Rattle.rel_terms.proofs.Adding.{adds_once}
 use Rattle.rel_terms.proofs.Counted.{counted}

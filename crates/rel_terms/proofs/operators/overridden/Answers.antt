@@ -1,7 +1,5 @@
 use Rattle.std.proofs.Common.{◌*◌, ◌∙◌, Contains, length, List, subst}
 use Rattle.tuple_core.specs.declared.atom.Atom.{Atom}
-use Rattle.tuple_core.specs.Operators.{United}
-use Rattle.tuple_core.specs.Rows.{IsSetOf}
 use Rattle.rel_formula.specs.Sizes.{HasSize}
 use Rattle.rel_terms.specs.Numbers.{Is, ◌⊗◌}
 use Rattle.rel_terms.specs.Counting.{Adds}

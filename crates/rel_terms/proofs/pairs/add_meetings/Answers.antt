@@ -1,6 +1,3 @@
-use Rattle.std.proofs.Common.{◌≡◌, ℕ, ◌+◌, ◌*◌, ◌<◌, Contains, length, List, take, subst, sym, arith}
-use Rattle.rel_terms.specs.Numbers.{Is}
-use Rattle.rel_terms.specs.Counting.{Adds}
 use Rattle.rel_terms.proofs.MeetingTuples.{meetings_more, meetings_all, meetings_above}
 use Rattle.rel_terms.proofs.pairs.add_meetings.Goals as goal
 

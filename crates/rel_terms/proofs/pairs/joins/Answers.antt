@@ -1,4 +1,4 @@
-use Rattle.std.proofs.Common.{◌≡◌, ◌+◌, ◌-◌, subst, arith, Contains, List, length, ◌↔◌}
+use Rattle.std.proofs.Common.{◌+◌, ◌-◌, subst, arith, Contains, List, ◌↔◌}
 use Rattle.tuple_core.specs.declared.atom.Atom.{Atom}
 use Rattle.tuple_core.specs.Operators.{Pred, JoinsTo, Joined, BeginsWith}
 use Rattle.tuple_core.specs.Gains.{SomeGives}

@@ -1,7 +1,4 @@
-use Rattle.std.proofs.Common.{◌≡◌, true, ℕ, ◌+◌, ◌-◌, ◌<◌, ◌≤◌, List, length, get_or, arith, inl, inr, subst, sym, ◌∙◌, ap, Contains}
-use Rattle.std.proofs.lemmas.Bool.{cases_lt}
-use Rattle.std.proofs.lemmas.List.{get_or_default}
-use Rattle.tuple_core.specs.declared.atom.Atom.{Atom}
+use Rattle.std.proofs.Common.{◌≡◌, true, arith, subst, sym, ◌∙◌}
 use Rattle.tuple_core.specs.Operators.{BeginsWith}
 use Rattle.tuple_core.proofs.Atoms.{atom_eq-decides}
 use Rattle.rel_terms.specs.Counting.{IsPlaceOf}

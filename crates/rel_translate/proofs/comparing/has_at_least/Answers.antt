@@ -1,4 +1,4 @@
-use Rattle.std.proofs.Common.{◌≡◌, ◌==◌, ◌↔◌, ℕ, length, reverse, sym, subst}
+use Rattle.std.proofs.Common.{◌==◌, reverse}
 use Rattle.bool_circuit.specs.Network.{size}
 use Rattle.rel_formula.specs.View.{expression_tree}
 use Rattle.rel_translate.proofs.FormulaNodes.{count_parts, count_room, count_room_none, count_told, count_none, truth_not, zero_says}

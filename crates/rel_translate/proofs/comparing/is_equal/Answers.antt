@@ -1,4 +1,4 @@
-use Rattle.std.proofs.Common.{◌≡◌, ◌+◌, ◌∙◌, sym, subst, length, reverse, arith}
+use Rattle.std.proofs.Common.{◌∙◌, sym, reverse, arith}
 use Rattle.bool_circuit.specs.Network.{size}
 use Rattle.rel_formula.specs.View.{expression_tree}
 use Rattle.rel_translate.proofs.FormulaNodes.{equal_parts, equal_room, constant_room_both, equal_told, equal_none, truth_not}

@@ -1,4 +1,4 @@
-use Rattle.std.proofs.Common.{◌≡◌, ◌∙◌, sym, subst, length, reverse}
+use Rattle.std.proofs.Common.{◌∙◌, sym, reverse}
 use Rattle.bool_circuit.specs.Network.{size}
 use Rattle.rel_formula.specs.View.{expression_tree}
 use Rattle.rel_translate.proofs.FormulaNodes.{within_parts, within_room, constant_room, within_told, within_none, truth_not}

@@ -1,35 +1,33 @@
-use Rattle.std.proofs.Common.{◌≡◌, ℕ, ◌+◌, ◌<◌, ◌↔◌, Bool, IsTrue, inl, inr, List, [], ◌∷◌, ◌++◌, All, AllPairs, Vec, Global, map, reverse, length, take, get_or, refl, sym, ◌∙◌, ap, subst, rules, arith}
-use Rattle.std.specs.List.{Any}
+use Rattle.std.proofs.Common.{◌≡◌, ℕ, ◌+◌, ◌<◌, IsTrue, List, [], ◌∷◌, All, AllPairs, map, reverse, length, take, refl, sym, ◌∙◌, ap, subst, rules, arith}
 use Rattle.std.proofs.lemmas.List.{take_all, reverse-append, length_push}
 use Rattle.tuple_core.specs.declared.atom.Atom.{Atom}
 use Rattle.bool_circuit.specs.Network.{Network, size}
-use Rattle.bool_circuit.specs.Value.{value_at}
 use Rattle.bool_matrix.specs.declared.entry.Entry.{Entry}
-use Rattle.bool_matrix.specs.Cells.{Cells, Says}
+use Rattle.bool_matrix.specs.Cells.{Cells}
 use Rattle.bool_matrix.proofs.ComparedEntries.{says_same}
-use Rattle.rel_formula.specs.declared.formula.Formula.{Formula, And, Or}
+use Rattle.rel_formula.specs.declared.connectives.Connective.TheVariants as connective
+use Rattle.rel_formula.specs.declared.formula.Formula.{Formula, Junction}
 use Rattle.rel_formula.specs.declared.formula.Formula.TheViews.{the_lemmas}
-use Rattle.rel_formula.specs.declared.formula.Expression.{Expression}
 use Rattle.rel_formula.specs.Bounds.{Bounded, IsAtomOf}
-use Rattle.rel_formula.specs.Kernel.{ExpressionTree, FormulaTree, equal, at_least, negation, formulas_of}
+use Rattle.rel_formula.specs.Kernel.{FormulaTree, compared, at_least, formulas_of}
 use Rattle.rel_formula.specs.View.{expression_tree, formula_tree}
 use Rattle.rel_formula.specs.Meaning.{Truth}
-use Rattle.rel_formula.specs.Shape.{arity_of, IsProper, IsWellFormed}
-use Rattle.rel_formula.proofs.AndOrParts.{And-tree, Or-tree, Truth-And, Truth-Or, IsProper-And, IsProper-Or}
+use Rattle.rel_formula.specs.Evaluation.{HoldsOf}
+use Rattle.rel_formula.specs.Shape.{IsProper}
+use Rattle.rel_formula.proofs.AndOrParts.{Junction-tree, Truth-Junction, IsProper-Junction}
 use Rattle.rel_terms.specs.Numbers.{Is, ◌⊕◌}
 use Rattle.rel_terms.specs.Upper.{upper_structure}
-use Rattle.rel_terms.specs.Terms.{FormulasHave}
+use Rattle.rel_terms.specs.Terms.{FormulasHave, each_terms}
 use Rattle.rel_terms.specs.Counting.{RowsHave, arities_of}
 use Rattle.rel_translate.specs.Tables.{structure_at, IsReady}
-use Rattle.rel_translate.specs.Makes.{HasRoomFor, Spends, TermsOf, FormulaTermsOf, IsMade, Tells, IsTold}
-use Rattle.rel_translate.specs.Grounding.{IsImplied, IsMet, AreNotBothMet}
-use Rattle.rel_translate.proofs.Lists.{all_start, any_start, two_start, all_more, any_more}
-use Rattle.rel_translate.proofs.Spending.{room_left}
+use Rattle.rel_translate.specs.Makes.{HasRoomFor, FormulaTermsOf, IsMade, Tells, IsTold}
+use Rattle.rel_translate.specs.Grounding.{IsGuarded, IsMet, AreNotBothMet, IsGrounded}
+use Rattle.rel_translate.proofs.Lists.{two_start, junction_start, junction_more, connects_same}
 use Rattle.rel_translate.proofs.GrownCircuits.{ready_kept, ready_more}
 use Rattle.rel_translate.proofs.Gated.{says_later}
 use Rattle.bool_circuit.proofs.CallerLemmas.{Extends-trans}
 use Rattle.rel_translate.proofs.FormulaNodes.{tells_same, negation_room, negation_told}
-use Rattle.rel_translate.proofs.Grounded.{room_second, next_room, next_gate, next_spent, parts_start, parts_tell, rows_start, rows_tell, body_room, gates_room, turn_tells, all_turn, some_turn, lone_turn, found_turn, first_atom, domain_single, domain_atoms, domain_room, for_all_told, for_some_told, lone_told}
+use Rattle.rel_translate.proofs.Grounded.{room_second, next_room, next_gate, next_spent, parts_start, parts_tell, rows_start, rows_tell, body_room, gates_room, turn_tells, guarded_turn, lone_turn, found_turn, first_atom, domain_single, domain_atoms, domain_room, quantified_told}
 use Rattle.rel_translate.proofs.formula.+truth.Goals as goal
 
 abbrev ReadyAt : Network → Bounded → ℕ → List Cells → Cells → List Atom → Type 0
@@ -44,15 +42,17 @@ ProperAt p es f = IsProper (arities_of p) (length es) (formula_tree f)
 abbrev RoomAt : Network → Bounded → List Atom → Formula → Type 0
 RoomAt network p es f = HasRoomFor (size network) (FormulaTermsOf p (reverse es) (formula_tree f))
 
-pub all_true-loop-part-init : goal.all_true-loop-part-init
-all_true-loop-part-init t c = record {
+pub true_of-loop-part-init : goal.true_of-loop-part-init
+true_of-loop-part-init t c = record {
   env = refl;
   spends = parts_start c.args.problem.now (reverse c.args.env.now.items) c.args.parts.now c.constant.ensures.extends c.constant.ensures.size;
-  says = says_same (λ s. all_start (λ (f : Formula). Truth (structure_at c.args.problem.now s) (reverse c.args.env.now.items) (formula_tree f)) c.args.parts.now) c.in_ok-all.ensures.says;
+  says = says_same (λ s.
+      let start = junction_start (λ (f : Formula). Truth (structure_at c.args.problem.now s) (reverse c.args.env.now.items) (formula_tree f)) c.args.connective c.args.parts.now in
+      (λ h. start.0 (subst IsTrue c.of_none.ensures h), λ h. subst IsTrue (sym c.of_none.ensures) (start.1 h))) c.in_ok-so_far.ensures.says;
 }
 
-pub all_true-truth-requires : goal.all_true-truth-requires
-all_true-truth-requires t c =
+pub true_of-truth-requires : goal.true_of-truth-requires
+true_of-truth-requires t c =
     let p = c.args.problem.now in
     let inv = c.loop-part.invariant in
     let x = c.part-item.result in
@@ -67,10 +67,11 @@ all_true-truth-requires t c =
       ),
     )
 
-pub all_true-loop-part-preserved : goal.all_true-loop-part-preserved
-all_true-loop-part-preserved t c =
+pub true_of-loop-part-preserved : goal.true_of-loop-part-preserved
+true_of-loop-part-preserved t c =
     let p = c.args.problem.now in
     let env = reverse c.args.env.now.items in
+    let o = c.args.connective in
     let inv = c.loop-part.invariant in
     let x = c.part-item.result in
     let i = c.loop-part.part-index in
@@ -78,89 +79,43 @@ all_true-loop-part-preserved t c =
     let later = says_later told.spends.extends inv.says in
     record {
       env = c.in_ok-node.ensures.env ∙ inv.env;
-      spends = next_spent p env c.args.parts.now i x c.loop-part-test.true c.part-item.is inv.spends told c.both.ensures.extends c.both.ensures.size c.both.ensures.folded;
+      spends = next_spent p env c.args.parts.now i x c.loop-part-test.true c.part-item.is inv.spends told c.connected.ensures.extends c.connected.ensures.size c.connected.ensures.folded;
       says = says_same (λ s.
-          let step = all_more (λ (f : Formula). Truth (structure_at p s) env (formula_tree f)) c.args.parts.now i x c.loop-part-test.true c.part-item.is in
-          (λ h. step.1 ((later.value s).0 h.0, (told.says.value s).0 h.1), λ h. let r = step.0 h in ((later.value s).1 r.0, (told.says.value s).1 r.1))) c.in_ok-all-2.ensures.says;
+          let step = junction_more (λ (f : Formula). Truth (structure_at p s) env (formula_tree f)) o c.args.parts.now i x c.loop-part-test.true c.part-item.is in
+          let both = connects_same o (later.value s) (told.says.value s) in
+          (λ h. step.1 (both.0 h), λ h. both.1 (step.0 h))) c.in_ok-so_far-2.ensures.says;
     }
 
-pub all_true-returns-clause-told : goal.all_true-returns-clause-told
-all_true-returns-clause-told t c =
+pub true_of-returns-clause-told : goal.true_of-returns-clause-told
+true_of-returns-clause-told t c =
     let p = c.args.problem.now in
     let env = reverse c.args.env.now.items in
+    let o = c.args.connective in
     let inv = c.loop-part.invariant in
     let i = c.loop-part.part-index in
     let parts = c.args.parts.now in
-    parts_tell p env parts i (λ s. All (λ (f : Formula). Truth (structure_at p s) env (formula_tree f)) parts) c.loop-part-test.false inv.spends
+    parts_tell p env parts i (λ s. HoldsOf o (λ (f : Formula). Truth (structure_at p s) env (formula_tree f)) parts) c.loop-part-test.false inv.spends
     (says_same (λ s. let all = take_all i parts c.loop-part-test.false in let P : Formula → Type 0 = λ f. Truth (structure_at p s) env (formula_tree f) in
-    (λ h. subst (All P) all h, λ h. subst (All P) (sym all) h)) inv.says)
+    (λ h. subst (HoldsOf o P) all h, λ h. subst (HoldsOf o P) (sym all) h)) inv.says)
 
-pub any_true-loop-part-init : goal.any_true-loop-part-init
-any_true-loop-part-init t c = record {
-  env = refl;
-  spends = parts_start c.args.problem.now (reverse c.args.env.now.items) c.args.parts.now c.constant.ensures.extends c.constant.ensures.size;
-  says = says_same (λ s. any_start (λ (f : Formula). Truth (structure_at c.args.problem.now s) (reverse c.args.env.now.items) (formula_tree f)) c.args.parts.now) c.in_ok-any.ensures.says;
-}
-
-pub any_true-truth-requires : goal.any_true-truth-requires
-any_true-truth-requires t c =
-    let p = c.args.problem.now in
-    let inv = c.loop-part.invariant in
-    let x = c.part-item.result in
-    let i = c.loop-part.part-index in (
-      search (rules, the_lemmas),
-      (
-        subst (ReadyAt c.loop-part.circuit p c.args.tables.now.always c.args.tables.now.relations.items c.args.tables.now.universe) (sym inv.env) (ready_kept inv.spends.extends c.requires.ready),
-        (
-          subst (λ es. ProperAt p es x) (sym inv.env) (subst (ProperAt p c.args.env.now.items) (sym c.part-item.is) (c.requires.proper i x c.loop-part-test.true)),
-          subst (λ es. RoomAt c.loop-part.circuit p es x) (sym inv.env) (next_room p (reverse c.args.env.now.items) c.args.parts.now i x c.loop-part-test.true c.part-item.is inv.spends c.requires.room),
-        ),
-      ),
-    )
-
-pub any_true-loop-part-preserved : goal.any_true-loop-part-preserved
-any_true-loop-part-preserved t c =
+pub true_at_those-loop-entry-init : goal.true_at_those-loop-entry-init
+true_at_those-loop-entry-init t c =
     let p = c.args.problem.now in
     let env = reverse c.args.env.now.items in
-    let inv = c.loop-part.invariant in
-    let x = c.part-item.result in
-    let i = c.loop-part.part-index in
-    let told = subst (λ es. ToldAt c.loop-part.circuit c.truth.new.circuit p es c.in_ok-node.node x) inv.env c.in_ok-node.ensures.told in
-    let later = says_later told.spends.extends inv.says in
-    record {
-      env = c.in_ok-node.ensures.env ∙ inv.env;
-      spends = next_spent p env c.args.parts.now i x c.loop-part-test.true c.part-item.is inv.spends told c.either.ensures.extends c.either.ensures.size c.either.ensures.folded;
-      says = says_same (λ s.
-          let step = any_more (λ (f : Formula). Truth (structure_at p s) env (formula_tree f)) c.args.parts.now i x c.loop-part-test.true c.part-item.is in
-          (λ h. step.1 (elim h [ inl a ↦ inl ((later.value s).0 a) | inr b ↦ inr ((told.says.value s).0 b) ]), λ h. elim (step.0 h) [ inl a ↦ inl ((later.value s).1 a) | inr b ↦ inr ((told.says.value s).1 b) ])) c.in_ok-any-2.ensures.says;
-    }
-
-pub any_true-returns-clause-told : goal.any_true-returns-clause-told
-any_true-returns-clause-told t c =
-    let p = c.args.problem.now in
-    let env = reverse c.args.env.now.items in
-    let inv = c.loop-part.invariant in
-    let i = c.loop-part.part-index in
-    let parts = c.args.parts.now in
-    parts_tell p env parts i (λ s. Any (λ (f : Formula). Truth (structure_at p s) env (formula_tree f)) parts) c.loop-part-test.false inv.spends
-    (says_same (λ s. let all = take_all i parts c.loop-part-test.false in let P : Formula → Type 0 = λ f. Truth (structure_at p s) env (formula_tree f) in
-    (λ h. subst (Any P) all h, λ h. subst (Any P) (sym all) h)) inv.says)
-
-pub true_for_all-loop-entry-init : goal.true_for_all-loop-entry-init
-true_for_all-loop-entry-init t c =
-    let p = c.args.problem.now in
-    let env = reverse c.args.env.now.items in
+    let o = c.args.connective in
     let f = formula_tree c.args.f.now in
     let es = c.args.entries.now in
     let old = c.args.circuit.now in
     record {
       env = refl;
-      told = rows_start p env 1 f es (λ s. All (IsImplied old s p env f) (take 0 es)) c.constant.ensures.extends c.constant.ensures.size
-          (says_same (λ s. all_start (IsImplied old s p env f) es) c.in_ok-all.ensures.says) c.in_ok-all.ensures.constant;
+      told = rows_start p env 1 f es (λ s. HoldsOf o (IsGuarded o old s p env f) (take 0 es)) c.constant.ensures.extends c.constant.ensures.size
+          (says_same (λ s.
+          let start = junction_start (IsGuarded o old s p env f) o es in
+          (λ h. start.0 (subst IsTrue c.of_none.ensures h), λ h. subst IsTrue (sym c.of_none.ensures) (start.1 h))) c.in_ok-so_far.ensures.says) c.in_ok-so_far.ensures.constant;
     }
 
-pub true_for_all-true_at-requires : goal.true_for_all-true_at-requires
-true_for_all-true_at-requires t c =
+pub true_at_those-true_at-requires : goal.true_at_those-true_at-requires
+true_at_those-true_at-requires t c =
     let p = c.args.problem.now in
     let inv = c.loop-entry.invariant in
     let x = c.entry-item.result in
@@ -181,10 +136,11 @@ true_for_all-true_at-requires t c =
       ),
     )
 
-pub true_for_all-loop-entry-preserved : goal.true_for_all-loop-entry-preserved
-true_for_all-loop-entry-preserved t c =
+pub true_at_those-loop-entry-preserved : goal.true_at_those-loop-entry-preserved
+true_at_those-loop-entry-preserved t c =
     let p = c.args.problem.now in
     let env = reverse c.args.env.now.items in
+    let o = c.args.connective in
     let f = formula_tree c.args.f.now in
     let inv = c.loop-entry.invariant in
     let x = c.entry-item.result in
@@ -198,91 +154,23 @@ true_for_all-loop-entry-preserved t c =
     let told = subst (λ vs. IsTold c.loop-entry.circuit c.true_at.new.circuit p (a ∷ reverse vs) f c.in_ok-body.body) inv.env c.in_ok-body.ensures.told in
     let single : length x.tuple ≡ 1 = subst (λ (y : Entry). length y.tuple ≡ 1) (sym is) (c.requires.single i x l) in
     let known : x.node < length old.shapes = subst (λ (y : Entry). y.node < length old.shapes) (sym is) (c.requires.nodes i x l) in
-    let says = all_turn old p env f es i x a l is begins single inv.told.spends.extends known told inv.told.says c.in_ok-all-2.ensures.says in
+    let says = guarded_turn old p env f es i x a l is begins single inv.told.spends.extends known told o inv.told.says c.in_ok-so_far-2.ensures.says in
     record {
       env = c.in_ok-body.ensures.env ∙ inv.env;
-      told = turn_tells p env 1 f es i x a l is begins inv.told.spends told (λ s. All (IsImplied old s p env f) (take (i + 1) es)) (omega arith) c.implied_also.ensures.extends (omega (arith, c.implied_also.ensures.size)) says;
+      told = turn_tells p env 1 f es i x a l is begins inv.told.spends told (λ s. HoldsOf o (IsGuarded o old s p env f) (take (i + 1) es)) (omega arith) c.guarded_also.ensures.extends (omega (arith, c.guarded_also.ensures.size)) says;
     }
 
-pub true_for_all-returns-clause-told : goal.true_for_all-returns-clause-told
-true_for_all-returns-clause-told t c =
+pub true_at_those-returns-clause-told : goal.true_at_those-returns-clause-told
+true_at_those-returns-clause-told t c =
     let p = c.args.problem.now in
     let env = reverse c.args.env.now.items in
+    let o = c.args.connective in
     let f = formula_tree c.args.f.now in
     let es = c.args.entries.now in
     let i = c.loop-entry.entry-index in
     let old = c.args.circuit.now in
-    rows_tell p env 1 f es i (λ s. All (IsImplied old s p env f) (take i es)) (λ s. All (IsImplied old s p env f) es) c.loop-entry-test.false
-    (λ s. let all = take_all i es c.loop-entry-test.false in (λ h. subst (All (IsImplied old s p env f)) all h, λ h. subst (All (IsImplied old s p env f)) (sym all) h)) c.loop-entry.invariant.told
-
-pub true_for_some-loop-entry-init : goal.true_for_some-loop-entry-init
-true_for_some-loop-entry-init t c =
-    let p = c.args.problem.now in
-    let env = reverse c.args.env.now.items in
-    let f = formula_tree c.args.f.now in
-    let es = c.args.entries.now in
-    let old = c.args.circuit.now in
-    record {
-      env = refl;
-      told = rows_start p env 1 f es (λ s. Any (IsMet old s p env f) (take 0 es)) c.constant.ensures.extends c.constant.ensures.size
-          (says_same (λ s. any_start (IsMet old s p env f) es) c.in_ok-any.ensures.says) c.in_ok-any.ensures.constant;
-    }
-
-pub true_for_some-true_at-requires : goal.true_for_some-true_at-requires
-true_for_some-true_at-requires t c =
-    let p = c.args.problem.now in
-    let inv = c.loop-entry.invariant in
-    let x = c.entry-item.result in
-    let i = c.loop-entry.entry-index in
-    let es = c.args.entries.now in
-    let a = c.first.result in (
-      search (rules, the_lemmas),
-      (
-        subst (ReadyAt c.loop-entry.circuit p c.args.tables.now.always c.args.tables.now.relations.items c.args.tables.now.universe) (sym inv.env) (ready_kept inv.told.spends.extends c.requires.ready),
-        (
-          subst (λ (vs : List Atom). IsProper (arities_of p) (length vs + 1) (formula_tree c.args.f.now)) (sym inv.env) c.requires.proper,
-          (
-            first_atom p es i x a c.loop-entry-test.true c.entry-item.is c.first.ensures c.requires.atoms,
-            subst (λ vs. HasRoomFor (size c.loop-entry.circuit) (FormulaTermsOf p (a ∷ reverse vs) (formula_tree c.args.f.now))) (sym inv.env)
-                (body_room p (reverse c.args.env.now.items) 1 (formula_tree c.args.f.now) es i x a c.loop-entry-test.true c.entry-item.is c.first.ensures inv.told.spends c.requires.room),
-          ),
-        ),
-      ),
-    )
-
-pub true_for_some-loop-entry-preserved : goal.true_for_some-loop-entry-preserved
-true_for_some-loop-entry-preserved t c =
-    let p = c.args.problem.now in
-    let env = reverse c.args.env.now.items in
-    let f = formula_tree c.args.f.now in
-    let inv = c.loop-entry.invariant in
-    let x = c.entry-item.result in
-    let i = c.loop-entry.entry-index in
-    let es = c.args.entries.now in
-    let old = c.args.circuit.now in
-    let a = c.first.result in
-    let l = c.loop-entry-test.true in
-    let is = c.entry-item.is in
-    let begins = c.first.ensures in
-    let told = subst (λ vs. IsTold c.loop-entry.circuit c.true_at.new.circuit p (a ∷ reverse vs) f c.in_ok-body.body) inv.env c.in_ok-body.ensures.told in
-    let single : length x.tuple ≡ 1 = subst (λ (y : Entry). length y.tuple ≡ 1) (sym is) (c.requires.single i x l) in
-    let known : x.node < length old.shapes = subst (λ (y : Entry). y.node < length old.shapes) (sym is) (c.requires.nodes i x l) in
-    let says = some_turn old p env f es i x a l is begins single inv.told.spends.extends known told inv.told.says c.in_ok-any-2.ensures.says in
-    record {
-      env = c.in_ok-body.ensures.env ∙ inv.env;
-      told = turn_tells p env 1 f es i x a l is begins inv.told.spends told (λ s. Any (IsMet old s p env f) (take (i + 1) es)) (omega arith) c.met_also.ensures.extends (omega (arith, c.met_also.ensures.size)) says;
-    }
-
-pub true_for_some-returns-clause-told : goal.true_for_some-returns-clause-told
-true_for_some-returns-clause-told t c =
-    let p = c.args.problem.now in
-    let env = reverse c.args.env.now.items in
-    let f = formula_tree c.args.f.now in
-    let es = c.args.entries.now in
-    let i = c.loop-entry.entry-index in
-    let old = c.args.circuit.now in
-    rows_tell p env 1 f es i (λ s. Any (IsMet old s p env f) (take i es)) (λ s. Any (IsMet old s p env f) es) c.loop-entry-test.false
-    (λ s. let all = take_all i es c.loop-entry-test.false in (λ h. subst (Any (IsMet old s p env f)) all h, λ h. subst (Any (IsMet old s p env f)) (sym all) h)) c.loop-entry.invariant.told
+    rows_tell p env 1 f es i (λ s. HoldsOf o (IsGuarded o old s p env f) (take i es)) (λ s. HoldsOf o (IsGuarded o old s p env f) es) c.loop-entry-test.false
+    (λ s. let all = take_all i es c.loop-entry-test.false in (λ h. subst (HoldsOf o (IsGuarded o old s p env f)) all h, λ h. subst (HoldsOf o (IsGuarded o old s p env f)) (sym all) h)) c.loop-entry.invariant.told
 
 pub true_for_at_most_one-loop-entry-init : goal.true_for_at_most_one-loop-entry-init
 true_for_at_most_one-loop-entry-init t c =
@@ -295,7 +183,7 @@ true_for_at_most_one-loop-entry-init t c =
       env = refl;
       told = rows_start p env 2 f es (λ s. AllPairs (AreNotBothMet old s p env f) (take 0 es)) (Extends-trans old c.constant.new.circuit c.constant-2.new.circuit c.constant.ensures.extends c.constant-2.ensures.extends) (omega (arith, c.constant.ensures.size, c.constant-2.ensures.size))
           (says_same (λ s. two_start (IsMet old s p env f) es) c.in_ok-lone.ensures.says) c.in_ok-lone.ensures.constant;
-      found = says_later c.constant-2.ensures.extends (says_same (λ s. any_start (IsMet old s p env f) es) c.in_ok-found.ensures.says);
+      found = says_later c.constant-2.ensures.extends (says_same (λ s. junction_start (IsMet old s p env f) connective.Or es) c.in_ok-found.ensures.says);
     }
 
 pub true_for_at_most_one-true_at-requires : goal.true_for_at_most_one-true_at-requires
@@ -358,82 +246,52 @@ true_for_at_most_one-returns-clause-told t c =
     rows_tell p env 2 f es i (λ s. AllPairs (AreNotBothMet old s p env f) (take i es)) (λ s. AllPairs (AreNotBothMet old s p env f) es) c.loop-entry-test.false
     (λ s. let all = take_all i es c.loop-entry-test.false in (λ h. subst (AllPairs (AreNotBothMet old s p env f)) all h, λ h. subst (AllPairs (AreNotBothMet old s p env f)) (sym all) h)) c.loop-entry.invariant.told
 
-pub truth-all_true-requires : goal.truth-all_true-requires
-truth-all_true-requires t c =
+pub truth-true_of-requires : goal.truth-true_of-requires
+truth-true_of-requires t c =
     let p = c.args.problem.now in
     let env = c.args.env.now.items in
     let ns = arities_of p in
     let d = length env in
-    let proper = (IsProper-And ns d c.in-And.parts).0 (subst (ProperAt p env) c.in-And.is c.requires.proper) in
-    let room = subst (λ (g : FormulaTree). HasRoomFor (size c.args.circuit.now) (FormulaTermsOf p (reverse env) g)) (And-tree c.in-And.parts) (subst (RoomAt c.args.circuit.now p env) c.in-And.is c.requires.room) in (
+    let proper = (IsProper-Junction ns d c.in-Junction.connective c.in-Junction.parts).0 (subst (ProperAt p env) c.in-Junction.is c.requires.proper) in
+    let room = subst (λ (g : FormulaTree). HasRoomFor (size c.args.circuit.now) (FormulaTermsOf p (reverse env) g)) (Junction-tree c.in-Junction.connective c.in-Junction.parts) (subst (RoomAt c.args.circuit.now p env) c.in-Junction.is c.requires.room) in (
       search (rules, the_lemmas),
       (
         c.requires.ready,
         (
-          subst (All (λ (f : Formula). IsProper ns d (formula_tree f))) (sym c.deref-in-And.ensures.value) proper,
-          subst (λ (fs : List Formula). HasRoomFor (size c.args.circuit.now) (Is 1 ⊕ FormulasHave (upper_structure p) (reverse env) (formulas_of (map formula_tree fs)))) (sym c.deref-in-And.ensures.value) room,
+          subst (All (λ (f : Formula). IsProper ns d (formula_tree f))) (sym c.deref-in-Junction.ensures.value) proper,
+          subst (λ (fs : List Formula). HasRoomFor (size c.args.circuit.now) (Is 1 ⊕ FormulasHave (upper_structure p) (reverse env) (formulas_of (map formula_tree fs)))) (sym c.deref-in-Junction.ensures.value) room,
         ),
       ),
     )
 
-pub truth-any_true-requires : goal.truth-any_true-requires
-truth-any_true-requires t c =
-    let p = c.args.problem.now in
-    let env = c.args.env.now.items in
-    let ns = arities_of p in
-    let d = length env in
-    let proper = (IsProper-Or ns d c.in-Or.parts).0 (subst (ProperAt p env) c.in-Or.is c.requires.proper) in
-    let room = subst (λ (g : FormulaTree). HasRoomFor (size c.args.circuit.now) (FormulaTermsOf p (reverse env) g)) (Or-tree c.in-Or.parts) (subst (RoomAt c.args.circuit.now p env) c.in-Or.is c.requires.room) in (
-      search (rules, the_lemmas),
-      (
-        c.requires.ready,
-        (
-          subst (All (λ (f : Formula). IsProper ns d (formula_tree f))) (sym c.deref-in-Or.ensures.value) proper,
-          subst (λ (fs : List Formula). HasRoomFor (size c.args.circuit.now) (Is 1 ⊕ FormulasHave (upper_structure p) (reverse env) (formulas_of (map formula_tree fs)))) (sym c.deref-in-Or.ensures.value) room,
-        ),
-      ),
-    )
-
-pub truth-returns-in_ok-all_true-in-And-clause-told : goal.truth-returns-in_ok-all_true-in-And-clause-told
-truth-returns-in_ok-all_true-in-And-clause-told t c =
+pub truth-returns-in_ok-true_of-in-Junction-clause-told : goal.truth-returns-in_ok-true_of-in-Junction-clause-told
+truth-returns-in_ok-true_of-in-Junction-clause-told t c =
     let p = c.args.problem.now in
     let env = c.args.env.now.items in
     let start = c.args.circuit.now in
-    let new = c.all_true.new.circuit in
-    let node = c.in_ok-all_true-in-And.field-0 in
-    let parts = subst (λ (fs : List Formula). Tells start new node (λ s. All (λ (f : Formula). Truth (structure_at p s) (reverse env) (formula_tree f)) fs) (Is 1 ⊕ FormulasHave (upper_structure p) (reverse env) (formulas_of (map formula_tree fs))))
-    c.deref-in-And.ensures.value c.in_ok-all_true-in-And.ensures.told in
-    subst (ToldAt start new p env node) (sym c.in-And.is)
-    (tells_same (λ s. Truth (structure_at p s) (reverse env) (formula_tree (And c.in-And.parts))) (FormulaTermsOf p (reverse env) (formula_tree (And c.in-And.parts)))
-    (λ s. let same = Truth-And (structure_at p s) (reverse env) c.in-And.parts in (same.1, same.0))
-    (λ n h. subst (λ (g : FormulaTree). FormulaTermsOf p (reverse env) g n) (And-tree c.in-And.parts) h) parts)
+    let o = c.in-Junction.connective in
+    let new = c.true_of.new.circuit in
+    let node = c.in_ok-true_of-in-Junction.field-0 in
+    let parts = subst (λ (fs : List Formula). Tells start new node (λ s. HoldsOf o (λ (f : Formula). Truth (structure_at p s) (reverse env) (formula_tree f)) fs) (Is 1 ⊕ FormulasHave (upper_structure p) (reverse env) (formulas_of (map formula_tree fs))))
+    c.deref-in-Junction.ensures.value c.in_ok-true_of-in-Junction.ensures.told in
+    subst (ToldAt start new p env node) (sym c.in-Junction.is)
+    (tells_same (λ s. Truth (structure_at p s) (reverse env) (formula_tree (Junction o c.in-Junction.parts))) (FormulaTermsOf p (reverse env) (formula_tree (Junction o c.in-Junction.parts)))
+    (λ s. let same = Truth-Junction (structure_at p s) (reverse env) o c.in-Junction.parts in (same.1, same.0))
+    (λ n h. subst (λ (g : FormulaTree). FormulaTermsOf p (reverse env) g n) (Junction-tree o c.in-Junction.parts) h) parts)
 
-pub truth-returns-in_ok-any_true-in-Or-clause-told : goal.truth-returns-in_ok-any_true-in-Or-clause-told
-truth-returns-in_ok-any_true-in-Or-clause-told t c =
+pub truth-true_for-requires : goal.truth-true_for-requires
+truth-true_for-requires t c =
     let p = c.args.problem.now in
     let env = c.args.env.now.items in
     let start = c.args.circuit.now in
-    let new = c.any_true.new.circuit in
-    let node = c.in_ok-any_true-in-Or.field-0 in
-    let parts = subst (λ (fs : List Formula). Tells start new node (λ s. Any (λ (f : Formula). Truth (structure_at p s) (reverse env) (formula_tree f)) fs) (Is 1 ⊕ FormulasHave (upper_structure p) (reverse env) (formulas_of (map formula_tree fs))))
-    c.deref-in-Or.ensures.value c.in_ok-any_true-in-Or.ensures.told in
-    subst (ToldAt start new p env node) (sym c.in-Or.is)
-    (tells_same (λ s. Truth (structure_at p s) (reverse env) (formula_tree (Or c.in-Or.parts))) (FormulaTermsOf p (reverse env) (formula_tree (Or c.in-Or.parts)))
-    (λ s. let same = Truth-Or (structure_at p s) (reverse env) c.in-Or.parts in (same.1, same.0))
-    (λ n h. subst (λ (g : FormulaTree). FormulaTermsOf p (reverse env) g n) (Or-tree c.in-Or.parts) h) parts)
-
-pub truth-true_for_all-requires : goal.truth-true_for_all-requires
-truth-true_for_all-requires t c =
-    let p = c.args.problem.now in
-    let env = c.args.env.now.items in
-    let start = c.args.circuit.now in
+    let more = each_terms c.in-Quantified.quantifier in
     let mid = c.matrix.new.circuit in
-    let formed = subst (ProperAt p env) c.in-All.is c.requires.proper in
-    let room = subst (RoomAt start p env) c.in-All.is c.requires.room in
-    let domain = subst (λ es. IsMade start mid p (reverse es) (expression_tree c.in-All.e) c.in_ok-domain-in-All.domain) c.as_slice-in-All.ensures.value c.in_ok-domain-in-All.ensures in
+    let formed = subst (ProperAt p env) c.in-Quantified.is c.requires.proper in
+    let room = subst (RoomAt start p env) c.in-Quantified.is c.requires.room in
+    let domain = subst (λ es. IsMade start mid p (reverse es) (expression_tree c.in-Quantified.e) c.in_ok-domain-in-Quantified.domain) c.as_slice-in-Quantified.ensures.value c.in_ok-domain-in-Quantified.ensures in
     let entries = sym c.entries.ensures.value in
-    let f = formula_tree c.deref-in-All.result.now in
-    let back = sym c.deref-in-All.ensures in (
+    let f = formula_tree c.deref-in-Quantified.result.now in
+    let back = sym c.deref-in-Quantified.ensures in (
       search (rules, the_lemmas),
       (
         ready_kept domain.spends.extends c.requires.ready,
@@ -445,9 +303,9 @@ truth-true_for_all-requires t c =
               subst (All (λ (x : Entry). x.node < length mid.shapes)) entries domain.is.is.of,
               (
                 subst (All (λ (x : Entry). All (IsAtomOf p) x.tuple)) entries (domain_atoms p (reverse env) domain formed.1 c.requires.ready.atoms),
-                subst (λ (g : Formula). HasRoomFor (size mid) (RowsHave (upper_structure p) (reverse env) 1 (formula_tree g) (map (λ (x : Entry). x.tuple) c.entries.result.now))) back
-                    (subst (λ (xs : List Entry). HasRoomFor (size mid) (RowsHave (upper_structure p) (reverse env) 1 (formula_tree c.in-All.g.value) (map (λ (x : Entry). x.tuple) xs))) entries
-                    (domain_room p (reverse env) domain formed.1 1 (formula_tree c.in-All.g.value) room)),
+                subst (λ (g : Formula). HasRoomFor (size mid) (RowsHave (upper_structure p) (reverse env) more (formula_tree g) (map (λ (x : Entry). x.tuple) c.entries.result.now))) back
+                    (subst (λ (xs : List Entry). HasRoomFor (size mid) (RowsHave (upper_structure p) (reverse env) more (formula_tree c.in-Quantified.g.value) (map (λ (x : Entry). x.tuple) xs))) entries
+                    (domain_room p (reverse env) domain formed.1 more (formula_tree c.in-Quantified.g.value) room)),
               ),
             ),
           ),
@@ -455,119 +313,22 @@ truth-true_for_all-requires t c =
       ),
     )
 
-pub truth-returns-in_ok-true_for_all-in-All-clause-told : goal.truth-returns-in_ok-true_for_all-in-All-clause-told
-truth-returns-in_ok-true_for_all-in-All-clause-told t c =
+pub truth-returns-in_ok-true_for-in-Quantified-clause-told : goal.truth-returns-in_ok-true_for-in-Quantified-clause-told
+truth-returns-in_ok-true_for-in-Quantified-clause-told t c =
     let p = c.args.problem.now in
     let env = c.args.env.now.items in
     let start = c.args.circuit.now in
+    let q = c.in-Quantified.quantifier in
     let mid = c.matrix.new.circuit in
-    let new = c.true_for_all.new.circuit in
-    let node = c.in_ok-true_for_all-in-All.field-0 in
-    let formed = subst (ProperAt p env) c.in-All.is c.requires.proper in
-    let domain = subst (λ es. IsMade start mid p (reverse es) (expression_tree c.in-All.e) c.in_ok-domain-in-All.domain) c.as_slice-in-All.ensures.value c.in_ok-domain-in-All.ensures in
-    let told = subst (λ (g : Formula). Tells mid new node (λ s. All (IsImplied mid s p (reverse env) (formula_tree g)) c.entries.result.now) (RowsHave (upper_structure p) (reverse env) 1 (formula_tree g) (map (λ (x : Entry). x.tuple) c.entries.result.now)))
-    c.deref-in-All.ensures c.in_ok-true_for_all-in-All.ensures.told in
-    let rows = subst (λ (xs : List Entry). Tells mid new node (λ s. All (IsImplied mid s p (reverse env) (formula_tree c.in-All.g.value)) xs) (RowsHave (upper_structure p) (reverse env) 1 (formula_tree c.in-All.g.value) (map (λ (x : Entry). x.tuple) xs)))
+    let new = c.true_for.new.circuit in
+    let node = c.in_ok-true_for-in-Quantified.field-0 in
+    let formed = subst (ProperAt p env) c.in-Quantified.is c.requires.proper in
+    let domain = subst (λ es. IsMade start mid p (reverse es) (expression_tree c.in-Quantified.e) c.in_ok-domain-in-Quantified.domain) c.as_slice-in-Quantified.ensures.value c.in_ok-domain-in-Quantified.ensures in
+    let told = subst (λ (g : Formula). Tells mid new node (λ s. IsGrounded q mid s p (reverse env) (formula_tree g) c.entries.result.now) (RowsHave (upper_structure p) (reverse env) (each_terms q) (formula_tree g) (map (λ (x : Entry). x.tuple) c.entries.result.now)))
+    c.deref-in-Quantified.ensures c.in_ok-true_for-in-Quantified.ensures.told in
+    let rows = subst (λ (xs : List Entry). Tells mid new node (λ s. IsGrounded q mid s p (reverse env) (formula_tree c.in-Quantified.g.value) xs) (RowsHave (upper_structure p) (reverse env) (each_terms q) (formula_tree c.in-Quantified.g.value) (map (λ (x : Entry). x.tuple) xs)))
     c.entries.ensures.value told in
-    subst (ToldAt start new p env node) (sym c.in-All.is) (for_all_told p (reverse env) domain formed.1 (formula_tree c.in-All.g.value) rows)
-
-pub truth-true_for_some-requires : goal.truth-true_for_some-requires
-truth-true_for_some-requires t c =
-    let p = c.args.problem.now in
-    let env = c.args.env.now.items in
-    let start = c.args.circuit.now in
-    let mid = c.matrix-in-Exists.new.circuit in
-    let formed = subst (ProperAt p env) c.in-Exists.is c.requires.proper in
-    let room = subst (RoomAt start p env) c.in-Exists.is c.requires.room in
-    let domain = subst (λ es. IsMade start mid p (reverse es) (expression_tree c.in-Exists.e) c.in_ok-domain-in-Exists.domain) c.as_slice-in-Exists.ensures.value c.in_ok-domain-in-Exists.ensures in
-    let entries = sym c.entries-in-Exists.ensures.value in
-    let f = formula_tree c.deref-in-Exists.result.now in
-    let back = sym c.deref-in-Exists.ensures in (
-      search (rules, the_lemmas),
-      (
-        ready_kept domain.spends.extends c.requires.ready,
-        (
-          subst (λ (g : Formula). IsProper (arities_of p) (length env + 1) (formula_tree g)) back formed.2,
-          (
-            subst (All (λ (x : Entry). length x.tuple ≡ 1)) entries (domain_single p (reverse env) domain formed.1),
-            (
-              subst (All (λ (x : Entry). x.node < length mid.shapes)) entries domain.is.is.of,
-              (
-                subst (All (λ (x : Entry). All (IsAtomOf p) x.tuple)) entries (domain_atoms p (reverse env) domain formed.1 c.requires.ready.atoms),
-                subst (λ (g : Formula). HasRoomFor (size mid) (RowsHave (upper_structure p) (reverse env) 1 (formula_tree g) (map (λ (x : Entry). x.tuple) c.entries-in-Exists.result.now))) back
-                    (subst (λ (xs : List Entry). HasRoomFor (size mid) (RowsHave (upper_structure p) (reverse env) 1 (formula_tree c.in-Exists.g.value) (map (λ (x : Entry). x.tuple) xs))) entries
-                    (domain_room p (reverse env) domain formed.1 1 (formula_tree c.in-Exists.g.value) room)),
-              ),
-            ),
-          ),
-        ),
-      ),
-    )
-
-pub truth-returns-in_ok-true_for_some-in-Exists-clause-told : goal.truth-returns-in_ok-true_for_some-in-Exists-clause-told
-truth-returns-in_ok-true_for_some-in-Exists-clause-told t c =
-    let p = c.args.problem.now in
-    let env = c.args.env.now.items in
-    let start = c.args.circuit.now in
-    let mid = c.matrix-in-Exists.new.circuit in
-    let new = c.true_for_some.new.circuit in
-    let node = c.in_ok-true_for_some-in-Exists.field-0 in
-    let formed = subst (ProperAt p env) c.in-Exists.is c.requires.proper in
-    let domain = subst (λ es. IsMade start mid p (reverse es) (expression_tree c.in-Exists.e) c.in_ok-domain-in-Exists.domain) c.as_slice-in-Exists.ensures.value c.in_ok-domain-in-Exists.ensures in
-    let told = subst (λ (g : Formula). Tells mid new node (λ s. Any (IsMet mid s p (reverse env) (formula_tree g)) c.entries-in-Exists.result.now) (RowsHave (upper_structure p) (reverse env) 1 (formula_tree g) (map (λ (x : Entry). x.tuple) c.entries-in-Exists.result.now)))
-    c.deref-in-Exists.ensures c.in_ok-true_for_some-in-Exists.ensures.told in
-    let rows = subst (λ (xs : List Entry). Tells mid new node (λ s. Any (IsMet mid s p (reverse env) (formula_tree c.in-Exists.g.value)) xs) (RowsHave (upper_structure p) (reverse env) 1 (formula_tree c.in-Exists.g.value) (map (λ (x : Entry). x.tuple) xs)))
-    c.entries-in-Exists.ensures.value told in
-    subst (ToldAt start new p env node) (sym c.in-Exists.is) (for_some_told p (reverse env) domain formed.1 (formula_tree c.in-Exists.g.value) rows)
-
-pub truth-true_for_at_most_one-requires : goal.truth-true_for_at_most_one-requires
-truth-true_for_at_most_one-requires t c =
-    let p = c.args.problem.now in
-    let env = c.args.env.now.items in
-    let start = c.args.circuit.now in
-    let mid = c.matrix-in-Lone.new.circuit in
-    let formed = subst (ProperAt p env) c.in-Lone.is c.requires.proper in
-    let room = subst (RoomAt start p env) c.in-Lone.is c.requires.room in
-    let domain = subst (λ es. IsMade start mid p (reverse es) (expression_tree c.in-Lone.e) c.in_ok-domain-in-Lone.domain) c.as_slice-in-Lone.ensures.value c.in_ok-domain-in-Lone.ensures in
-    let entries = sym c.entries-in-Lone.ensures.value in
-    let f = formula_tree c.deref-in-Lone.result.now in
-    let back = sym c.deref-in-Lone.ensures in (
-      search (rules, the_lemmas),
-      (
-        ready_kept domain.spends.extends c.requires.ready,
-        (
-          subst (λ (g : Formula). IsProper (arities_of p) (length env + 1) (formula_tree g)) back formed.2,
-          (
-            subst (All (λ (x : Entry). length x.tuple ≡ 1)) entries (domain_single p (reverse env) domain formed.1),
-            (
-              subst (All (λ (x : Entry). x.node < length mid.shapes)) entries domain.is.is.of,
-              (
-                subst (All (λ (x : Entry). All (IsAtomOf p) x.tuple)) entries (domain_atoms p (reverse env) domain formed.1 c.requires.ready.atoms),
-                subst (λ (g : Formula). HasRoomFor (size mid) (RowsHave (upper_structure p) (reverse env) 2 (formula_tree g) (map (λ (x : Entry). x.tuple) c.entries-in-Lone.result.now))) back
-                    (subst (λ (xs : List Entry). HasRoomFor (size mid) (RowsHave (upper_structure p) (reverse env) 2 (formula_tree c.in-Lone.g.value) (map (λ (x : Entry). x.tuple) xs))) entries
-                    (domain_room p (reverse env) domain formed.1 2 (formula_tree c.in-Lone.g.value) room)),
-              ),
-            ),
-          ),
-        ),
-      ),
-    )
-
-pub truth-returns-in_ok-true_for_at_most_one-in-Lone-clause-told : goal.truth-returns-in_ok-true_for_at_most_one-in-Lone-clause-told
-truth-returns-in_ok-true_for_at_most_one-in-Lone-clause-told t c =
-    let p = c.args.problem.now in
-    let env = c.args.env.now.items in
-    let start = c.args.circuit.now in
-    let mid = c.matrix-in-Lone.new.circuit in
-    let new = c.true_for_at_most_one.new.circuit in
-    let node = c.in_ok-true_for_at_most_one-in-Lone.field-0 in
-    let formed = subst (ProperAt p env) c.in-Lone.is c.requires.proper in
-    let domain = subst (λ es. IsMade start mid p (reverse es) (expression_tree c.in-Lone.e) c.in_ok-domain-in-Lone.domain) c.as_slice-in-Lone.ensures.value c.in_ok-domain-in-Lone.ensures in
-    let told = subst (λ (g : Formula). Tells mid new node (λ s. AllPairs (AreNotBothMet mid s p (reverse env) (formula_tree g)) c.entries-in-Lone.result.now) (RowsHave (upper_structure p) (reverse env) 2 (formula_tree g) (map (λ (x : Entry). x.tuple) c.entries-in-Lone.result.now)))
-    c.deref-in-Lone.ensures c.in_ok-true_for_at_most_one-in-Lone.ensures.told in
-    let rows = subst (λ (xs : List Entry). Tells mid new node (λ s. AllPairs (AreNotBothMet mid s p (reverse env) (formula_tree c.in-Lone.g.value)) xs) (RowsHave (upper_structure p) (reverse env) 2 (formula_tree c.in-Lone.g.value) (map (λ (x : Entry). x.tuple) xs)))
-    c.entries-in-Lone.ensures.value told in
-    subst (ToldAt start new p env node) (sym c.in-Lone.is) (lone_told p (reverse env) domain formed.1 (formula_tree c.in-Lone.g.value) rows)
+    subst (ToldAt start new p env node) (sym c.in-Quantified.is) (quantified_told p (reverse env) domain formed.1 q (formula_tree c.in-Quantified.g.value) rows)
 
 pub truth-truth-requires : goal.truth-truth-requires
 truth-truth-requires t c =
@@ -596,24 +357,16 @@ truth-returns-in_ok-neither-in-Not-clause-told t c =
     subst (ToldAt start c.neither.new.circuit p env c.in_ok-neither-in-Not.field-0) (sym c.in-Not.is)
     (negation_told p (reverse env) (formula_tree c.in-Not.g.value) told c.neither.ensures.extends c.in_ok-neither-in-Not.ensures.says c.neither.ensures.size)
 
-pub all_true-both-requires-clause-room : goal.all_true-both-requires-clause-room
-all_true-both-requires-clause-room t c =
+pub true_of-connected-requires-clause-room : goal.true_of-connected-requires-clause-room
+true_of-connected-requires-clause-room t c =
     let p = c.args.problem.now in
     let inv = c.loop-part.invariant in
     let x = c.part-item.result in
     let told = subst (λ es. ToldAt c.loop-part.circuit c.truth.new.circuit p es c.in_ok-node.node x) inv.env c.in_ok-node.ensures.told in
     next_gate p (reverse c.args.env.now.items) c.args.parts.now c.loop-part.part-index x c.loop-part-test.true c.part-item.is inv.spends told c.requires.room
 
-pub any_true-either-requires-clause-room : goal.any_true-either-requires-clause-room
-any_true-either-requires-clause-room t c =
-    let p = c.args.problem.now in
-    let inv = c.loop-part.invariant in
-    let x = c.part-item.result in
-    let told = subst (λ es. ToldAt c.loop-part.circuit c.truth.new.circuit p es c.in_ok-node.node x) inv.env c.in_ok-node.ensures.told in
-    next_gate p (reverse c.args.env.now.items) c.args.parts.now c.loop-part.part-index x c.loop-part-test.true c.part-item.is inv.spends told c.requires.room
-
-pub true_for_all-implied_also-requires-clause-guard : goal.true_for_all-implied_also-requires-clause-guard
-true_for_all-implied_also-requires-clause-guard t c =
+pub true_at_those-guarded_also-requires-clause-guard : goal.true_at_those-guarded_also-requires-clause-guard
+true_at_those-guarded_also-requires-clause-guard t c =
     let p = c.args.problem.now in
     let env = reverse c.args.env.now.items in
     let f = formula_tree c.args.f.now in
@@ -627,37 +380,8 @@ true_for_all-implied_also-requires-clause-guard t c =
     let known : x.node < length c.args.circuit.now.shapes = subst (λ (y : Entry). y.node < length c.args.circuit.now.shapes) (sym c.entry-item.is) (c.requires.nodes i x l) in
     omega (arith, known, inv.told.spends.extends.longer, told.spends.extends.longer)
 
-pub true_for_all-implied_also-requires-clause-room : goal.true_for_all-implied_also-requires-clause-room
-true_for_all-implied_also-requires-clause-room t c =
-    let p = c.args.problem.now in
-    let env = reverse c.args.env.now.items in
-    let f = formula_tree c.args.f.now in
-    let inv = c.loop-entry.invariant in
-    let x = c.entry-item.result in
-    let i = c.loop-entry.entry-index in
-    let es = c.args.entries.now in
-    let a = c.first.result in
-    let l = c.loop-entry-test.true in
-    let told = subst (λ vs. IsTold c.loop-entry.circuit c.true_at.new.circuit p (a ∷ reverse vs) f c.in_ok-body.body) inv.env c.in_ok-body.ensures.told in
-    omega (arith, gates_room p env 1 f es i x a l c.entry-item.is c.first.ensures inv.told.spends told (omega arith) c.requires.room)
-
-pub true_for_some-met_also-requires-clause-guard : goal.true_for_some-met_also-requires-clause-guard
-true_for_some-met_also-requires-clause-guard t c =
-    let p = c.args.problem.now in
-    let env = reverse c.args.env.now.items in
-    let f = formula_tree c.args.f.now in
-    let inv = c.loop-entry.invariant in
-    let x = c.entry-item.result in
-    let i = c.loop-entry.entry-index in
-    let es = c.args.entries.now in
-    let a = c.first.result in
-    let l = c.loop-entry-test.true in
-    let told = subst (λ vs. IsTold c.loop-entry.circuit c.true_at.new.circuit p (a ∷ reverse vs) f c.in_ok-body.body) inv.env c.in_ok-body.ensures.told in
-    let known : x.node < length c.args.circuit.now.shapes = subst (λ (y : Entry). y.node < length c.args.circuit.now.shapes) (sym c.entry-item.is) (c.requires.nodes i x l) in
-    omega (arith, known, inv.told.spends.extends.longer, told.spends.extends.longer)
-
-pub true_for_some-met_also-requires-clause-room : goal.true_for_some-met_also-requires-clause-room
-true_for_some-met_also-requires-clause-room t c =
+pub true_at_those-guarded_also-requires-clause-room : goal.true_at_those-guarded_also-requires-clause-room
+true_at_those-guarded_also-requires-clause-room t c =
     let p = c.args.problem.now in
     let env = reverse c.args.env.now.items in
     let f = formula_tree c.args.f.now in
@@ -713,12 +437,12 @@ true_for_at_most_one-met_also-requires-clause-room t c =
     let told = subst (λ vs. IsTold c.loop-entry.circuit c.true_at.new.circuit p (a ∷ reverse vs) f c.in_ok-body.body) inv.env c.in_ok-body.ensures.told in
     omega (arith, gates_room p env 2 f es i x a l c.entry-item.is c.first.ensures inv.told.spends told (omega arith) c.requires.room, c.lone_still.ensures.size)
 
-pub truth-is_equal-requires-clause-room : goal.truth-is_equal-requires-clause-room
-truth-is_equal-requires-clause-room t c =
+pub truth-is_compared-requires-clause-room : goal.truth-is_compared-requires-clause-room
+truth-is_compared-requires-clause-room t c =
     let p = c.args.problem.now in
     let start = c.args.circuit.now in
-    let f = equal (expression_tree c.in-Equal.a) (expression_tree c.in-Equal.b) in
-    subst (λ (es : List Atom). HasRoomFor (size start) (FormulaTermsOf p (reverse es) f)) (sym c.as_slice-in-Equal.ensures.value) (subst (RoomAt start p c.args.env.now.items) c.in-Equal.is c.requires.room)
+    let f = compared c.in-Compared.comparison (expression_tree c.in-Compared.a) (expression_tree c.in-Compared.b) in
+    subst (λ (es : List Atom). HasRoomFor (size start) (FormulaTermsOf p (reverse es) f)) (sym c.as_slice.ensures.value) (subst (RoomAt start p c.args.env.now.items) c.in-Compared.is c.requires.room)
 
 pub truth-has_at_least-requires-clause-room : goal.truth-has_at_least-requires-clause-room
 truth-has_at_least-requires-clause-room t c =

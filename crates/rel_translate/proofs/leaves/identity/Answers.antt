@@ -1,7 +1,6 @@
-use Rattle.std.proofs.Common.{◌≡◌, ◌<◌, ◌∙◌, [], ◌∷◌, sym, ap, subst, IsTrue, List, length, refl, inl, inr, arith}
+use Rattle.std.proofs.Common.{◌≡◌, ◌∙◌, [], ◌∷◌, sym, ap, subst, List, length, refl, inl, inr, arith}
 use Rattle.tuple_core.specs.Gains.{Same}
 use Rattle.tuple_core.proofs.Steps.{gains_none, gains_more, gains_same}
-use Rattle.bool_circuit.specs.Value.{value_at}
 use Rattle.bool_matrix.specs.declared.entry.Entry.{Entry}
 use Rattle.bool_matrix.specs.Entries.{IsAscending}
 use Rattle.bool_matrix.specs.Cells.{ThereIn}

@@ -1,4 +1,4 @@
-use Rattle.std.proofs.Common.{◌≡◌, ◌<◌, ◌↔◌, ℕ, List, length, sym, subst, arith, Some, Option, slice_get}
+use Rattle.std.proofs.Common.{◌≡◌, ◌↔◌, ℕ, List, sym, subst, arith, Some, Option, slice_get}
 use Rattle.tuple_core.specs.declared.atom.Atom.{Atom}
 use Rattle.rel_formula.specs.Bounds.{cell_of, cells_of}
 use Rattle.rel_formula.proofs.Lists.{some_below}

@@ -1,9 +1,7 @@
-use Rattle.std.proofs.Common.{◌≡◌, ◌<◌, ◌∙◌, sym, ap, subst, List, Contains, length, get_or, refl, arith}
+use Rattle.std.proofs.Common.{◌≡◌, ◌∙◌, sym, ap, subst, List, length, get_or, refl}
 use Rattle.std.proofs.lemmas.List.{get_or_default}
-use Rattle.std.proofs.lemmas.List.Elements.{Contains-get_or}
 use Rattle.tuple_core.specs.declared.atom.Atom.{Atom}
 use Rattle.tuple_core.specs.Order.{IsAscending}
-use Rattle.tuple_core.specs.Rows.{Rows, IsRows}
 use Rattle.tuple_core.proofs.Steps.{row_arity}
 use Rattle.bool_matrix.specs.Cells.{ThereIn}
 use Rattle.bool_matrix.specs.Edits.{Puts}

@@ -1,7 +1,6 @@
-use Rattle.std.proofs.Common.{◌≡◌, ℕ, ◌<◌, List, length, get_or, refl, sym, ◌∙◌, ap, subst, arith}
+use Rattle.std.proofs.Common.{ℕ, List, length, ap, arith}
 use Rattle.std.proofs.lemmas.List.{length_push}
-use Rattle.bool_circuit.specs.Value.{Stands}
-use Rattle.bool_circuit.proofs.CallerLemmas.{Extends-trans, Stands-kept}
+use Rattle.bool_circuit.proofs.CallerLemmas.{Extends-trans}
 use Rattle.bool_circuit.proofs.Values.{Extends-refl}
 use Rattle.rel_translate.proofs.Tabled.{inputs_push}
 use Rattle.rel_translate.proofs.tables.all_inputs.Goals as goal

@@ -1,4 +1,4 @@
-use Rattle.std.proofs.Common.{◌≡◌, length, refl, ap, arith}
+use Rattle.std.proofs.Common.{length, ap, arith}
 use Rattle.std.proofs.lemmas.List.{length_push}
 use Rattle.rel_translate.proofs.Tabled.{relations_push}
 use Rattle.rel_translate.proofs.tables.all_relations.Goals as goal

@@ -1,4 +1,4 @@
-use Rattle.std.proofs.Common.{◌≡◌, ◌<◌, ◌∙◌, sym, subst, IsTrue, List, length, refl, inl, inr, arith}
+use Rattle.std.proofs.Common.{◌<◌, ◌∙◌, sym, subst, length, refl, inl, inr}
 use Rattle.tuple_core.proofs.Steps.{gains_none, gains_more, gains_all}
 use Rattle.bool_matrix.specs.declared.entry.Entry.{Entry}
 use Rattle.bool_matrix.specs.Cells.{AtEntry, TrueAt, ThereIn}

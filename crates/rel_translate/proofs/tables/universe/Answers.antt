@@ -1,18 +1,9 @@
-use Rattle.std.proofs.Common.{◌≡◌, ℕ, ◌<◌, ◌∙◌, List, All, AllPairs, length, get_or, refl, sym, ap, subst, arith}
-use Rattle.std.proofs.lemmas.List.{get_or_default, get_or-map, take_all}
-use Rattle.tuple_core.specs.Gains.{Same}
+use Rattle.std.proofs.Common.{◌≡◌, ◌<◌, ◌∙◌, All, AllPairs, length, get_or, sym, subst, arith}
+use Rattle.std.proofs.lemmas.List.{get_or_default}
 use Rattle.bool_circuit.specs.Network.{Network}
 use Rattle.bool_matrix.specs.declared.entry.Entry.{Entry}
-use Rattle.bool_matrix.specs.Cells.{Cells, ThereIn}
-use Rattle.bool_matrix.specs.Entries.{IsAscending}
-use Rattle.rel_formula.specs.declared.problem.Relation.{Relation}
-use Rattle.rel_formula.specs.Bounds.{Bounded, relation_at}
-use Rattle.rel_formula.specs.Instance.{InSome}
-use Rattle.rel_formula.proofs.Tabled.{no_relation}
-use Rattle.rel_terms.specs.Upper.{InUpperSet}
-use Rattle.rel_terms.specs.Counting.{arities_of}
-use Rattle.rel_translate.specs.Tables.{AreLeaves, IsRelationOf, IsUniverseOf}
-use Rattle.rel_translate.proofs.Tabled.{AreTopsSoFar, tops_none, tops_there_none, tops_there_more, tops_more, tops_absent, top_below, top_unary, universe_well}
+use Rattle.rel_translate.specs.Tables.{AreLeaves, IsRelationOf}
+use Rattle.rel_translate.proofs.Tabled.{tops_none, tops_there_none, tops_there_more, tops_more, tops_absent, top_below, top_unary, universe_well}
 use Rattle.rel_translate.proofs.tables.universe.Goals as goal
 
 pub loop-top-init : goal.loop-top-init

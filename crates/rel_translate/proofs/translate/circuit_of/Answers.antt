@@ -1,4 +1,4 @@
-use Rattle.std.proofs.Common.{◌≡◌, ℕ, ◌≤◌, ◌<◌, List, [], IsTrue, length, reverse, refl, sym, ◌∙◌, subst, arith}
+use Rattle.std.proofs.Common.{◌≡◌, ℕ, List, [], IsTrue, length, reverse, sym, ◌∙◌, subst, arith}
 use Rattle.tuple_core.specs.declared.atom.Atom.{Atom}
 use Rattle.bool_circuit.specs.Network.{Network, size}
 use Rattle.rel_formula.specs.Bounds.{Bounded}

@@ -6,7 +6,7 @@ use Rattle.tuple_core.proofs.Congruence.{same_itself}
 use Rattle.bool_circuit.proofs.CallerLemmas.{Extends-trans}
 use Rattle.bool_matrix.specs.declared.entry.Entry.{Entry}
 use Rattle.bool_matrix.specs.Cells.{Cells, AtEntry, TrueAt, TrueIn, MatrixGains}
-use Rattle.bool_matrix.proofs.Loops.{matrix_more, matrix_all, matrix_same, matrix_kept, entry_of, entries_same, kept_true, fits_tuple}
+use Rattle.bool_matrix.proofs.Loops.{matrix_more, matrix_all, matrix_same, matrix_kept, matrix_around, entry_of, entries_same, kept_true, fits_tuple}
 use Rattle.bool_matrix.proofs.Nodes.{true_unless_kept, true_at_kept}
 use Rattle.bool_matrix.proofs.Keys.{first_found}
 use Rattle.bool_matrix.proofs.matrix.Matrix.overridden.Goals as goal
@@ -40,7 +40,7 @@ returns-clause-is c =
     let other = c.args.other.now in
     let xs : List Entry = c.entries-entry-items.result.now in
     let g = matrix_all xs (λ inputs e t. TrueAt old inputs e t × ((x : Atom) → BeginsWith x e.tuple → IsFirstIn (TrueIn old other inputs) x → ⊥)) AtEntry c.loop-entry.entry-index old c.loop-entry.circuit c.in_ok-out.out c.loop-entry.out (omega arith) c.loop-entry.invariant.gains in
-    matrix_kept old c.loop-entry.circuit other c.loop-entry.out 2 _ _ _ _ c.requires.right
+    matrix_around (matrix_kept old c.loop-entry.circuit other c.loop-entry.out 2 _ _ _ _ c.requires.right
     (subst (λ (m : Cells). MatrixGains old c.loop-entry.circuit m c.loop-entry.out (λ inputs. SomeGives xs (λ e t. TrueAt old inputs e t × ((x : Atom) → BeginsWith x e.tuple → IsFirstIn (TrueIn old other inputs) x → ⊥))) (SomeGives xs AtEntry)) c.in_ok-out.ensures g)
     (λ s. kept_true old c.args.self.now s xs (λ e. (x : Atom) → BeginsWith x e.tuple → IsFirstIn (TrueIn old other s) x → ⊥) (λ t. (x : Atom) → BeginsWith x t → IsFirstIn (TrueIn old other s) x → ⊥) c.entries-entry-items.ensures.value (λ e t h. fits_tuple (λ t. (x : Atom) → BeginsWith x t → IsFirstIn (TrueIn old other s) x → ⊥) e t h))
-    (entries_same AtEntry c.entries-entry-items.ensures.value)
+    (entries_same AtEntry c.entries-entry-items.ensures.value))

@@ -4,8 +4,16 @@ use Rattle.tuple_core.proofs.Congruence.{same_itself}
 use Rattle.bool_circuit.proofs.CallerLemmas.{Extends-trans}
 use Rattle.bool_matrix.specs.declared.entry.Entry.{Entry}
 use Rattle.bool_matrix.proofs.Loops.{matrix_made, entry_of}
-use Rattle.bool_matrix.proofs.Merges.{all_part, rest_part, turn_taken, turns_taken}
+use Rattle.bool_matrix.proofs.Merges.{all_part, rest_part, rest_ascending, turn_taken, turns_taken}
 use Rattle.bool_matrix.proofs.matrix.Matrix.united.Goals as goal
+
+pub count_before-requires : goal.count_before-requires
+count_before-requires c =
+    let taken = c.loop-entry.invariant.taken in
+    rest_ascending c.args.other.now.entries taken.0 c.loop-entry.rest.now taken.1 c.entries-rest.ensures.well.ascending
+
+pub split_at-requires : goal.split_at-requires
+split_at-requires c = c.count_before.ensures.within
 
 pub add_behind-requires-clause-arities : goal.add_behind-requires-clause-arities
 add_behind-requires-clause-arities c =

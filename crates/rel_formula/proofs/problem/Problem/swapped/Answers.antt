@@ -1,4 +1,4 @@
-use Rattle.std.proofs.Common.{◌≡◌, List, map, Some, sym, ◌∙◌, ap}
+use Rattle.std.proofs.Common.{List, map, Some, sym, ◌∙◌, ap}
 use Rattle.tuple_core.specs.declared.atom.Atom.{Atom}
 use Rattle.tuple_core.specs.Swap.{swap_atoms}
 use Rattle.rel_formula.specs.declared.problem.Cell.{Cell}

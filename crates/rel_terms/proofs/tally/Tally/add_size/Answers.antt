@@ -1,4 +1,4 @@
-use Rattle.std.proofs.Common.{length, Contains, ap, sym, ◌∙◌, subst, List}
+use Rattle.std.proofs.Common.{length, Contains, subst}
 use Rattle.rel_formula.specs.Sizes.{HasSize}
 use Rattle.rel_terms.specs.Numbers.{Is}
 use Rattle.rel_terms.specs.Counting.{Adds}

@@ -1,8 +1,6 @@
-use Rattle.std.proofs.Common.{◌≡◌, ◌<◌, ◌≤◌, ◌+◌, ℕ, true, List, length, get_or, subst, sym, ◌∙◌, ap, arith}
-use Rattle.bool_circuit.specs.Network.{size}
+use Rattle.std.proofs.Common.{◌<◌, ℕ, true, List, length, get_or, subst, sym, ◌∙◌, ap, arith}
 use Rattle.bool_circuit.specs.Value.{Stands}
 use Rattle.bool_circuit.proofs.CallerLemmas.{Stands-kept}
-use Rattle.rel_formula.specs.Bounds.{cells_of}
 use Rattle.rel_translate.specs.Tables.{AreLeaves}
 use Rattle.rel_translate.proofs.Tabled.{size_empty}
 use Rattle.rel_translate.proofs.tables.Tables.of.Goals as goal

@@ -7,7 +7,7 @@ use Rattle.bool_matrix.specs.Entries.{IsAscending}
 use Rattle.bool_matrix.specs.Cells.{ThereIn}
 use Rattle.bool_matrix.proofs.Loops.{matrix_more, matrix_all, matrix_same, matrix_made, entry_of, entry_fits}
 use Rattle.bool_matrix.proofs.TurnedPairs.{not_before, turned_from, turned_true, turned_there}
-use Rattle.bool_matrix.proofs.matrix.Matrix.transpose.Goals as goal
+use Rattle.bool_matrix.proofs.matrix.Matrix.transposed.Goals as goal
 
 pub put-requires-clause-arity : goal.put-requires-clause-arity
 put-requires-clause-arity c =
