@@ -7,8 +7,8 @@ use Rattle.alloy_syntax.specs.declared.tree.Bound.{Bound}
 use Rattle.alloy_syntax.specs.Tree.{BoundTree}
 use Rattle.alloy_syntax.specs.View.{bound_view}
 use Rattle.alloy_syntax.specs.Readers.{Parser, ◌>>=◌, next_is, many}
-use Rattle.alloy_syntax.specs.declared.seen.Seen.{Seen}
-use Rattle.alloy_syntax.specs.declared.halt.Tokens.{Tokens}
+use Rattle.alloy_syntax.specs.declared.parser_token.ParserToken.{ParserToken}
+use Rattle.alloy_syntax.specs.declared.parse_stop.Tokens.{Tokens}
 use Rattle.alloy_syntax.specs.Bounds.{Standing, whole, part, beside, Bounded, BoundReader, operand_over}
 use Rattle.alloy_parse.specs.declared.bounds.ReadBound.{ReadBound}
 use Rattle.alloy_parse.specs.declared.bounds.Standing.{Standing as Stands}
@@ -21,7 +21,7 @@ standing_view stands.Part = part
 standing_view (stands.Beside word) = beside word.left.now
 
 -- the tokens from a word on
-abbrev pub word_view : Option Tokens → Option (List Seen)
+abbrev pub word_view : Option Tokens → Option (List ParserToken)
 word_view = option_map (λ word. word.left.now)
 
 -- a bound that was read

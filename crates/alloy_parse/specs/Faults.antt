@@ -4,11 +4,11 @@ use Rattle.alloy_lex.specs.declared.token.Place.{Place}
 use Rattle.alloy_lex.specs.declared.token.Token.{Token}
 use Rattle.alloy_syntax.specs.declared.class.Class.TheVariants as class
 use Rattle.alloy_syntax.specs.Class.{is_class}
-use Rattle.alloy_syntax.specs.declared.seen.Seen.{Seen}
+use Rattle.alloy_syntax.specs.declared.parser_token.ParserToken.{ParserToken}
 use Rattle.alloy_syntax.specs.declared.reading.Form.{Form}
 use Rattle.alloy_syntax.specs.declared.reading.Form.TheVariants as form
 use Rattle.alloy_syntax.specs.Tree.{ModelTree}
-use Rattle.alloy_syntax.specs.Readers.{Stop, refused, too_deep, unsupported}
+use Rattle.alloy_syntax.specs.Readers.{ParseStopView, refused, too_deep, unsupported}
 use Rattle.alloy_parse.specs.declared.fault.ParseFault.{ParseFault}
 use Rattle.alloy_parse.specs.declared.fault.ParseFault.TheVariants as fault
 
@@ -30,29 +30,29 @@ word_of form.Several = codes "several"
 word_of form.Open = codes "open"
 
 -- a token that can't stand there: a word that the language refuses, or another
-abbrev pub refusal_of : Seen → ParseFault
+abbrev pub refusal_of : ParserToken → ParseFault
 refusal_of t = if is_class t.class class.Refused then fault.Unsupported t.place t.text else fault.Unexpected t.place
 
 -- the place of the next token, or just behind the last
-abbrev pub place_of : List Token → List Seen → Place
+abbrev pub place_of : List Token → List ParserToken → Place
 place_of all [] = end_of all
 place_of all (t ∷ ts) = t.place
 
 -- the fault where reading stops, of all the tokens
-abbrev pub fault_of : List Token → Stop → ParseFault
+abbrev pub fault_of : List Token → ParseStopView → ParseFault
 fault_of all (refused []) = fault.EndOfText (end_of all)
 fault_of all (refused (t ∷ ts)) = refusal_of t
 fault_of all (too_deep ts) = fault.TooDeep (place_of all ts)
 fault_of all (unsupported form ts) = fault.Unsupported (place_of all ts) (word_of form)
 
 -- the fault where that reading stops
-pub record IsFaultOf (all : List Token) (f : ParseFault) (read : Result ModelTree Stop) : Type 0 where
-  pub stop : Stop
+pub record IsFaultOf (all : List Token) (f : ParseFault) (read : Result ModelTree ParseStopView) : Type 0 where
+  pub stop : ParseStopView
   pub stops : read ≡ Err stop
   pub shown : f ≡ fault_of all stop
 
 -- no memory, or the fault where that reading stops
-abbrev pub Refuses : List Token → ParseFault → Result ModelTree Stop → Type 0
+abbrev pub Refuses : List Token → ParseFault → Result ModelTree ParseStopView → Type 0
 Refuses all fault.Memory read = Unit {0}
 Refuses all (fault.Unexpected place) read = IsFaultOf all (fault.Unexpected place) read
 Refuses all (fault.EndOfText place) read = IsFaultOf all (fault.EndOfText place) read

@@ -1,3 +1,4 @@
+pub mod Behind
 pub mod Bounds
 pub mod Faults
 pub mod Nodes

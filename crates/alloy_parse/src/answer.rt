@@ -1,7 +1,7 @@
 // A model's tree, or the fault with the earliest place.
 ghost use Rattle.std.specs.Prelude.{◌≡◌, Some, Result, IfOk, IfErr, Ok};
-ghost use Rattle.alloy_syntax.specs.Seen.{seen, seen_all};
-ghost use Rattle.alloy_syntax.specs.Readers.{Stop, refused};
+ghost use Rattle.alloy_syntax.specs.ParserTokens.{seen, seen_all};
+ghost use Rattle.alloy_syntax.specs.Readers.{ParseStopView, refused};
 ghost use Rattle.alloy_syntax.specs.Tree.{ModelTree};
 ghost use Rattle.alloy_syntax.specs.Paragraphs.{model_of};
 ghost use Rattle.alloy_syntax.specs.View.{model_view};
@@ -13,10 +13,10 @@ ghost use Rattle.alloy_parse.specs.Faults.{place_behind, end_of, place_of, word_
 use crate::fault::ParseFault;
 use crate::paragraphs::model;
 use alloy_lex::{Place, Text, Token};
-use alloy_syntax::halt::{Halt, Tokens, seen_tokens};
+use alloy_syntax::parse_stop::{ParseStop, Tokens, seen_tokens};
 use alloy_syntax::reading::Form;
 use alloy_syntax::tree::Model;
-use alloy_syntax::{Class, Seen, is_class};
+use alloy_syntax::{Class, ParserToken, is_class};
 use std::alloc::{AllocError, Global};
 
 // Just behind a token.
@@ -62,7 +62,7 @@ fn unsupported(alloc: Global, form: Form, place: Place) -> Result<ParseFault, Al
 }
 
 // A token that can't stand there.
-fn refusal(alloc: Global, token: &Seen) -> Result<ParseFault, AllocError>
+fn refusal(alloc: Global, token: &ParserToken) -> Result<ParseFault, AllocError>
     ensures { IfOk result (λ f. f ≡ refusal_of token.now) }
 {
     let place = token.place;
@@ -96,19 +96,21 @@ fn place_of(all: &[Token], rest: Tokens) -> Place
 }
 
 // Why no tree is answered, as a fault of all the tokens.
-fn fault_at(alloc: Global, all: &[Token], halt: Halt) -> ParseFault
+fn fault_at(alloc: Global, all: &[Token], stop: ParseStop) -> ParseFault
     requires { AreSized all.now }
-    ensures { (read : Result ModelTree Stop) → Fails halt.entry read → Refuses all.now result read }
+    ensures { (read : Result ModelTree ParseStopView) → Fails stop.entry read → Refuses all.now result read }
 {
-    match halt {
-        Halt::Memory => ParseFault::Memory,
-        Halt::Refused(rest) => refused_at(alloc, all, rest).unwrap_or(ParseFault::Memory),
-        Halt::Deep(rest) => ParseFault::TooDeep {
+    match stop {
+        ParseStop::Memory => ParseFault::Memory,
+        ParseStop::Refused(rest) => refused_at(alloc, all, rest).unwrap_or(ParseFault::Memory),
+        ParseStop::Deep(rest) => ParseFault::TooDeep {
             place: place_of(all, rest),
         },
-        Halt::Unsupported(form, rest) => unsupported(alloc, form, place_of(all, rest)).unwrap_or(
-            ParseFault::Memory,
-        ),
+        ParseStop::Unsupported(form, rest) => unsupported(
+            alloc,
+            form,
+            place_of(all, rest),
+        ).unwrap_or(ParseFault::Memory),
     }
 }
 
@@ -129,6 +131,6 @@ pub fn parse(alloc: Global, tokens: &[Token]) -> Result<Model, ParseFault>
         },
     ) {
         Ok(model) => Ok(model),
-        Err(halt) => Err(fault_at(alloc, tokens, halt)),
+        Err(stop) => Err(fault_at(alloc, tokens, stop)),
     }
 }

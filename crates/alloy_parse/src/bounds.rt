@@ -11,7 +11,7 @@ use alloy_syntax::Class;
 use alloy_syntax::cursor::{
     after, after_mark, expect, fitted, is_mark, mark_at, name, next_is, place_at,
 };
-use alloy_syntax::halt::{Halt, Tokens};
+use alloy_syntax::parse_stop::{ParseStop, Tokens};
 use alloy_syntax::reading::Form;
 use alloy_syntax::tree::{Bound, BoundArrow};
 use std::alloc::Global;
@@ -98,17 +98,17 @@ fn word_beside<'a>(tokens: Tokens<'a>) -> Option<Tokens<'a>>
 }
 
 // A word that may not stand there.
-fn refuse_word<'a>(marked: Option<Tokens<'a>>) -> Result<(), Halt<'a>>
+fn refuse_word<'a>(marked: Option<Tokens<'a>>) -> Result<(), ParseStop<'a>>
     ensures { Gives (λ x. tt) result (spec.refuse_word true (word_view marked.entry)) }
 {
     match marked {
         None => Ok(()),
-        Some(word) => Err(Halt::Unsupported(Form::ArrowMultiplicity, word)),
+        Some(word) => Err(ParseStop::Unsupported(Form::ArrowMultiplicity, word)),
     }
 }
 
 // A word that may stand there only where that is said.
-fn refuse_unless<'a>(allowed: bool, marked: Option<Tokens<'a>>) -> Result<(), Halt<'a>>
+fn refuse_unless<'a>(allowed: bool, marked: Option<Tokens<'a>>) -> Result<(), ParseStop<'a>>
     ensures { Gives (λ x. tt) result (if allowed then Ok tt else spec.refuse_word true (word_view marked.entry)) }
 {
     if allowed { Ok(()) } else { refuse_word(marked) }
@@ -137,7 +137,7 @@ fn side<'a>(
     tokens: Tokens<'a>,
     room: u32,
     standing: Standing<'a>,
-) -> Result<(ReadBound<'a>, Tokens<'a>), Halt<'a>>
+) -> Result<(ReadBound<'a>, Tokens<'a>), ParseStop<'a>>
     ensures value { Gives (λ x. (bounded x.0, x.1.left.now)) result (spec.side_over (spec.bound_within true room) (standing_view standing.entry) tokens.entry.left.now) }
     ensures shorter { IfOk result (λ x. length x.1.left.now < length tokens.entry.left.now) }
 {
@@ -168,7 +168,7 @@ fn bound_arrow<'a>(
     tokens: Tokens<'a>,
     room: u32,
     before: Before<'a>,
-) -> Result<(BoundArrow, Tokens<'a>), Halt<'a>>
+) -> Result<(BoundArrow, Tokens<'a>), ParseStop<'a>>
     ensures value { Gives (λ x. (arrow_view x.0, x.1.left.now)) result (spec.bound_arrow_over true (spec.bound_within true room) (standing_view before.entry.standing) (word_view before.entry.marked) before.entry.has_arrow tokens.entry.left.now) }
     ensures shorter { IfOk result (λ x. length x.1.left.now < length tokens.entry.left.now) }
 {
@@ -199,7 +199,7 @@ fn more_bound_arrows<'a>(
     tokens: Tokens<'a>,
     room: u32,
     standing: Standing<'a>,
-) -> Result<(Vec<BoundArrow>, Tokens<'a>), Halt<'a>>
+) -> Result<(Vec<BoundArrow>, Tokens<'a>), ParseStop<'a>>
     ensures value { Gives (λ x. (map arrow_view x.0.items, x.1.left.now)) result (spec.more_bound_arrows true (spec.bound_within true room) (standing_view standing.entry) (word_view marked.entry) (arrow_view first) tokens.entry.left.now) }
     ensures shorter { IfOk result (λ x. length x.1.left.now ≤ length tokens.entry.left.now) }
 {
@@ -227,7 +227,7 @@ fn bound_arrows<'a>(
     tokens: Tokens<'a>,
     room: u32,
     standing: Standing<'a>,
-) -> Result<(ReadBound<'a>, Tokens<'a>), Halt<'a>>
+) -> Result<(ReadBound<'a>, Tokens<'a>), ParseStop<'a>>
     ensures value { Gives (λ x. (bounded x.0, x.1.left.now)) result (spec.bound_arrows_over true (spec.bound_within true room) (standing_view standing.entry) tokens.entry.left.now) }
     ensures shorter { IfOk result (λ x. length x.1.left.now < length tokens.entry.left.now) }
 {
@@ -259,7 +259,7 @@ fn operand<'a>(
     tokens: Tokens<'a>,
     room: u32,
     standing: Standing<'a>,
-) -> Result<(ReadBound<'a>, Tokens<'a>), Halt<'a>>
+) -> Result<(ReadBound<'a>, Tokens<'a>), ParseStop<'a>>
     ensures value { Gives (λ x. ((place_at tokens.entry.left.now, bounded x.0), x.1.left.now)) result (spec.operand_over true (spec.bound_within true room) (standing_view standing.entry) tokens.entry.left.now) }
     ensures shorter { IfOk result (λ x. length x.1.left.now < length tokens.entry.left.now) }
 {
@@ -274,7 +274,7 @@ fn operands<'a>(
     tokens: Tokens<'a>,
     room: u32,
     standing: Standing<'a>,
-) -> Result<(Vec<(Place, Bound)>, bool, Tokens<'a>), Halt<'a>>
+) -> Result<(Vec<(Place, Bound)>, bool, Tokens<'a>), ParseStop<'a>>
     ensures value { Gives (λ x. ((map operand_view x.0.items, x.1), x.2.left.now)) result (operands_over (spec.bound_within true room) (standing_view standing.entry) tokens.entry.left.now) }
     ensures shorter { IfOk result (λ x. length x.2.left.now ≤ length tokens.entry.left.now) }
 {
@@ -298,7 +298,7 @@ fn bound<'a>(
     tokens: Tokens<'a>,
     room: u32,
     standing: Standing<'a>,
-) -> Result<(ReadBound<'a>, Tokens<'a>), Halt<'a>>
+) -> Result<(ReadBound<'a>, Tokens<'a>), ParseStop<'a>>
     ensures value { Gives (λ x. (bounded x.0, x.1.left.now)) result (spec.bound_over true (spec.bound_within true room) (standing_view standing.entry) tokens.entry.left.now) }
     ensures shorter { IfOk result (λ x. length x.1.left.now < length tokens.entry.left.now) }
 {
@@ -324,7 +324,7 @@ pub fn bound_within<'a>(
     tokens: Tokens<'a>,
     room: u32,
     standing: Standing<'a>,
-) -> Result<(ReadBound<'a>, Tokens<'a>), Halt<'a>>
+) -> Result<(ReadBound<'a>, Tokens<'a>), ParseStop<'a>>
     ensures value { Gives (λ x. (bounded x.0, x.1.left.now)) result (spec.bound_within true room (standing_view standing.entry) tokens.entry.left.now) }
     ensures shorter { IfOk result (λ x. length x.1.left.now < length tokens.entry.left.now) }
 {
@@ -332,8 +332,8 @@ pub fn bound_within<'a>(
         return bound(alloc, tokens, room - 1, standing);
     }
     if begins_bound(tokens) {
-        Err(Halt::Deep(tokens))
+        Err(ParseStop::Deep(tokens))
     } else {
-        Err(Halt::Refused(tokens))
+        Err(ParseStop::Refused(tokens))
     }
 }

@@ -2,6 +2,7 @@
 
 mod binders;
 mod chains;
+mod closing;
 pub mod levels;
 pub mod nodes;
 mod paths;

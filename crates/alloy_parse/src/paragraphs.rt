@@ -4,6 +4,7 @@ ghost use Rattle.alloy_syntax.specs.Readers.{next_is, many, others};
 ghost use Rattle.alloy_syntax.specs.Paragraphs as spec;
 ghost use Rattle.alloy_syntax.specs.View.{declaration_view, field_view, block_view, target_view, scope_view, paragraph_view, model_view};
 ghost use Rattle.alloy_syntax.specs.Gives.{Gives};
+ghost use Rattle.alloy_parse.specs.Behind as behind;
 
 use crate::bounds::{Standing, bound_within};
 use crate::expressions::nodes;
@@ -13,11 +14,11 @@ use alloy_syntax::cursor::{
     after, after_mark, expect, fitted, is_mark, mark_at, name, names, next_is, number, path,
     place_at,
 };
-use alloy_syntax::halt::{Halt, Tokens};
+use alloy_syntax::parse_stop::{ParseStop, Tokens};
 use alloy_syntax::reading::Form;
 use alloy_syntax::tree::{
-    Block, Command, CommandKind, Declaration, Entry, Field, Function, Manner, Mark, Model, Name,
-    Number, Open, Paragraph, Parent, Scope, Signatures, Target,
+    Block, Command, CommandKind, Declaration, Entry, Field, Function, Manner, Model,
+    MultiplicityWord, Name, Number, Open, Paragraph, Parent, Scope, Signatures, Target,
 };
 use std::alloc::Global;
 
@@ -25,7 +26,7 @@ use std::alloc::Global;
 const DEPTH_LIMIT: u32 = 200;
 
 // A paragraph's own block.
-fn own_block<'a>(alloc: Global, tokens: Tokens<'a>) -> Result<(Block, Tokens<'a>), Halt<'a>>
+fn own_block<'a>(alloc: Global, tokens: Tokens<'a>) -> Result<(Block, Tokens<'a>), ParseStop<'a>>
     ensures value { Gives (λ x. (block_view x.0, x.1.left.now)) result (spec.own_block true spec.depth_limit tokens.entry.left.now) }
     ensures shorter { IfOk result (λ x. length x.1.left.now < length tokens.entry.left.now) }
 {
@@ -36,7 +37,7 @@ fn own_block<'a>(alloc: Global, tokens: Tokens<'a>) -> Result<(Block, Tokens<'a>
 
 // Names with one bound.
 #[tactic(auto, unfolding(alloy_syntax::specs::Paragraphs::field_at))]
-fn field<'a>(alloc: Global, tokens: Tokens<'a>) -> Result<(Field, Tokens<'a>), Halt<'a>>
+fn field<'a>(alloc: Global, tokens: Tokens<'a>) -> Result<(Field, Tokens<'a>), ParseStop<'a>>
     ensures value { Gives (λ x. (field_view x.0, x.1.left.now)) result (spec.field_at true spec.depth_limit tokens.entry.left.now) }
     ensures shorter { IfOk result (λ x. length x.1.left.now < length tokens.entry.left.now) }
 {
@@ -57,7 +58,7 @@ fn more_fields<'a>(
     alloc: Global,
     first: Field,
     tokens: Tokens<'a>,
-) -> Result<(Vec<Field>, Tokens<'a>), Halt<'a>>
+) -> Result<(Vec<Field>, Tokens<'a>), ParseStop<'a>>
     ensures value { Gives (λ x. (map field_view x.0.items, x.1.left.now)) result (others (spec.field_at true spec.depth_limit) (field_view first) tokens.entry.left.now) }
     ensures shorter { IfOk result (λ x. length x.1.left.now ≤ length tokens.entry.left.now) }
 {
@@ -74,7 +75,7 @@ fn more_fields<'a>(
 
 // The fields of a signature, if it has any.
 #[tactic(auto, unfolding(alloy_syntax::specs::Paragraphs::fields_at, alloy_syntax::specs::Readers::listed))]
-fn fields<'a>(alloc: Global, tokens: Tokens<'a>) -> Result<(Vec<Field>, Tokens<'a>), Halt<'a>>
+fn fields<'a>(alloc: Global, tokens: Tokens<'a>) -> Result<(Vec<Field>, Tokens<'a>), ParseStop<'a>>
     ensures value { Gives (λ x. (map field_view x.0.items, x.1.left.now)) result (spec.fields_at true spec.depth_limit tokens.entry.left.now) }
     ensures shorter { IfOk result (λ x. length x.1.left.now ≤ length tokens.entry.left.now) }
 {
@@ -87,7 +88,10 @@ fn fields<'a>(alloc: Global, tokens: Tokens<'a>) -> Result<(Vec<Field>, Tokens<'
 
 // A parent behind `extends` or `in`, if there is one.
 #[tactic(auto, unfolding(alloy_syntax::specs::Paragraphs::parent_at))]
-fn parent<'a>(alloc: Global, tokens: Tokens<'a>) -> Result<(Option<Parent>, Tokens<'a>), Halt<'a>>
+fn parent<'a>(
+    alloc: Global,
+    tokens: Tokens<'a>,
+) -> Result<(Option<Parent>, Tokens<'a>), ParseStop<'a>>
     ensures value { Gives (λ x. (x.0, x.1.left.now)) result (spec.parent_at tokens.entry.left.now) }
     ensures shorter { IfOk result (λ x. length x.1.left.now ≤ length tokens.entry.left.now) }
 {
@@ -108,7 +112,7 @@ fn parent<'a>(alloc: Global, tokens: Tokens<'a>) -> Result<(Option<Parent>, Toke
 #[derive(Clone, Copy)]
 struct Qualifiers<'a> {
     is_abstract: bool,
-    mark: Option<Mark>,
+    mark: Option<MultiplicityWord>,
     behind: Tokens<'a>,
 }
 
@@ -121,7 +125,7 @@ fn is_qualifier(tokens: Tokens) -> bool
 }
 
 #[tactic(auto, unfolding(alloy_syntax::specs::Paragraphs::qualifier_at))]
-fn qualifier_at(tokens: Tokens) -> Option<Mark>
+fn qualifier_at(tokens: Tokens) -> Option<MultiplicityWord>
     ensures { result ≡ spec.qualifier_at tokens.entry.left.now }
 {
     if is_qualifier(tokens) {
@@ -179,7 +183,10 @@ fn qualified<'a>(tokens: Tokens<'a>) -> Qualifiers<'a>
 
 // Signatures. A block behind them is refused.
 #[tactic(auto, unfolding(alloy_syntax::specs::Paragraphs::signatures_at))]
-fn signatures<'a>(alloc: Global, tokens: Tokens<'a>) -> Result<(Paragraph, Tokens<'a>), Halt<'a>>
+fn signatures<'a>(
+    alloc: Global,
+    tokens: Tokens<'a>,
+) -> Result<(Paragraph, Tokens<'a>), ParseStop<'a>>
     ensures value { Gives (λ x. (paragraph_view x.0, x.1.left.now)) result (spec.signatures_at true spec.depth_limit tokens.entry.left.now) }
     ensures shorter { IfOk result (λ x. length x.1.left.now < length tokens.entry.left.now) }
 {
@@ -187,15 +194,35 @@ fn signatures<'a>(alloc: Global, tokens: Tokens<'a>) -> Result<(Paragraph, Token
     let (_, rest) = expect(front.behind, Class::Sig)?;
     let (names, rest) = names(alloc, rest)?;
     let (parent, rest) = parent(alloc, rest)?;
-    let (_, rest) = expect(rest, Class::LeftBrace)?;
+    let Qualifiers {
+        is_abstract,
+        mark,
+        ..
+    } = front;
+    with_fields(alloc, is_abstract, mark, names, parent, rest)
+}
+
+// Signatures that have been read up to their fields. A block behind these is refused.
+fn with_fields<'a>(
+    alloc: Global,
+    is_abstract: bool,
+    mark: Option<MultiplicityWord>,
+    names: Vec<Name>,
+    parent: Option<Parent>,
+    tokens: Tokens<'a>,
+) -> Result<(Paragraph, Tokens<'a>), ParseStop<'a>>
+    ensures value { Gives (λ x. (paragraph_view x.0, x.1.left.now)) result (behind.with_fields is_abstract mark names.items parent tokens.entry.left.now) }
+    ensures shorter { IfOk result (λ x. length x.1.left.now < length tokens.entry.left.now) }
+{
+    let (_, rest) = expect(tokens, Class::LeftBrace)?;
     let (fields, rest) = fields(alloc, rest)?;
     let (_, rest) = expect(rest, Class::RightBrace)?;
     if next_is(rest, Class::LeftBrace) {
-        return Err(Halt::Unsupported(Form::Appended, rest));
+        return Err(ParseStop::Unsupported(Form::Appended, rest));
     }
     let declared = Signatures {
-        is_abstract: front.is_abstract,
-        mark: front.mark,
+        is_abstract,
+        mark,
         names,
         parent,
         fields,
@@ -207,7 +234,7 @@ fn signatures<'a>(alloc: Global, tokens: Tokens<'a>) -> Result<(Paragraph, Token
 
 // A name, if there is one.
 #[tactic(auto, unfolding(alloy_syntax::specs::Paragraphs::label_at))]
-fn label<'a>(alloc: Global, tokens: Tokens<'a>) -> Result<(Option<Name>, Tokens<'a>), Halt<'a>>
+fn label<'a>(alloc: Global, tokens: Tokens<'a>) -> Result<(Option<Name>, Tokens<'a>), ParseStop<'a>>
     ensures value { Gives (λ x. (x.0, x.1.left.now)) result (spec.label_at tokens.entry.left.now) }
     ensures shorter { IfOk result (λ x. length x.1.left.now ≤ length tokens.entry.left.now) }
 {
@@ -219,7 +246,7 @@ fn label<'a>(alloc: Global, tokens: Tokens<'a>) -> Result<(Option<Name>, Tokens<
 }
 
 #[tactic(auto, unfolding(alloy_syntax::specs::Paragraphs::fact_at))]
-fn fact<'a>(alloc: Global, tokens: Tokens<'a>) -> Result<(Paragraph, Tokens<'a>), Halt<'a>>
+fn fact<'a>(alloc: Global, tokens: Tokens<'a>) -> Result<(Paragraph, Tokens<'a>), ParseStop<'a>>
     ensures value { Gives (λ x. (paragraph_view x.0, x.1.left.now)) result (spec.fact_at true spec.depth_limit tokens.entry.left.now) }
     ensures shorter { IfOk result (λ x. length x.1.left.now < length tokens.entry.left.now) }
 {
@@ -233,7 +260,7 @@ fn parameters_to<'a>(
     alloc: Global,
     tokens: Tokens<'a>,
     closing: Class,
-) -> Result<(Vec<Declaration>, Tokens<'a>), Halt<'a>>
+) -> Result<(Vec<Declaration>, Tokens<'a>), ParseStop<'a>>
     ensures value { Gives (λ x. (map declaration_view x.0.items, x.1.left.now)) result (spec.parameters_to true spec.depth_limit closing tokens.entry.left.now) }
     ensures shorter { IfOk result (λ x. length x.1.left.now ≤ length tokens.entry.left.now) }
 {
@@ -250,7 +277,7 @@ fn parameters_to<'a>(
 fn parameters<'a>(
     alloc: Global,
     tokens: Tokens<'a>,
-) -> Result<(Vec<Declaration>, Tokens<'a>), Halt<'a>>
+) -> Result<(Vec<Declaration>, Tokens<'a>), ParseStop<'a>>
     ensures value { Gives (λ x. (map declaration_view x.0.items, x.1.left.now)) result (spec.parameter_list true spec.depth_limit tokens.entry.left.now) }
     ensures shorter { IfOk result (λ x. length x.1.left.now ≤ length tokens.entry.left.now) }
 {
@@ -264,7 +291,10 @@ fn parameters<'a>(
 }
 
 #[tactic(auto, unfolding(alloy_syntax::specs::Paragraphs::predicate_at))]
-fn predicate<'a>(alloc: Global, tokens: Tokens<'a>) -> Result<(Paragraph, Tokens<'a>), Halt<'a>>
+fn predicate<'a>(
+    alloc: Global,
+    tokens: Tokens<'a>,
+) -> Result<(Paragraph, Tokens<'a>), ParseStop<'a>>
     ensures value { Gives (λ x. (paragraph_view x.0, x.1.left.now)) result (spec.predicate_at true spec.depth_limit tokens.entry.left.now) }
     ensures shorter { IfOk result (λ x. length x.1.left.now < length tokens.entry.left.now) }
 {
@@ -275,13 +305,26 @@ fn predicate<'a>(alloc: Global, tokens: Tokens<'a>) -> Result<(Paragraph, Tokens
 }
 
 #[tactic(auto, unfolding(alloy_syntax::specs::Paragraphs::function_at))]
-fn function<'a>(alloc: Global, tokens: Tokens<'a>) -> Result<(Paragraph, Tokens<'a>), Halt<'a>>
+fn function<'a>(alloc: Global, tokens: Tokens<'a>) -> Result<(Paragraph, Tokens<'a>), ParseStop<'a>>
     ensures value { Gives (λ x. (paragraph_view x.0, x.1.left.now)) result (spec.function_at true spec.depth_limit tokens.entry.left.now) }
     ensures shorter { IfOk result (λ x. length x.1.left.now < length tokens.entry.left.now) }
 {
     let (name, rest) = name(alloc, tokens)?;
     let (parameters, rest) = parameters(alloc, rest)?;
-    let (_, rest) = expect(rest, Class::Colon)?;
+    with_body(alloc, name, parameters, rest)
+}
+
+// A function that has been read up to its parameters, with its range and its body.
+fn with_body<'a>(
+    alloc: Global,
+    name: Name,
+    parameters: Vec<Declaration>,
+    tokens: Tokens<'a>,
+) -> Result<(Paragraph, Tokens<'a>), ParseStop<'a>>
+    ensures value { Gives (λ x. (paragraph_view x.0, x.1.left.now)) result (behind.with_body name (map declaration_view parameters.items) tokens.entry.left.now) }
+    ensures shorter { IfOk result (λ x. length x.1.left.now < length tokens.entry.left.now) }
+{
+    let (_, rest) = expect(tokens, Class::Colon)?;
     let mark = mark_at(rest);
     let (range, rest) = nodes::expression(alloc, after_mark(rest), DEPTH_LIMIT)?;
     let (body, rest) = nodes::braced(alloc, rest, DEPTH_LIMIT)?;
@@ -296,7 +339,10 @@ fn function<'a>(alloc: Global, tokens: Tokens<'a>) -> Result<(Paragraph, Tokens<
 }
 
 #[tactic(auto, unfolding(alloy_syntax::specs::Paragraphs::assertion_at))]
-fn assertion<'a>(alloc: Global, tokens: Tokens<'a>) -> Result<(Paragraph, Tokens<'a>), Halt<'a>>
+fn assertion<'a>(
+    alloc: Global,
+    tokens: Tokens<'a>,
+) -> Result<(Paragraph, Tokens<'a>), ParseStop<'a>>
     ensures value { Gives (λ x. (paragraph_view x.0, x.1.left.now)) result (spec.assertion_at true spec.depth_limit tokens.entry.left.now) }
     ensures shorter { IfOk result (λ x. length x.1.left.now < length tokens.entry.left.now) }
 {
@@ -309,7 +355,7 @@ fn assertion<'a>(alloc: Global, tokens: Tokens<'a>) -> Result<(Paragraph, Tokens
 
 // The size that a scope gives to a signature.
 #[tactic(auto, unfolding(alloy_syntax::specs::Paragraphs::entry_at))]
-fn entry<'a>(alloc: Global, tokens: Tokens<'a>) -> Result<(Entry, Tokens<'a>), Halt<'a>>
+fn entry<'a>(alloc: Global, tokens: Tokens<'a>) -> Result<(Entry, Tokens<'a>), ParseStop<'a>>
     ensures value { Gives (λ x. (x.0, x.1.left.now)) result (spec.entry_at tokens.entry.left.now) }
     ensures shorter { IfOk result (λ x. length x.1.left.now < length tokens.entry.left.now) }
 {
@@ -330,7 +376,7 @@ fn more_entries<'a>(
     alloc: Global,
     first: Entry,
     tokens: Tokens<'a>,
-) -> Result<(Vec<Entry>, Tokens<'a>), Halt<'a>>
+) -> Result<(Vec<Entry>, Tokens<'a>), ParseStop<'a>>
     ensures value { Gives (λ x. (x.0.items, x.1.left.now)) result (others spec.entry_at first tokens.entry.left.now) }
     ensures shorter { IfOk result (λ x. length x.1.left.now ≤ length tokens.entry.left.now) }
 {
@@ -346,7 +392,7 @@ fn more_entries<'a>(
 }
 
 #[tactic(auto, unfolding(alloy_syntax::specs::Paragraphs::entries_at, alloy_syntax::specs::Readers::listed))]
-fn entries<'a>(alloc: Global, tokens: Tokens<'a>) -> Result<(Vec<Entry>, Tokens<'a>), Halt<'a>>
+fn entries<'a>(alloc: Global, tokens: Tokens<'a>) -> Result<(Vec<Entry>, Tokens<'a>), ParseStop<'a>>
     ensures value { Gives (λ x. (x.0.items, x.1.left.now)) result (spec.entries_at tokens.entry.left.now) }
     ensures shorter { IfOk result (λ x. length x.1.left.now < length tokens.entry.left.now) }
 {
@@ -356,7 +402,10 @@ fn entries<'a>(alloc: Global, tokens: Tokens<'a>) -> Result<(Vec<Entry>, Tokens<
 
 // The entries behind `but`, if it is there.
 #[tactic(auto, unfolding(alloy_syntax::specs::Paragraphs::exceptions_at))]
-fn exceptions<'a>(alloc: Global, tokens: Tokens<'a>) -> Result<(Vec<Entry>, Tokens<'a>), Halt<'a>>
+fn exceptions<'a>(
+    alloc: Global,
+    tokens: Tokens<'a>,
+) -> Result<(Vec<Entry>, Tokens<'a>), ParseStop<'a>>
     ensures value { Gives (λ x. (x.0.items, x.1.left.now)) result (spec.exceptions_at tokens.entry.left.now) }
     ensures shorter { IfOk result (λ x. length x.1.left.now ≤ length tokens.entry.left.now) }
 {
@@ -376,19 +425,33 @@ fn has_default(tokens: Tokens) -> bool
 
 // A command's scope, if it has one.
 #[tactic(auto, unfolding(alloy_syntax::specs::Paragraphs::scope_at))]
-fn scope<'a>(alloc: Global, tokens: Tokens<'a>) -> Result<(Option<Scope>, Tokens<'a>), Halt<'a>>
+fn scope<'a>(
+    alloc: Global,
+    tokens: Tokens<'a>,
+) -> Result<(Option<Scope>, Tokens<'a>), ParseStop<'a>>
     ensures value { Gives (λ x. (option_map scope_view x.0, x.1.left.now)) result (spec.scope_at tokens.entry.left.now) }
     ensures shorter { IfOk result (λ x. length x.1.left.now ≤ length tokens.entry.left.now) }
 {
     if !next_is(tokens, Class::For) {
         return Ok((None, tokens));
     }
-    if !has_default(after(tokens)) {
-        let (entries, rest) = entries(alloc, after(tokens))?;
+    scope_behind(alloc, after(tokens))
+}
+
+// A scope, behind its `for`.
+fn scope_behind<'a>(
+    alloc: Global,
+    tokens: Tokens<'a>,
+) -> Result<(Option<Scope>, Tokens<'a>), ParseStop<'a>>
+    ensures value { Gives (λ x. (option_map scope_view x.0, x.1.left.now)) result (behind.scope_behind tokens.entry.left.now) }
+    ensures shorter { IfOk result (λ x. length x.1.left.now ≤ length tokens.entry.left.now) }
+{
+    if !has_default(tokens) {
+        let (entries, rest) = entries(alloc, tokens)?;
         let default = None;
         return Ok((Some(Scope { default, entries }), rest));
     }
-    let (number, rest) = number(after(tokens))?;
+    let (number, rest) = number(tokens)?;
     let (entries, rest) = exceptions(alloc, rest)?;
     let default = Some(number);
     Ok((Some(Scope { default, entries }), rest))
@@ -396,7 +459,7 @@ fn scope<'a>(alloc: Global, tokens: Tokens<'a>) -> Result<(Option<Scope>, Tokens
 
 // The number behind `expect`, if it is there.
 #[tactic(auto, unfolding(alloy_syntax::specs::Paragraphs::expected_at))]
-fn expected<'a>(tokens: Tokens<'a>) -> Result<(Option<Number>, Tokens<'a>), Halt<'a>>
+fn expected<'a>(tokens: Tokens<'a>) -> Result<(Option<Number>, Tokens<'a>), ParseStop<'a>>
     ensures value { Gives (λ x. (x.0, x.1.left.now)) result (spec.expected_at tokens.entry.left.now) }
     ensures shorter { IfOk result (λ x. length x.1.left.now ≤ length tokens.entry.left.now) }
 {
@@ -409,7 +472,7 @@ fn expected<'a>(tokens: Tokens<'a>) -> Result<(Option<Number>, Tokens<'a>), Halt
 
 // What a command runs or checks: a name, or a block, which may have a label.
 #[tactic(auto, unfolding(alloy_syntax::specs::Paragraphs::target_at))]
-fn target<'a>(alloc: Global, tokens: Tokens<'a>) -> Result<(Target, Tokens<'a>), Halt<'a>>
+fn target<'a>(alloc: Global, tokens: Tokens<'a>) -> Result<(Target, Tokens<'a>), ParseStop<'a>>
     ensures value { Gives (λ x. (target_view x.0, x.1.left.now)) result (spec.target_at true spec.depth_limit tokens.entry.left.now) }
     ensures shorter { IfOk result (λ x. length x.1.left.now < length tokens.entry.left.now) }
 {
@@ -428,7 +491,7 @@ fn command<'a>(
     tokens: Tokens<'a>,
     kind: CommandKind,
     place: Place,
-) -> Result<(Paragraph, Tokens<'a>), Halt<'a>>
+) -> Result<(Paragraph, Tokens<'a>), ParseStop<'a>>
     ensures value { Gives (λ x. (paragraph_view x.0, x.1.left.now)) result (spec.command_at true spec.depth_limit kind place tokens.entry.left.now) }
     ensures shorter { IfOk result (λ x. length x.1.left.now < length tokens.entry.left.now) }
 {
@@ -448,7 +511,10 @@ fn command<'a>(
 // ---- a model
 
 #[tactic(auto, unfolding(alloy_syntax::specs::Paragraphs::paragraph_at))]
-fn paragraph<'a>(alloc: Global, tokens: Tokens<'a>) -> Result<(Paragraph, Tokens<'a>), Halt<'a>>
+fn paragraph<'a>(
+    alloc: Global,
+    tokens: Tokens<'a>,
+) -> Result<(Paragraph, Tokens<'a>), ParseStop<'a>>
     ensures value { Gives (λ x. (paragraph_view x.0, x.1.left.now)) result (spec.paragraph_at true spec.depth_limit tokens.entry.left.now) }
     ensures shorter { IfOk result (λ x. length x.1.left.now < length tokens.entry.left.now) }
 {
@@ -483,7 +549,7 @@ fn is_left(tokens: Tokens) -> bool
 fn all_paragraphs<'a>(
     alloc: Global,
     tokens: Tokens<'a>,
-) -> Result<(Vec<Paragraph>, Tokens<'a>), Halt<'a>>
+) -> Result<(Vec<Paragraph>, Tokens<'a>), ParseStop<'a>>
     ensures { Gives (λ x. (map paragraph_view x.0.items, x.1.left.now)) result (many spec.is_left (spec.paragraph_at true spec.depth_limit) tokens.entry.left.now) }
 {
     let mut all = Vec::new(alloc);
@@ -498,7 +564,10 @@ fn all_paragraphs<'a>(
 
 // The name behind `module`, if it is there.
 #[tactic(auto, unfolding(alloy_syntax::specs::Paragraphs::heading_at))]
-fn heading<'a>(alloc: Global, tokens: Tokens<'a>) -> Result<(Option<Name>, Tokens<'a>), Halt<'a>>
+fn heading<'a>(
+    alloc: Global,
+    tokens: Tokens<'a>,
+) -> Result<(Option<Name>, Tokens<'a>), ParseStop<'a>>
     ensures { Gives (λ x. (x.0, x.1.left.now)) result (spec.heading_at tokens.entry.left.now) }
 {
     if next_is(tokens, Class::Module) {
@@ -510,7 +579,7 @@ fn heading<'a>(alloc: Global, tokens: Tokens<'a>) -> Result<(Option<Name>, Token
 
 // The module of an `open`, which is that of orderings.
 #[tactic(auto, unfolding(alloy_syntax::specs::Paragraphs::ordering_at))]
-fn ordering<'a>(alloc: Global, tokens: Tokens<'a>) -> Result<(Name, Tokens<'a>), Halt<'a>>
+fn ordering<'a>(alloc: Global, tokens: Tokens<'a>) -> Result<(Name, Tokens<'a>), ParseStop<'a>>
     ensures value { Gives (λ x. (x.0, x.1.left.now)) result (spec.ordering_at tokens.entry.left.now) }
     ensures shorter { IfOk result (λ x. length x.1.left.now < length tokens.entry.left.now) }
 {
@@ -518,26 +587,38 @@ fn ordering<'a>(alloc: Global, tokens: Tokens<'a>) -> Result<(Name, Tokens<'a>),
     if module.text.text() == "util/ordering" {
         Ok((module, rest))
     } else {
-        Err(Halt::Unsupported(Form::Open, tokens))
+        Err(ParseStop::Unsupported(Form::Open, tokens))
     }
 }
 
 // An ordering, with its first word.
 #[tactic(auto, unfolding(alloy_syntax::specs::Paragraphs::open_at))]
-fn open<'a>(alloc: Global, tokens: Tokens<'a>) -> Result<(Open, Tokens<'a>), Halt<'a>>
+fn open<'a>(alloc: Global, tokens: Tokens<'a>) -> Result<(Open, Tokens<'a>), ParseStop<'a>>
     ensures value { Gives (λ x. (x.0, x.1.left.now)) result (spec.open_at tokens.entry.left.now) }
     ensures shorter { IfOk result (λ x. length x.1.left.now < length tokens.entry.left.now) }
 {
     let (_, rest) = ordering(alloc, after(tokens))?;
     let (_, rest) = expect(rest, Class::LeftBracket)?;
     let (signature, rest) = name(alloc, rest)?;
-    let (_, rest) = expect(rest, Class::RightBracket)?;
+    with_alias(alloc, signature, rest)
+}
+
+// An ordering of that signature, with the name by which it is called.
+fn with_alias<'a>(
+    alloc: Global,
+    signature: Name,
+    tokens: Tokens<'a>,
+) -> Result<(Open, Tokens<'a>), ParseStop<'a>>
+    ensures value { Gives (λ x. (x.0, x.1.left.now)) result (behind.with_alias signature tokens.entry.left.now) }
+    ensures shorter { IfOk result (λ x. length x.1.left.now < length tokens.entry.left.now) }
+{
+    let (_, rest) = expect(tokens, Class::RightBracket)?;
     let (_, rest) = expect(rest, Class::As)?;
     let (alias, rest) = name(alloc, rest)?;
     Ok((Open { signature, alias }, rest))
 }
 
-fn opens<'a>(alloc: Global, tokens: Tokens<'a>) -> Result<(Vec<Open>, Tokens<'a>), Halt<'a>>
+fn opens<'a>(alloc: Global, tokens: Tokens<'a>) -> Result<(Vec<Open>, Tokens<'a>), ParseStop<'a>>
     ensures { Gives (λ x. (x.0.items, x.1.left.now)) result (many (next_is Class.Open) spec.open_at tokens.entry.left.now) }
 {
     let mut all = Vec::new(alloc);
@@ -552,7 +633,7 @@ fn opens<'a>(alloc: Global, tokens: Tokens<'a>) -> Result<(Vec<Open>, Tokens<'a>
 
 /// The model that the tokens are, or where reading stops.
 #[tactic(auto, unfolding(alloy_syntax::specs::Paragraphs::model_at))]
-pub fn model<'a>(alloc: Global, tokens: Tokens<'a>) -> Result<Model, Halt<'a>>
+pub fn model<'a>(alloc: Global, tokens: Tokens<'a>) -> Result<Model, ParseStop<'a>>
     ensures { Gives model_view result (spec.model_of tokens.entry.left.now) }
 {
     let (heading, rest) = heading(alloc, tokens)?;

@@ -2,7 +2,7 @@
 -- which no name is shared.
 use Rattle.std.specs.Prelude.{ℕ, zero, suc, ◌+◌, ◌==◌, nat_le, List, [], ◌∷◌, map, length, drop, take, replicate, reverse, flat_map, slice_get, Bool, true, false, ◌||◌, if◌then◌else◌, Option, Some, None, is_some, option_map, Result, Ok, Err}
 use Rattle.alloy_lex.specs.declared.token.Place.{Place}
-use Rattle.alloy_syntax.specs.declared.tree.Mark.{Mark}
+use Rattle.alloy_syntax.specs.declared.tree.MultiplicityWord.{MultiplicityWord}
 use Rattle.alloy_syntax.specs.declared.tree.Multiplicity.TheVariants as multiplicity
 use Rattle.alloy_syntax.specs.declared.tree.Operator.TheVariants as operator
 use Rattle.named_model.specs.declared.named.Part.{Part}
@@ -125,7 +125,7 @@ sides_unary d (Some sides) = unary d sides.0 >>= λ left. unary d sides.1
 abbrev pub arrow_checked : Declared → FieldTree → Checked
 arrow_checked d f = if is_some f.left || is_some f.right then sides_unary d (sides_of f.bound) else Ok tt
 
-abbrev pub wants_unary : Option Mark → Bool
+abbrev pub wants_unary : Option MultiplicityWord → Bool
 wants_unary None = false
 wants_unary (Some mark) = elim mark.multiplicity [ multiplicity.Set ↦ false | multiplicity.One ↦ true | multiplicity.Lone ↦ true | multiplicity.Some ↦ true ]
 

@@ -12,7 +12,7 @@ use crate::expressions::variables::variables;
 use alloy_lex::Place;
 use alloy_syntax::Class;
 use alloy_syntax::cursor::{after, after_mark, expect, fitted, mark_at, name, next_is};
-use alloy_syntax::halt::{Halt, Tokens};
+use alloy_syntax::parse_stop::{ParseStop, Tokens};
 use alloy_syntax::reading::{Around, Form, Inside};
 use alloy_syntax::tree::{Binding, Declaration, Node, Quantifier};
 use std::alloc::Global;
@@ -91,7 +91,7 @@ impl<F: for<'a> Fn(Global, Tokens<'a>, u32, Around, Inside) -> Read<'a, Node>> R
         if single {
             let second = after_disj(rest);
             let _name = name(self.alloc, second)?;
-            return Err(Halt::Unsupported(Form::Several, second));
+            return Err(ParseStop::Unsupported(Form::Several, second));
         }
         self.declaration(rest, false)
     }

@@ -6,11 +6,12 @@ ghost use Rattle.alloy_syntax.specs.View.{view, link_view};
 ghost use Rattle.alloy_syntax.specs.Readers.{Parser, many};
 ghost use Rattle.alloy_syntax.specs.Nodes.{begins_link, chained, link_over};
 ghost use Rattle.alloy_parse.specs.Nodes.Reader.{ReadsAs, Shortens};
+ghost use Rattle.alloy_parse.specs.Behind.{linked};
 
 use crate::expressions::rules::Read;
 use crate::expressions::signs::{begins_link, operator_of};
 use alloy_syntax::cursor::{after, fitted, place_at};
-use alloy_syntax::halt::Tokens;
+use alloy_syntax::parse_stop::Tokens;
 use alloy_syntax::reading::Level;
 use alloy_syntax::tree::{Link, Node};
 use std::alloc::Global;
@@ -32,8 +33,25 @@ pub fn chain<'a, G: for<'b> Fn(Tokens<'b>) -> Read<'b, Node>>(
     if !begins_link(rest, level) {
         return Ok((first, rest));
     }
-    let (links, rest) = links(alloc, rest, level, &operand)?;
-    Ok((Node::Chain(Box::new(alloc, first)?, links), rest))
+    linked(alloc, first, rest, level, &operand)
+}
+
+// The first operand, with the operators and operands behind it.
+fn linked<'a, G: for<'b> Fn(Tokens<'b>) -> Read<'b, Node>>(
+    alloc: Global,
+    first: Node,
+    tokens: Tokens<'a>,
+    level: Level,
+    operand: &G,
+) -> Read<'a, Node>
+    requires callable { G.IsAlwaysCallable operand.now }
+    requires shortens { Shortens (G.post operand.now) }
+    ensures value { (item : Parser Tree) → ReadsAs item (G.post operand.now) → Gives (λ x. (view x.0, x.1.left.now)) result (linked level item (view first) tokens.entry.left.now) }
+    ensures shorter { IfOk result (λ x. length x.1.left.now ≤ length tokens.entry.left.now) }
+{
+    let first = Box::new(alloc, first)?;
+    let (links, rest) = links(alloc, tokens, level, operand)?;
+    Ok((Node::Chain(first, links), rest))
 }
 
 fn links<'a, G: for<'b> Fn(Tokens<'b>) -> Read<'b, Node>>(

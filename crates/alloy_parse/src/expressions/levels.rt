@@ -4,6 +4,7 @@ ghost use Rattle.alloy_syntax.specs.Gives.{Gives};
 ghost use Rattle.alloy_parse.specs.Nodes.Reader.{ReadsWithin};
 ghost use Rattle.alloy_syntax.specs.View.{view, link_view};
 ghost use Rattle.alloy_syntax.specs.Readers.{many};
+ghost use Rattle.alloy_parse.specs.Behind.{arrowed, compared_with, right_side, otherwise};
 ghost use Rattle.alloy_syntax.specs.Nodes.{within, restrict_over, begins_arrow, arrow_over, arrows_over, meet_over, override_over, size_over, sum_over, counted_over, comparison_over, negation_over, and_over, implication_over, implied_over, iff_over, node_over};
 
 use crate::expressions::chains::chain;
@@ -15,9 +16,9 @@ use crate::expressions::signs::{
 use alloy_lex::Place;
 use alloy_syntax::Class;
 use alloy_syntax::cursor::{after, fitted, is_mark, next_is, place_at};
-use alloy_syntax::halt::{Halt, Tokens};
+use alloy_syntax::parse_stop::{ParseStop, Tokens};
 use alloy_syntax::reading::{Around, Form, Inside, Level};
-use alloy_syntax::tree::{Link, Node, Operator, Prefix, Quantifier};
+use alloy_syntax::tree::{Comparing, Link, Node, Operator, Prefix, Quantifier};
 use std::alloc::Global;
 
 impl<F: for<'a> Fn(Global, Tokens<'a>, u32, Around, Inside) -> Read<'a, Node>> Rules<F> {
@@ -46,8 +47,18 @@ impl<F: for<'a> Fn(Global, Tokens<'a>, u32, Around, Inside) -> Read<'a, Node>> R
         if !begins_arrow(rest) {
             return Ok((first, rest));
         }
-        let (links, rest) = self.arrow_links(rest, around)?;
-        Ok((Node::Chain(Box::new(self.alloc, first)?, links), rest))
+        self.arrowed(first, rest, around)
+    }
+
+    // The first operand, with the arrows and operands behind it.
+    fn arrowed<'a>(&self, first: Node, tokens: Tokens<'a>, around: Around) -> Read<'a, Node>
+        requires { ReadsWithin self.now.room (F.pre self.now.reader) (F.post self.now.reader) }
+        ensures value { Gives (λ x. (view x.0, x.1.left.now)) result (arrowed (within true self.now.room) around (view first) tokens.entry.left.now) }
+        ensures shorter { IfOk result (λ x. length x.1.left.now ≤ length tokens.entry.left.now) }
+    {
+        let first = Box::new(self.alloc, first)?;
+        let (links, rest) = self.arrow_links(tokens, around)?;
+        Ok((Node::Chain(first, links), rest))
     }
 
     fn arrow_links<'a>(&self, tokens: Tokens<'a>, around: Around) -> Read<'a, Vec<Link>>
@@ -72,11 +83,11 @@ impl<F: for<'a> Fn(Global, Tokens<'a>, u32, Around, Inside) -> Read<'a, Node>> R
         ensures shorter { IfOk result (λ x. length x.1.left.now < length tokens.entry.left.now) }
     {
         if is_mark(tokens) {
-            return Err(Halt::Unsupported(Form::ArrowMultiplicity, tokens));
+            return Err(ParseStop::Unsupported(Form::ArrowMultiplicity, tokens));
         }
         let rest = after(tokens);
         if is_mark(rest) {
-            return Err(Halt::Unsupported(Form::ArrowMultiplicity, rest));
+            return Err(ParseStop::Unsupported(Form::ArrowMultiplicity, rest));
         }
         let (operand, rest) = self.restrict(rest, around)?;
         let link = Link {
@@ -166,9 +177,33 @@ impl<F: for<'a> Fn(Global, Tokens<'a>, u32, Around, Inside) -> Read<'a, Node>> R
         if !begins_comparison(rest, around) {
             return Ok((left, rest));
         }
-        let (comparing, rest) = comparing(rest)?;
-        let (right, rest) = self.counted(rest, around)?;
+        self.compared_with(left, rest, around)
+    }
+
+    // The left side, with the comparison and its right side.
+    fn compared_with<'a>(&self, left: Node, tokens: Tokens<'a>, around: Around) -> Read<'a, Node>
+        requires { ReadsWithin self.now.room (F.pre self.now.reader) (F.post self.now.reader) }
+        ensures value { Gives (λ x. (view x.0, x.1.left.now)) result (compared_with (within true self.now.room) around (view left) tokens.entry.left.now) }
+        ensures shorter { IfOk result (λ x. length x.1.left.now < length tokens.entry.left.now) }
+    {
         let left = Box::new(self.alloc, left)?;
+        let (comparing, rest) = comparing(tokens)?;
+        self.right_side(left, comparing, rest, around)
+    }
+
+    // The right side of a comparison.
+    fn right_side<'a>(
+        &self,
+        left: Box<Node>,
+        comparing: Comparing,
+        tokens: Tokens<'a>,
+        around: Around,
+    ) -> Read<'a, Node>
+        requires { ReadsWithin self.now.room (F.pre self.now.reader) (F.post self.now.reader) }
+        ensures value { Gives (λ x. (view x.0, x.1.left.now)) result (right_side (within true self.now.room) around (view left.value) comparing tokens.entry.left.now) }
+        ensures shorter { IfOk result (λ x. length x.1.left.now < length tokens.entry.left.now) }
+    {
+        let (right, rest) = self.counted(tokens, around)?;
         let right = Box::new(self.alloc, right)?;
         Ok((Node::Compared(left, comparing, right), rest))
     }
@@ -241,15 +276,31 @@ impl<F: for<'a> Fn(Global, Tokens<'a>, u32, Around, Inside) -> Read<'a, Node>> R
         ensures value { Gives (λ x. (view x.0, x.1.left.now)) result (implied_over (within true self.now.room) around (view left) place tokens.entry.left.now) }
         ensures shorter { IfOk result (λ x. length x.1.left.now < length tokens.entry.left.now) }
     {
-        let (then, rest) = self.inside(tokens, around, Inside::Implied)?;
         let left = Box::new(self.alloc, left)?;
+        let (then, rest) = self.inside(tokens, around, Inside::Implied)?;
         let then = Box::new(self.alloc, then)?;
         if !next_is(rest, Class::Else) {
             return Ok((Node::Implies(left, place, then), rest));
         }
-        let (otherwise, rest) = self.inside(after(rest), around, Inside::Implied)?;
-        let otherwise = Box::new(self.alloc, otherwise)?;
-        Ok((Node::ImpliesElse(left, place, then, otherwise), rest))
+        self.otherwise(left, place, then, after(rest), around)
+    }
+
+    // What stands behind `else`.
+    fn otherwise<'a>(
+        &self,
+        left: Box<Node>,
+        place: Place,
+        then_part: Box<Node>,
+        tokens: Tokens<'a>,
+        around: Around,
+    ) -> Read<'a, Node>
+        requires { ReadsWithin self.now.room (F.pre self.now.reader) (F.post self.now.reader) }
+        ensures value { Gives (λ x. (view x.0, x.1.left.now)) result (otherwise (within true self.now.room) around (view left.value) place (view then_part.value) tokens.entry.left.now) }
+        ensures shorter { IfOk result (λ x. length x.1.left.now < length tokens.entry.left.now) }
+    {
+        let (last, rest) = self.inside(tokens, around, Inside::Implied)?;
+        let last = Box::new(self.alloc, last)?;
+        Ok((Node::ImpliesElse(left, place, then_part, last), rest))
     }
 
     // With `<=>` between them.

@@ -4,11 +4,12 @@ ghost use Rattle.alloy_syntax.specs.View.{view, block_view, declaration_view};
 ghost use Rattle.alloy_syntax.specs.Nodes.{within, block_over, sum_over, braced_over, declarations_over};
 ghost use Rattle.alloy_syntax.specs.Gives.{Gives};
 
+use crate::expressions::closing::closed;
 use crate::expressions::rules::{Read, Rules};
 use crate::expressions::signs::stop_at;
 use alloy_syntax::Class;
 use alloy_syntax::cursor::expect;
-use alloy_syntax::halt::Tokens;
+use alloy_syntax::parse_stop::Tokens;
 use alloy_syntax::reading::{Around, Inside};
 use alloy_syntax::tree::{Block, Declaration, Node};
 use std::alloc::Global;
@@ -88,6 +89,5 @@ pub fn braced<'a>(alloc: Global, tokens: Tokens<'a>, room: u32) -> Read<'a, Node
 {
     let (_, rest) = expect(tokens, Class::LeftBrace)?;
     let (inner, rest) = inside(alloc, rest, room, Around::Parens, Inside::Sum)?;
-    let (_, rest) = expect(rest, Class::RightBrace)?;
-    Ok((inner, rest))
+    closed(inner, rest, Class::RightBrace)
 }

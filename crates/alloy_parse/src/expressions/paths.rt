@@ -2,10 +2,12 @@
 ghost use Rattle.std.specs.Prelude.{◌≡◌, ◌<◌, ◌≤◌, true, length, map, IfOk};
 ghost use Rattle.alloy_syntax.specs.Gives.{Gives};
 ghost use Rattle.alloy_parse.specs.Nodes.Reader.{ReadsWithin};
+ghost use Rattle.alloy_parse.specs.Behind.{stepped};
 ghost use Rattle.alloy_syntax.specs.View.{view, views, step_view, block_view};
 ghost use Rattle.alloy_syntax.specs.Readers.{many, others};
 ghost use Rattle.alloy_syntax.specs.Nodes.{within, is_inner, block_over, block_tree, paren_over, primary_over, behind_prefix, tight_over, path_over, begins_step, step_over, brackets_over, arguments_over};
 
+use crate::expressions::closing::closed;
 use crate::expressions::rules::{Read, Rules};
 use crate::expressions::signs::{
     begins_step, constant_of, is_comprehension, is_constant, is_inner, is_tightening, tightening_of,
@@ -14,7 +16,7 @@ use alloy_syntax::Class;
 use alloy_syntax::cursor::{
     after, expect, fitted, name, next_is, number, path as path_name, place_at,
 };
-use alloy_syntax::halt::{Halt, Tokens};
+use alloy_syntax::parse_stop::{ParseStop, Tokens};
 use alloy_syntax::reading::{Around, Form, Inside};
 use alloy_syntax::tree::{Block, Node, Prefix, Step};
 use std::alloc::Global;
@@ -28,7 +30,7 @@ impl<F: for<'a> Fn(Global, Tokens<'a>, u32, Around, Inside) -> Read<'a, Node>> R
         ensures shorter { IfOk result (λ x. length x.1.left.now < length tokens.entry.left.now) }
     {
         if is_comprehension(tokens) {
-            return Err(Halt::Unsupported(Form::Comprehension, tokens));
+            return Err(ParseStop::Unsupported(Form::Comprehension, tokens));
         }
         let (place, rest) = expect(tokens, Class::LeftBrace)?;
         let (formulas, rest) = self.formulas(rest)?;
@@ -70,8 +72,8 @@ impl<F: for<'a> Fn(Global, Tokens<'a>, u32, Around, Inside) -> Read<'a, Node>> R
     {
         let (place, rest) = expect(tokens, Class::LeftParen)?;
         let (inner, rest) = self.inside(rest, Around::Parens, Inside::Node)?;
-        let (_, rest) = expect(rest, Class::RightParen)?;
-        Ok((Node::Bracketed(place, Box::new(self.alloc, inner)?), rest))
+        let inner = Box::new(self.alloc, inner)?;
+        closed(Node::Bracketed(place, inner), rest, Class::RightParen)
     }
 
     #[tactic(auto, using(crate::proofs::Nodes::NextTokens::constant_is_there), unfolding(alloy_syntax::specs::Nodes::primary_over))]
@@ -144,8 +146,18 @@ impl<F: for<'a> Fn(Global, Tokens<'a>, u32, Around, Inside) -> Read<'a, Node>> R
         if !begins_step(rest) {
             return Ok((first, rest));
         }
-        let (steps, rest) = self.steps(rest, around)?;
-        Ok((Node::Path(Box::new(self.alloc, first)?, steps), rest))
+        self.stepped(first, rest, around)
+    }
+
+    // An expression, with the joins and brackets behind it.
+    fn stepped<'a>(&self, first: Node, tokens: Tokens<'a>, around: Around) -> Read<'a, Node>
+        requires { ReadsWithin self.now.room (F.pre self.now.reader) (F.post self.now.reader) }
+        ensures value { Gives (λ x. (view x.0, x.1.left.now)) result (stepped (within true self.now.room) around (view first) tokens.entry.left.now) }
+        ensures shorter { IfOk result (λ x. length x.1.left.now ≤ length tokens.entry.left.now) }
+    {
+        let first = Box::new(self.alloc, first)?;
+        let (steps, rest) = self.steps(tokens, around)?;
+        Ok((Node::Path(first, steps), rest))
     }
 
     fn steps<'a>(&self, tokens: Tokens<'a>, around: Around) -> Read<'a, Vec<Step>>

@@ -5,13 +5,13 @@ ghost use Rattle.alloy_syntax.specs.Nodes.{within, inside_over};
 ghost use Rattle.alloy_syntax.specs.Gives.{Gives};
 ghost use Rattle.alloy_parse.specs.Nodes.Reader.{ReadsWithin};
 
-use alloy_syntax::halt::{Halt, Tokens};
+use alloy_syntax::parse_stop::{ParseStop, Tokens};
 use alloy_syntax::reading::{Around, Inside};
 use alloy_syntax::tree::Node;
 use std::alloc::Global;
 
 /// What is read at the front, and the tokens behind it; or why there is nothing.
-pub type Read<'a, T> = Result<(T, Tokens<'a>), Halt<'a>>;
+pub type Read<'a, T> = Result<(T, Tokens<'a>), ParseStop<'a>>;
 
 /// The rules, where so many constructs more may nest.
 #[derive(Clone, Copy)]

@@ -6,7 +6,7 @@ ghost use Rattle.alloy_syntax.specs.Gives.{Gives};
 
 use alloy_syntax::Class;
 use alloy_syntax::cursor::{after, colon_after_names, is_mark, next_is, place_at};
-use alloy_syntax::halt::{Halt, Tokens};
+use alloy_syntax::parse_stop::{ParseStop, Tokens};
 use alloy_syntax::reading::{Around, Form, Inside, Level};
 use alloy_syntax::tree::{Comparing, Comparison, Constant, Node, Operator, Prefix, Quantifier};
 
@@ -140,17 +140,17 @@ pub fn is_inner(tokens: Tokens) -> bool
 
 /// Where one construct more would be one too many.
 #[tactic(auto, unfolding(alloy_syntax::specs::Nodes::stop_at))]
-pub fn stop_at<'a>(tokens: Tokens<'a>, part: Inside) -> Result<(Node, Tokens<'a>), Halt<'a>>
+pub fn stop_at<'a>(tokens: Tokens<'a>, part: Inside) -> Result<(Node, Tokens<'a>), ParseStop<'a>>
     ensures value { Gives (λ x. (view x.0, x.1.left.now)) result (spec.stop_at part tokens.entry.left.now) }
     ensures shorter { IfOk result (λ x. length x.1.left.now < length tokens.entry.left.now) }
 {
     if may_be_block(part) && is_comprehension(tokens) {
-        return Err(Halt::Unsupported(Form::Comprehension, tokens));
+        return Err(ParseStop::Unsupported(Form::Comprehension, tokens));
     }
     if begins(tokens, part) {
-        Err(Halt::Deep(tokens))
+        Err(ParseStop::Deep(tokens))
     } else {
-        Err(Halt::Refused(tokens))
+        Err(ParseStop::Refused(tokens))
     }
 }
 
@@ -324,7 +324,7 @@ fn comparison_of(tokens: Tokens) -> Comparison
 
 /// A comparison that begins there.
 #[tactic(auto, unfolding(alloy_syntax::specs::Nodes::comparing_at))]
-pub fn comparing<'a>(tokens: Tokens<'a>) -> Result<(Comparing, Tokens<'a>), Halt<'a>>
+pub fn comparing<'a>(tokens: Tokens<'a>) -> Result<(Comparing, Tokens<'a>), ParseStop<'a>>
     ensures value { Gives (λ x. (x.0, x.1.left.now)) result (spec.comparing_at tokens.entry.left.now) }
     ensures shorter { IfOk result (λ x. length x.1.left.now ≤ length tokens.entry.left.now) }
 {
@@ -341,7 +341,7 @@ pub fn comparing<'a>(tokens: Tokens<'a>) -> Result<(Comparing, Tokens<'a>), Halt
 
 // A comparison that begins with `!` or `not`.
 #[tactic(auto, unfolding(alloy_syntax::specs::Nodes::negated_comparing))]
-fn negated<'a>(tokens: Tokens<'a>) -> Result<(Comparing, Tokens<'a>), Halt<'a>>
+fn negated<'a>(tokens: Tokens<'a>) -> Result<(Comparing, Tokens<'a>), ParseStop<'a>>
     ensures value { Gives (λ x. (x.0, x.1.left.now)) result (spec.negated_comparing tokens.entry.left.now) }
     ensures shorter { IfOk result (λ x. length x.1.left.now ≤ length tokens.entry.left.now) }
 {
@@ -354,7 +354,7 @@ fn negated<'a>(tokens: Tokens<'a>) -> Result<(Comparing, Tokens<'a>), Halt<'a>>
         };
         return Ok((comparing, after(rest)));
     }
-    Err(Halt::Refused(rest))
+    Err(ParseStop::Refused(rest))
 }
 
 /// What follows a word that may begin a quantifier: `disj`, or names with commas and then a colon.

@@ -7,7 +7,7 @@ use crate::expressions::rules::Read;
 use crate::expressions::signs::after_disj;
 use alloy_syntax::Class;
 use alloy_syntax::cursor::{after, expect, name, names, next_is};
-use alloy_syntax::halt::{Halt, Tokens};
+use alloy_syntax::parse_stop::{ParseStop, Tokens};
 use alloy_syntax::reading::Form;
 use alloy_syntax::tree::Name;
 use std::alloc::Global;
@@ -21,7 +21,7 @@ pub fn variables<'a>(alloc: Global, tokens: Tokens<'a>, single: bool) -> Read<'a
     let (names, rest) = variable_names(alloc, tokens, single)?;
     let (_, rest) = expect(rest, Class::Colon)?;
     if single && are_several(&names) {
-        return Err(Halt::Unsupported(Form::Several, after(after(tokens))));
+        return Err(ParseStop::Unsupported(Form::Several, after(after(tokens))));
     }
     Ok((names, rest))
 }
@@ -47,7 +47,7 @@ fn one_name<'a>(alloc: Global, tokens: Tokens<'a>) -> Read<'a, Vec<Name>>
     if next_is(rest, Class::Comma) {
         let second = after(rest);
         let _name = name(alloc, second)?;
-        return Err(Halt::Unsupported(Form::Several, second));
+        return Err(ParseStop::Unsupported(Form::Several, second));
     }
     Ok((vec![in alloc; first]?, rest))
 }

@@ -4,7 +4,7 @@ ghost use Rattle.std.specs.Prelude.{◌≡◌, ◌+◌, ◌^◌, OnOk, OnErr};
 use std::alloc::AllocError;
 
 /// The most lists that are looked at.
-pub const MOST_LOOKS: u32 = 268_435_456;
+pub const MOST_LOOKS: u32 = 2_097_152;
 
 /// How many lists may still be looked at.
 #[derive(Drop)]
@@ -15,7 +15,7 @@ pub struct Work {
 impl Work {
     /// As many as may be looked at.
     pub fn new() -> Work
-        ensures { result.left ≡ 2 ^ 28 }
+        ensures { result.left ≡ 2 ^ 21 }
     {
         Work { left: MOST_LOOKS }
     }

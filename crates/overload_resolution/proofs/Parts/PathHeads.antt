@@ -1,5 +1,5 @@
 -- Heads of paths, behind the first argument that they ask for; and parts that stand inside local names.
-use Rattle.std.proofs.Common.{◌≡◌, ℕ, Bool, true, false, ◌||◌, List, [], ◌∷◌, map, drop, Option, Some, None, Result, Ok, Err, refl, sym, ap, subst, ◌∙◌, if◌then◌else◌, Vec, Global}
+use Rattle.std.proofs.Common.{◌≡◌, ℕ, Bool, true, false, ◌||◌, List, [], ◌∷◌, map, drop, Option, Some, None, Result, Ok, Err, refl, sym, ap, ◌∙◌, if◌then◌else◌, Vec, Global}
 use Rattle.std.specs.List.{slice_get}
 use Rattle.alloy_lex.specs.declared.token.Place.{Place}
 use Rattle.alloy_syntax.specs.declared.tree.Quantifier.{Quantifier}
@@ -11,7 +11,6 @@ use Rattle.named_model.specs.declared.phrase.Step.TheVariants.{rolls-Join, rolls
 use Rattle.named_model.specs.Phrase.{PhraseTree, path, quantified, bound_by_let, PhraseTrees, no_phrases, more_phrases, LinkTree, StepTree, joined, in_brackets, StepTrees, no_steps, join_first, brackets_first, step_first, steps_of, DomainTree, DomainTrees}
 use Rattle.named_model.specs.View.{phrase_view, phrases_view, step_view, phrase_level, step_level, domain_level, link_level}
 use Rattle.model_types.specs.declared.fault.TypeFault.{TypeFault}
-use Rattle.model_types.specs.Sorts as sorts
 use Rattle.model_types.specs.Sorts.{formula, first_place}
 use Rattle.model_types.specs.Typing.{Declared, Local, Settled, types_in, type_in, is_shared, ends_of, formula_from, settled, steps_settled, tops_in, domains_settled, values_settled}
 use Rattle.overload_resolution.specs.Fields.Alike.{AreAlike}
@@ -20,9 +19,9 @@ use Rattle.model_types.specs.declared.part_sorts.kinds.Kind.{Kind}
 use Rattle.overload_resolution.specs.Settling.Inside.{AreAlikeWhere}
 use Rattle.overload_resolution.specs.Settling.Same.{AreSameTypes, Asks}
 use Rattle.overload_resolution.specs.Settling.Single.{argument_before, argument_asked, tops_of}
-use Rattle.overload_resolution.specs.Settling.Told.{IsTold}
 use Rattle.overload_resolution.proofs.Settling.SettledAlike.{settled_alike}
 use Rattle.overload_resolution.proofs.Settling.SharedDeclarations.{asks_right}
+use Rattle.overload_resolution.specs.Settling.Told.{IsTold}
 use Rattle.overload_resolution.proofs.Settling.Asking.{tops_alike}
 use Rattle.overload_resolution.proofs.Settling.Reaching.{told_then}
 use Rattle.overload_resolution.specs.Parts.Given.{IsGivenFirst, IsGivenBefore}
@@ -58,16 +57,13 @@ module _ (d : Declared) (ls : List Local) where
       path_given : settled d ls tops (path x steps) ≡ behind_head x steps (tops_of d ls given)
       path_given = path_apart tops x steps ∙ ap (λ r. r >>= λ o. behind_head x steps (tops_of d ls o)) asked
 
+      pub path_head_told : (e : TypeFault) → IsTold e (settled d ls (tops_of d ls given) x) → IsTold e (settled d ls tops (path x steps))
+      path_head_told e told =
+          told_then e (settled d ls (tops_of d ls given) x) (λ y. steps_settled d ls (first_place x) y.kind (type_in d ls y.tree) steps >>= λ zs. Ok (record { tree = path y.tree zs.0; kind = zs.1 })) (settled d ls tops (path x steps)) path_given told
+
       module _ (y : Settled) (head : settled d ls (tops_of d ls given) x ≡ Ok y) where
-        path_head : settled d ls tops (path x steps) ≡ (steps_settled d ls (first_place x) y.kind (type_in d ls y.tree) steps >>= λ zs. Ok (record { tree = path y.tree zs.0; kind = zs.1 }))
+        pub path_head : settled d ls tops (path x steps) ≡ (steps_settled d ls (first_place x) y.kind (type_in d ls y.tree) steps >>= λ zs. Ok (record { tree = path y.tree zs.0; kind = zs.1 }))
         path_head = path_given ∙ ap (λ r. r >>= λ y. steps_settled d ls (first_place x) y.kind (type_in d ls y.tree) steps >>= λ zs. Ok (record { tree = path y.tree zs.0; kind = zs.1 })) head
-
-        pub path_steps_fault : (e : TypeFault) → IsTold e (steps_settled d ls (first_place x) y.kind (type_in d ls y.tree) steps) → IsTold e (settled d ls tops (path x steps))
-        path_steps_fault e told =
-            told_then e (steps_settled d ls (first_place x) y.kind (type_in d ls y.tree) steps) (λ zs. Ok (record { tree = path y.tree zs.0; kind = zs.1 })) (settled d ls tops (path x steps)) path_head told
-
-        pub path_is : (zs : StepTrees) (k : sorts.Kind) → steps_settled d ls (first_place x) y.kind (type_in d ls y.tree) steps ≡ Ok (zs, k) → settled d ls tops (path x steps) ≡ Ok (record { tree = path y.tree zs; kind = k })
-        path_is zs k is = path_head ∙ ap (λ r. r >>= λ (zs : StepTrees × sorts.Kind). Ok (record { tree = path y.tree zs.0; kind = zs.1 })) is
 
   -- ---- inside local names
 
@@ -76,31 +72,19 @@ module _ (d : Declared) (ls : List Local) where
       body : settled d new [] x ≡ settled d behind [] x
       body = settled_alike asked d s new behind alike [] [] (λ e t. refl) x (asks_right (shared_in_domains ds) (shared_in x) asked asks)
 
-      inside : settled d ls tops (quantified q p ds x) ≡ (formula_from x (settled d new [] x) >>= λ y. Ok (record { tree = quantified q p es y; kind = formula }))
+      pub inside : settled d ls tops (quantified q p ds x) ≡ (formula_from x (settled d new [] x) >>= λ y. Ok (record { tree = quantified q p es y; kind = formula }))
       inside =
           ap (λ r. r >>= λ (es : DomainTrees × List Local). formula_from x (settled d es.1 [] x) >>= λ y. Ok (record { tree = quantified q p es.0 y; kind = formula })) are
           ∙ ap (λ r. formula_from x r >>= λ y. Ok (record { tree = quantified q p es y; kind = formula })) (sym body)
-
-      pub quantified_fault : (e : TypeFault) → IsTold e (formula_from x (settled d new [] x)) → IsTold e (settled d ls tops (quantified q p ds x))
-      quantified_fault e told = told_then e (formula_from x (settled d new [] x)) (λ y. Ok (record { tree = quantified q p es y; kind = formula })) (settled d ls tops (quantified q p ds x)) inside told
-
-      pub quantified_is : (y : PhraseTree) → formula_from x (settled d new [] x) ≡ Ok y → settled d ls tops (quantified q p ds x) ≡ Ok (record { tree = quantified q p es y; kind = formula })
-      quantified_is y is = inside ∙ ap (λ r. r >>= λ y. Ok (record { tree = quantified q p es y; kind = formula })) is
 
     module _ (p : Place) (xs ys : PhraseTrees) (asks : Asks (shared_among xs || shared_in x) asked) (are : values_settled d ls xs ≡ Ok (ys, behind)) where
       let_body : settled d new [] x ≡ settled d behind [] x
       let_body = settled_alike asked d s new behind alike [] [] (λ e t. refl) x (asks_right (shared_among xs) (shared_in x) asked asks)
 
-      let_inside : settled d ls tops (bound_by_let p xs x) ≡ (formula_from x (settled d new [] x) >>= λ y. Ok (record { tree = bound_by_let p ys y; kind = formula }))
+      pub let_inside : settled d ls tops (bound_by_let p xs x) ≡ (formula_from x (settled d new [] x) >>= λ y. Ok (record { tree = bound_by_let p ys y; kind = formula }))
       let_inside =
           ap (λ r. r >>= λ (ys : PhraseTrees × List Local). formula_from x (settled d ys.1 [] x) >>= λ y. Ok (record { tree = bound_by_let p ys.0 y; kind = formula })) are
           ∙ ap (λ r. formula_from x r >>= λ y. Ok (record { tree = bound_by_let p ys y; kind = formula })) (sym let_body)
-
-      pub let_fault : (e : TypeFault) → IsTold e (formula_from x (settled d new [] x)) → IsTold e (settled d ls tops (bound_by_let p xs x))
-      let_fault e told = told_then e (formula_from x (settled d new [] x)) (λ y. Ok (record { tree = bound_by_let p ys y; kind = formula })) (settled d ls tops (bound_by_let p xs x)) let_inside told
-
-      pub let_is : (y : PhraseTree) → formula_from x (settled d new [] x) ≡ Ok y → settled d ls tops (bound_by_let p xs x) ≡ Ok (record { tree = bound_by_let p ys y; kind = formula })
-      let_is y is = let_inside ∙ ap (λ r. r >>= λ y. Ok (record { tree = bound_by_let p ys y; kind = formula })) is
 
 -- ---- the first step
 

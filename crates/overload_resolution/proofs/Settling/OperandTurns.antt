@@ -1,7 +1,7 @@
 -- One operand, step, argument or domain, and those behind it.
 use Rattle.std.proofs.Common.{◌≡◌, ℕ, ◌==◌, Bool, true, List, [], ◌∷◌, map, Result, Ok, Err, refl, sym, ap, ◌∙◌, if◌then◌else◌}
 use Rattle.alloy_lex.specs.declared.token.Place.{Place}
-use Rattle.alloy_syntax.specs.declared.tree.Mark.{Mark}
+use Rattle.alloy_syntax.specs.declared.tree.MultiplicityWord.{MultiplicityWord}
 use Rattle.alloy_syntax.specs.declared.tree.Operator.{Operator}
 use Rattle.alloy_syntax.specs.declared.tree.Operator.TheVariants as operator
 use Rattle.std.specs.Prelude.{Option}
@@ -143,7 +143,7 @@ module _ (d : Declared) (ls : List Local) where
   pub value_turn : (x : PhraseTree) (xs : PhraseTrees) → values_settled d ls (more_phrases x xs) ≡ (relation_settled d ls x >>= λ r. values_settled d (entered d ls r ∷ ls) xs >>= λ zs. Ok (more_phrases r.0 zs.0, zs.1))
   value_turn x xs = relation_then x (λ r. values_settled d (entered d ls r ∷ ls) xs >>= λ zs. Ok (more_phrases r.0 zs.0, zs.1))
 
-  pub domain_turn : (single : Bool) (disjoint : Bool) (n : ℕ) (mark : Option Mark) (x : PhraseTree) (ds : DomainTrees)
+  pub domain_turn : (single : Bool) (disjoint : Bool) (n : ℕ) (mark : Option MultiplicityWord) (x : PhraseTree) (ds : DomainTrees)
       → domains_settled single d ls (more_domains disjoint n mark x ds)
       ≡ (domain_settled single d ls x >>= λ r. domains_settled single d (onto n (entered d ls r) ls) ds >>= λ zs. Ok (more_domains disjoint n mark r.0 zs.0, zs.1))
   domain_turn single disjoint n mark x ds =

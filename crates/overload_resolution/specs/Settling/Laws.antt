@@ -1,7 +1,7 @@
 -- What the laws say.
 use Rattle.std.specs.Prelude.{◌≡◌, ◌∷◌, ℕ, Bool, List, Option, Ok}
 use Rattle.alloy_lex.specs.declared.token.Place.{Place}
-use Rattle.alloy_syntax.specs.declared.tree.Mark.{Mark}
+use Rattle.alloy_syntax.specs.declared.tree.MultiplicityWord.{MultiplicityWord}
 use Rattle.alloy_syntax.specs.declared.tree.Operator.{Operator}
 use Rattle.named_model.specs.Answers.{◌>>=◌}
 use Rattle.named_model.specs.Phrase.{PhraseTree, PhraseTrees, more_phrases, LinkTrees, more_links, StepTree, StepTrees, step_first, DomainTrees, more_domains}
@@ -47,6 +47,6 @@ ValuesAreSettledInOrder =
 
 abbrev pub DomainsAreSettledInOrder : Type 0
 DomainsAreSettledInOrder =
-    (single : Bool) (d : Declared) (ls : List Local) (disjoint : Bool) (n : ℕ) (mark : Option Mark) (x : PhraseTree) (ds : DomainTrees)
+    (single : Bool) (d : Declared) (ls : List Local) (disjoint : Bool) (n : ℕ) (mark : Option MultiplicityWord) (x : PhraseTree) (ds : DomainTrees)
     → domains_settled single d ls (more_domains disjoint n mark x ds)
     ≡ (domain_settled single d ls x >>= λ r. domains_settled single d (onto n (entered d ls r) ls) ds >>= λ zs. Ok (more_domains disjoint n mark r.0 zs.0, zs.1))

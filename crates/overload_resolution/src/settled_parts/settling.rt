@@ -1,18 +1,20 @@
 // Parts.
-ghost use Rattle.std.specs.Prelude.{◌≡◌, List, [], map, length, true, option_map, OnOk, OnErr};
+ghost use Rattle.std.specs.Prelude.{◌≡◌, ◌||◌, List, [], map, length, true, option_map, OnOk, OnErr};
 ghost use Rattle.named_model.specs.Phrase as tree;
 ghost use Rattle.named_model.specs.Phrase.{links_of, steps_of, domains_of, no_steps};
 ghost use Rattle.named_model.specs.View.{phrase_view, phrases_view, link_view, step_view, domain_view};
+ghost use Rattle.model_types.specs.Sorts as sorts;
 ghost use Rattle.model_types.specs.Typing.{Local, settled, formulas_settled, arguments_settled, links_settled, steps_settled, domains_settled, values_settled, formula_from, type_in, tops_behind, ends_of};
 ghost use Rattle.model_types.specs.Parts.Kinds.{kind_view};
 ghost use Rattle.overload_resolution.specs.Names.Asking.{asks_in_links, asks_in_steps};
-ghost use Rattle.overload_resolution.specs.Names.Shared.{shared_among, shared_in_domains};
+ghost use Rattle.overload_resolution.specs.Names.Shared.{shared_in, shared_among, shared_in_domains};
 ghost use Rattle.overload_resolution.specs.Scopes.Declaring.{declared_by, AreTables};
 ghost use Rattle.overload_resolution.specs.Settling.Told.{Gives};
 ghost use Rattle.overload_resolution.specs.Scopes.Given.{settled_view};
 ghost use Rattle.overload_resolution.specs.Parts.Given.{GivesBehind, relation_view, IsGiven, IsGivenFirst, IsGivenBefore};
 ghost use Rattle.overload_resolution.specs.Parts.Views.{phrases_seen, arguments_view, linked_view, links_seen, stepped_view, steps_seen, bracketed_view, domains_seen};
 ghost use Rattle.overload_resolution.specs.Scopes.Zipped.{IsInside};
+ghost use Rattle.overload_resolution.specs.Settling.Rest.{chain_rest, path_rest, compared_rest, implies_rest, else_rest, quantified_rest, let_rest};
 ghost use Rattle.overload_resolution.specs.Settling.Single.{link_settled, connected, combined, step_settled, join_settled, brackets_settled, relation_settled, domain_settled, argument_asked, argument_first, tops_of};
 
 use crate::shared_fields::Tops;
@@ -26,7 +28,7 @@ use crate::typed_scopes::types::{
 };
 use crate::typed_scopes::{Scope, Setting};
 use alloy_lex::Place;
-use alloy_syntax::tree::Operator;
+use alloy_syntax::tree::{Comparing, Constant, Operator, Prefix, Quantifier};
 use model_types::TypeFault;
 use model_types::bounding_types::BoundingType;
 use model_types::part_sorts::Kind;
@@ -73,102 +75,383 @@ pub fn part(
 {
     match phrase {
         Phrase::Refers(place, referent) => {
-            Ok(referent_settled(setting, scope, tops, *place, *referent)?)
+            referent_settled(setting, scope, tops, *place, *referent)
         }
         Phrase::Called(place, number, phrases) => {
-            let arguments = all_arguments(alloc, setting, scope, phrases, None)?;
-            let kind = call_kind(*place, setting.headers.get(*number), &arguments.arities)?;
-            Ok((Phrase::Called(*place, *number, arguments.phrases), kind))
+            call(alloc, setting, scope, phrases, *place, *number)
         }
         Phrase::Numbered(number) => Ok((Phrase::Numbered(*number), Kind::Number)),
-        Phrase::Constant(constant, place) => {
-            let kind = Kind::Relation(constant_arity(*constant));
-            Ok((Phrase::Constant(*constant, *place), kind))
-        }
+        Phrase::Constant(constant, place) => Ok(constant_settled(*constant, *place)),
         Phrase::Bracketed(place, inner) => {
-            let (inner, kind) = part(alloc, setting, scope, tops, inner)?;
-            Ok((Phrase::Bracketed(*place, Box::new(alloc, inner)?), kind))
+            in_round_brackets(alloc, setting, scope, tops, inner, *place)
         }
-        Phrase::Block(place, phrases) => {
-            let phrases = formulas(alloc, setting, scope, phrases)?;
-            Ok((Phrase::Block(*place, phrases), Kind::Formula))
-        }
+        Phrase::Block(place, phrases) => block(alloc, setting, scope, phrases, *place),
         Phrase::Prefixed(prefix, place, inner) => {
-            let begins = first_place(inner);
-            let (inner, kind) = plain(alloc, setting, scope, inner)?;
-            let kind = prefix_kind(*prefix, *place, begins, kind)?;
-            Ok((
-                Phrase::Prefixed(*prefix, *place, Box::new(alloc, inner)?),
-                kind,
-            ))
+            prefixed(alloc, setting, scope, inner, *prefix, *place)
         }
         Phrase::Chain(first, links) => {
-            let begins = first_place(first);
-            let (first, kind) = plain(alloc, setting, scope, first)?;
-            let (others, kind) = behind(alloc, setting, scope, begins, kind, links, &first)?;
-            Ok((Phrase::Chain(Box::new(alloc, first)?, others), kind))
+            let settled = plain(alloc, setting, scope, first)?;
+            chain(alloc, setting, scope, links, first_place(first), settled)
         }
         Phrase::Path(head, steps) => {
-            let begins = first_place(head);
             let given = argument_asked(alloc, setting, scope, steps, head)?;
-            let (head, kind) = head_settled(alloc, setting, scope, head, &given)?;
-            let (others, kind) = after(alloc, setting, scope, begins, kind, steps, &head, given)?;
-            Ok((Phrase::Path(Box::new(alloc, head)?, others), kind))
+            let settled = head_settled(alloc, setting, scope, head, &given)?;
+            path(
+                alloc,
+                setting,
+                scope,
+                steps,
+                first_place(head),
+                settled,
+                given,
+            )
         }
         Phrase::Compared(left, comparing, right) => {
-            let (first, kind) = plain(alloc, setting, scope, left)?;
-            may_stand_left(comparing.comparison, first_place(left), kind)?;
-            let (second, other) = plain(alloc, setting, scope, right)?;
-            fits_left(comparing.place, first_place(right), kind, other)?;
-            let first = Box::new(alloc, first)?;
-            let second = Box::new(alloc, second)?;
-            Ok((Phrase::Compared(first, *comparing, second), Kind::Formula))
+            let settled = plain(alloc, setting, scope, left)?;
+            compared(
+                alloc,
+                setting,
+                scope,
+                right,
+                first_place(left),
+                settled,
+                *comparing,
+            )
         }
         Phrase::Implies(left, place, right) => {
-            let left = formula(alloc, setting, scope, left)?;
-            let right = formula(alloc, setting, scope, right)?;
-            let left = Box::new(alloc, left)?;
-            let right = Box::new(alloc, right)?;
-            Ok((Phrase::Implies(left, *place, right), Kind::Formula))
+            let premise = formula(alloc, setting, scope, left)?;
+            implied(alloc, setting, scope, right, premise, *place)
         }
         Phrase::ImpliesElse(left, place, right, other) => {
-            let left = formula(alloc, setting, scope, left)?;
-            let right = formula(alloc, setting, scope, right)?;
-            let other = formula(alloc, setting, scope, other)?;
-            let left = Box::new(alloc, left)?;
-            let right = Box::new(alloc, right)?;
-            let other = Box::new(alloc, other)?;
-            Ok((
-                Phrase::ImpliesElse(left, *place, right, other),
-                Kind::Formula,
-            ))
+            let premise = formula(alloc, setting, scope, left)?;
+            let second = formula(alloc, setting, scope, right)?;
+            or_else(alloc, setting, scope, other, premise, *place, second)
         }
         Phrase::Quantified(quantifier, place, variables, inner) => {
             let depth = scope.locals.depth();
-            let asked = is_in_domains(variables) || is_in(inner);
-            let variables = domains(alloc, setting, scope, true, asked, variables);
-            let variables = left_at_a_fault(scope, depth, variables)?;
-            let inner = formula(alloc, setting, scope, inner);
-            leave_until(scope, depth);
-            let inner = inner?;
-            let inner = Box::new(alloc, inner)?;
-            Ok((
-                Phrase::Quantified(*quantifier, *place, variables, inner),
-                Kind::Formula,
-            ))
+            let asked = asks_quantified(variables, inner);
+            let others = variables_entered(alloc, setting, scope, asked, variables)?;
+            quantified(
+                alloc,
+                setting,
+                scope,
+                inner,
+                depth,
+                *quantifier,
+                *place,
+                others,
+            )
         }
         Phrase::Let(place, phrases, inner) => {
             let depth = scope.locals.depth();
-            let asked = is_among(phrases) || is_in(inner);
-            let values = values(alloc, setting, scope, asked, phrases);
-            let values = left_at_a_fault(scope, depth, values)?;
-            let inner = formula(alloc, setting, scope, inner);
-            leave_until(scope, depth);
-            let inner = inner?;
-            let inner = Box::new(alloc, inner)?;
-            Ok((Phrase::Let(*place, values, inner), Kind::Formula))
+            let asked = asks_let(phrases, inner);
+            let others = values_entered(alloc, setting, scope, asked, phrases)?;
+            inside_let(alloc, setting, scope, inner, depth, *place, others)
         }
     }
+}
+
+// Whether a name of several fields stands in the domains of a quantifier or in what stands inside it.
+fn asks_quantified(variables: &[Domain], inner: &Phrase) -> bool
+    ensures { result ≡ shared_in_domains (domains_of (map domain_view variables.now)) || shared_in (phrase_view inner.now) }
+{
+    is_in_domains(variables) || is_in(inner)
+}
+
+// The same of the values of a `let`.
+fn asks_let(phrases: &[Phrase], inner: &Phrase) -> bool
+    ensures { result ≡ shared_among (phrases_view phrases.now) || shared_in (phrase_view inner.now) }
+{
+    is_among(phrases) || is_in(inner)
+}
+
+fn constant_settled(constant: Constant, place: Place) -> (Phrase, Kind)
+    ensures { settled_view result ≡ record { tree = tree.constant constant place; kind = sorts.relation (sorts.constant_arity constant) } }
+{
+    let kind = Kind::Relation(constant_arity(constant));
+    (Phrase::Constant(constant, place), kind)
+}
+
+// A call with its arguments.
+#[cycle(parts)]
+fn call(
+    alloc: Global,
+    setting: &Setting,
+    scope: &mut Scope,
+    phrases: &[Phrase],
+    place: Place,
+    number: usize,
+) -> Result<(Phrase, Kind), TypeFault>
+    requires { AreTables setting.now }
+    ensures value { Gives settled_view result (settled (declared_by setting.now) scope.old.locals [] (tree.called place number (phrases_view phrases.now))) }
+    ensures locals { scope.new.locals ≡ scope.old.locals }
+{
+    let arguments = all_arguments(alloc, setting, scope, phrases, None)?;
+    let kind = call_kind(place, setting.headers.get(number), &arguments.arities)?;
+    Ok((Phrase::Called(place, number, arguments.phrases), kind))
+}
+
+#[cycle(parts)]
+fn in_round_brackets(
+    alloc: Global,
+    setting: &Setting,
+    scope: &mut Scope,
+    tops: &Tops,
+    inner: &Phrase,
+    place: Place,
+) -> Result<(Phrase, Kind), TypeFault>
+    requires { AreTables setting.now }
+    ensures value { Gives settled_view result (settled (declared_by setting.now) scope.old.locals tops.now (tree.bracketed place (phrase_view inner.now))) }
+    ensures locals { scope.new.locals ≡ scope.old.locals }
+{
+    let (inner, kind) = part(alloc, setting, scope, tops, inner)?;
+    Ok((Phrase::Bracketed(place, Box::new(alloc, inner)?), kind))
+}
+
+#[cycle(parts)]
+fn block(
+    alloc: Global,
+    setting: &Setting,
+    scope: &mut Scope,
+    phrases: &[Phrase],
+    place: Place,
+) -> Result<(Phrase, Kind), TypeFault>
+    requires { AreTables setting.now }
+    ensures value { Gives settled_view result (settled (declared_by setting.now) scope.old.locals [] (tree.block place (phrases_view phrases.now))) }
+    ensures locals { scope.new.locals ≡ scope.old.locals }
+{
+    let phrases = formulas(alloc, setting, scope, phrases)?;
+    Ok((Phrase::Block(place, phrases), Kind::Formula))
+}
+
+#[cycle(parts)]
+fn prefixed(
+    alloc: Global,
+    setting: &Setting,
+    scope: &mut Scope,
+    phrase: &Phrase,
+    prefix: Prefix,
+    place: Place,
+) -> Result<(Phrase, Kind), TypeFault>
+    requires { AreTables setting.now }
+    ensures value { Gives settled_view result (settled (declared_by setting.now) scope.old.locals [] (tree.prefixed prefix place (phrase_view phrase.now))) }
+    ensures locals { scope.new.locals ≡ scope.old.locals }
+{
+    let (inner, kind) = plain(alloc, setting, scope, phrase)?;
+    let kind = prefix_kind(prefix, place, first_place(phrase), kind)?;
+    let inner = Box::new(alloc, inner)?;
+    Ok((Phrase::Prefixed(prefix, place, inner), kind))
+}
+
+// A chain whose first operand is settled.
+#[cycle(parts)]
+fn chain(
+    alloc: Global,
+    setting: &Setting,
+    scope: &mut Scope,
+    links: &[Link],
+    left: Place,
+    first: (Phrase, Kind),
+) -> Result<(Phrase, Kind), TypeFault>
+    requires { AreTables setting.now }
+    ensures value { Gives settled_view result (chain_rest (declared_by setting.now) scope.old.locals left (settled_view first) (links_of (map link_view links.now))) }
+    ensures locals { scope.new.locals ≡ scope.old.locals }
+{
+    let (first, kind) = first;
+    let (others, kind) = behind(alloc, setting, scope, left, kind, links, &first)?;
+    Ok((Phrase::Chain(Box::new(alloc, first)?, others), kind))
+}
+
+// A path whose head is settled, with the first argument that the head asked for.
+#[cycle(parts)]
+fn path(
+    alloc: Global,
+    setting: &Setting,
+    scope: &mut Scope,
+    steps: &[Step],
+    left: Place,
+    head: (Phrase, Kind),
+    given: Option<(Phrase, Kind)>,
+) -> Result<(Phrase, Kind), TypeFault>
+    requires tables { AreTables setting.now }
+    requires given { IsGivenBefore (declared_by setting.now) scope.old.locals given (steps_of (map step_view steps.now)) }
+    ensures value { Gives settled_view result (path_rest (declared_by setting.now) scope.old.locals left (settled_view head) (steps_of (map step_view steps.now))) }
+    ensures locals { scope.new.locals ≡ scope.old.locals }
+{
+    let (head, kind) = head;
+    let (others, kind) = after(alloc, setting, scope, left, kind, steps, &head, given)?;
+    Ok((Phrase::Path(Box::new(alloc, head)?, others), kind))
+}
+
+// A comparison whose left side is settled.
+#[cycle(parts)]
+fn compared(
+    alloc: Global,
+    setting: &Setting,
+    scope: &mut Scope,
+    right: &Phrase,
+    left: Place,
+    first: (Phrase, Kind),
+    comparing: Comparing,
+) -> Result<(Phrase, Kind), TypeFault>
+    requires { AreTables setting.now }
+    ensures value { Gives settled_view result (compared_rest (declared_by setting.now) scope.old.locals left (settled_view first) comparing (phrase_view right.now)) }
+    ensures locals { scope.new.locals ≡ scope.old.locals }
+{
+    let (first, kind) = first;
+    may_stand_left(comparing.comparison, left, kind)?;
+    let (second, other) = plain(alloc, setting, scope, right)?;
+    fits_left(comparing.place, first_place(right), kind, other)?;
+    let first = Box::new(alloc, first)?;
+    let second = Box::new(alloc, second)?;
+    Ok((Phrase::Compared(first, comparing, second), Kind::Formula))
+}
+
+// An implication whose premise is settled.
+#[cycle(parts)]
+fn implied(
+    alloc: Global,
+    setting: &Setting,
+    scope: &mut Scope,
+    right: &Phrase,
+    premise: Phrase,
+    place: Place,
+) -> Result<(Phrase, Kind), TypeFault>
+    requires { AreTables setting.now }
+    ensures value { Gives settled_view result (implies_rest (declared_by setting.now) scope.old.locals (phrase_view premise) place (phrase_view right.now)) }
+    ensures locals { scope.new.locals ≡ scope.old.locals }
+{
+    let right = formula(alloc, setting, scope, right)?;
+    let premise = Box::new(alloc, premise)?;
+    let right = Box::new(alloc, right)?;
+    Ok((Phrase::Implies(premise, place, right), Kind::Formula))
+}
+
+// The same with a part behind `else`, which alone isn't settled yet.
+#[cycle(parts)]
+fn or_else(
+    alloc: Global,
+    setting: &Setting,
+    scope: &mut Scope,
+    other: &Phrase,
+    premise: Phrase,
+    place: Place,
+    second: Phrase,
+) -> Result<(Phrase, Kind), TypeFault>
+    requires { AreTables setting.now }
+    ensures value { Gives settled_view result (else_rest (declared_by setting.now) scope.old.locals (phrase_view premise) place (phrase_view second) (phrase_view other.now)) }
+    ensures locals { scope.new.locals ≡ scope.old.locals }
+{
+    let other = formula(alloc, setting, scope, other)?;
+    let premise = Box::new(alloc, premise)?;
+    let second = Box::new(alloc, second)?;
+    let other = Box::new(alloc, other)?;
+    Ok((
+        Phrase::ImpliesElse(premise, place, second, other),
+        Kind::Formula,
+    ))
+}
+
+// The variables of a quantifier, which are entered. At a fault the local names are as before.
+#[cycle(parts)]
+fn variables_entered(
+    alloc: Global,
+    setting: &Setting,
+    scope: &mut Scope,
+    asked: bool,
+    variables: &[Domain],
+) -> Result<Vec<Domain>, TypeFault>
+    requires tables { AreTables setting.now }
+    requires asked { shared_in_domains (domains_of (map domain_view variables.now)) ≡ true → asked ≡ true }
+    ensures value { GivesBehind asked domains_seen result scope.new.locals (domains_settled true (declared_by setting.now) scope.old.locals (domains_of (map domain_view variables.now))) }
+    ensures inside { IsInside scope.new.locals scope.old.locals }
+    ensures err { OnErr result (scope.new.locals ≡ scope.old.locals) }
+{
+    let depth = scope.locals.depth();
+    let made = domains(alloc, setting, scope, true, asked, variables);
+    left_at_a_fault(scope, depth, made)
+}
+
+// A part that has to be a formula, inside local names. These are left, until so many are left.
+#[cycle(parts)]
+fn formula_inside(
+    alloc: Global,
+    setting: &Setting,
+    scope: &mut Scope,
+    phrase: &Phrase,
+    depth: usize,
+) -> Result<Phrase, TypeFault>
+    requires { AreTables setting.now }
+    ensures value { Gives phrase_view result (formula_from (phrase_view phrase.now) (settled (declared_by setting.now) scope.old.locals [] (phrase_view phrase.now))) }
+    ensures locals { (outer : List Local) → IsInside scope.old.locals outer → length outer ≡ depth → scope.new.locals ≡ outer }
+{
+    let settled = formula(alloc, setting, scope, phrase);
+    leave_until(scope, depth);
+    settled
+}
+
+// A quantifier whose variables are settled and entered. These are left, until so many local names are left.
+#[cycle(parts)]
+fn quantified(
+    alloc: Global,
+    setting: &Setting,
+    scope: &mut Scope,
+    phrase: &Phrase,
+    depth: usize,
+    quantifier: Quantifier,
+    place: Place,
+    variables: Vec<Domain>,
+) -> Result<(Phrase, Kind), TypeFault>
+    requires { AreTables setting.now }
+    ensures value { Gives settled_view result (quantified_rest (declared_by setting.now) scope.old.locals quantifier place (domains_seen variables) (phrase_view phrase.now)) }
+    ensures locals { (outer : List Local) → IsInside scope.old.locals outer → length outer ≡ depth → scope.new.locals ≡ outer }
+{
+    let inner = formula_inside(alloc, setting, scope, phrase, depth)?;
+    let inner = Box::new(alloc, inner)?;
+    Ok((
+        Phrase::Quantified(quantifier, place, variables, inner),
+        Kind::Formula,
+    ))
+}
+
+// The values of the names of a `let`, which are entered. At a fault the local names are as before.
+#[cycle(parts)]
+fn values_entered(
+    alloc: Global,
+    setting: &Setting,
+    scope: &mut Scope,
+    asked: bool,
+    phrases: &[Phrase],
+) -> Result<Vec<Phrase>, TypeFault>
+    requires tables { AreTables setting.now }
+    requires asked { shared_among (phrases_view phrases.now) ≡ true → asked ≡ true }
+    ensures value { GivesBehind asked phrases_seen result scope.new.locals (values_settled (declared_by setting.now) scope.old.locals (phrases_view phrases.now)) }
+    ensures inside { IsInside scope.new.locals scope.old.locals }
+    ensures err { OnErr result (scope.new.locals ≡ scope.old.locals) }
+{
+    let depth = scope.locals.depth();
+    let made = values(alloc, setting, scope, asked, phrases);
+    left_at_a_fault(scope, depth, made)
+}
+
+// A `let` whose values are settled and entered. These are left, until so many local names are left.
+#[cycle(parts)]
+fn inside_let(
+    alloc: Global,
+    setting: &Setting,
+    scope: &mut Scope,
+    phrase: &Phrase,
+    depth: usize,
+    place: Place,
+    values: Vec<Phrase>,
+) -> Result<(Phrase, Kind), TypeFault>
+    requires { AreTables setting.now }
+    ensures value { Gives settled_view result (let_rest (declared_by setting.now) scope.old.locals place (phrases_seen values) (phrase_view phrase.now)) }
+    ensures locals { (outer : List Local) → IsInside scope.old.locals outer → length outer ≡ depth → scope.new.locals ≡ outer }
+{
+    let inner = formula_inside(alloc, setting, scope, phrase, depth)?;
+    let inner = Box::new(alloc, inner)?;
+    Ok((Phrase::Let(place, values, inner), Kind::Formula))
 }
 
 // A part in whose place no shared name can stand.

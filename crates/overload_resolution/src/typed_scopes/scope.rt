@@ -95,7 +95,7 @@ impl Scope {
     /// Without local names.
     pub fn new(alloc: Global) -> Scope
         ensures locals { result.locals ≡ [] }
-        ensures work { result.work.left ≡ 2 ^ 28 }
+        ensures work { result.work.left ≡ 2 ^ 21 }
     {
         Scope {
             locals: Locals::new(alloc),

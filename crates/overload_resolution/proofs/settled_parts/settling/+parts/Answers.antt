@@ -1,4 +1,4 @@
-use Rattle.std.proofs.Common.{◌≡◌, rules, ◌+◌, ◌||◌, Bool, Result, List, [], map, drop, ap, ◌∙◌, sym, subst, refl, Ok, Err, inr, Bor, Vec, Global}
+use Rattle.std.proofs.Common.{true, rules, ◌+◌, ◌||◌, List, [], map, drop, ap, ◌∙◌, sym, subst, refl, Ok, Err, inr, Bor, Vec, Global}
 use denote.Param.Weighed.{at_most}
 use Rattle.std.specs.Option.{option_copied, option_map}
 use Rattle.std.proofs.lemmas.Result.{err_from_is_err_and}
@@ -10,11 +10,8 @@ use Rattle.named_model.specs.Phrase.{links_of, steps_of, domains_of, no_steps}
 use Rattle.named_model.specs.View.{phrase_view, phrases_view, link_view, step_view, domain_view}
 use Rattle.model_types.specs.Typing.{Local, type_in, links_settled, steps_settled, domains_settled, values_settled, tops_behind, ends_of}
 use Rattle.model_types.specs.Parts.Kinds.{kind_view}
-use Rattle.model_types.specs.declared.fault.TypeFault.{TypeFault}
-use Rattle.overload_resolution.specs.Settling.Inside.{AreAlikeWhere}
 use Rattle.overload_resolution.specs.Settling.Told.{Gives}
 use Rattle.overload_resolution.specs.Settling.Single.{argument_first}
-use Rattle.overload_resolution.proofs.Settling.SharedDeclarations.{asks_left}
 use Rattle.overload_resolution.specs.declared.shared_names.headers.Header.{Header}
 use Rattle.overload_resolution.specs.Settling.Same.{Asks}
 use Rattle.overload_resolution.specs.Names.Shared.{shared_in, shared_among, shared_in_domains}
@@ -25,15 +22,14 @@ use Rattle.overload_resolution.specs.Scopes.Declaring.{declared_by}
 use Rattle.overload_resolution.specs.Scopes.Given.{settled_view}
 use Rattle.overload_resolution.proofs.Scopes.Standing.{same_types}
 use Rattle.overload_resolution.specs.Scopes.Zipped.{IsInside}
-use Rattle.overload_resolution.specs.Parts.Given.{GivesBehind, IsGiven, IsGivenFirst, IsGivenBefore}
+use Rattle.overload_resolution.specs.Parts.Given.{IsGiven, IsGivenFirst, IsGivenBefore}
 use Rattle.overload_resolution.specs.Parts.Views.{phrases_seen, domains_seen, links_seen, steps_seen}
 use Rattle.overload_resolution.proofs.Parts.Lists.{ArgumentsFound, formula_start, formula_more, formula_fault, formula_all, given_here, argument_start, argument_more, argument_fault, argument_all}
 use Rattle.overload_resolution.proofs.Parts.Operands.{links_ask, operand_start, operand_more, operand_fault, operand_all, steps_ask, given_step, none_given, step_start, step_more, step_fault, step_all}
 use Rattle.overload_resolution.proofs.Parts.Entered.{behind_start, domains_ask, values_ask, domain_more, domain_fault, domain_all, value_more, value_fault, value_all, inside_then}
 use Rattle.overload_resolution.proofs.Parts.PathHeads.{settled_by, brackets_come, join_comes, join_seen, given_brackets}
 use Rattle.overload_resolution.proofs.Parts.Arms.{head_by, asked_brackets, asked_join, join_stepped}
-use Rattle.overload_resolution.proofs.Parts.WalkedParts.{asks_then, asks_else, entry_read, call_fault, call_is, steps_fault, steps_are, body_fault, body_is, let_body_fault, let_body_is}
-use Rattle.overload_resolution.proofs.settled_parts.settling.+parts.Goals.{part-then-is_in_domains, part-else-is_in_domains, part-then-is_among, part-else-is_among}
+use Rattle.overload_resolution.proofs.Parts.WalkedParts.{asks_either, asks_first, entry_read, call_fault, call_is, entered_unless, left_unless, inside_unless, refers_given, call_given, constant_given, brackets_given, block_given, prefixed_given, chain_given, path_given, path_told, compared_given, implied_given, else_given, quantified_given, let_given}
 use Rattle.overload_resolution.proofs.settled_parts.settling.+parts.Goals as goal
 
 pub formulas-loop-phrase-init : goal.formulas-loop-phrase-init
@@ -398,157 +394,164 @@ head_settled-returns-in_ok-tops-in-Some-clause-value t c =
     (head_by d ls c.type_inside.new.scope.locals c.args.given.now c.in-Some.argument c.in_ok-of-in-Some.of c.in_ok-tops-in-Some.tops (phrase_view c.args.head.now) c.in_ok-of-in-Some.ensures.locals c.in-Some.is c.in_ok-of-in-Some.ensures.value c.in_ok-tops-in-Some.ensures)
     c.part.ensures.value
 
--- what was entered where there was no fault
-entered_behind : {X Y : Type 0} (asked : Bool) (see : X → Y) (made : Result X TypeFault) (x : X) (new now : List Local) (whole : Result (Y × List Local) TypeFault)
-    → Ok x ≡ made → now ≡ new → GivesBehind asked see made new whole → (behind : List Local) × (whole ≡ Ok (see x, behind)) × AreAlikeWhere asked now behind
-entered_behind asked see made x new now whole is same gives =
-    let at : GivesBehind asked see (Ok x) new whole = subst (λ r. GivesBehind asked see r new whole) (sym is) gives in
-    (at.0, at.1, subst (λ (ls : List Local). AreAlikeWhere asked ls at.0) (sym same) at.2)
+pub variables_entered-returns-clause-value : goal.variables_entered-returns-clause-value
+variables_entered-returns-clause-value t c =
+    entered_unless c.args.asked domains_seen c.left_at_a_fault.new.scope.locals c.domains-made.new.scope.locals (domains_settled true (declared_by c.args.setting.now) c.args.scope.now.locals (domains_of (map domain_view c.args.variables.now)))
+    c.left_at_a_fault.result c.domains-made.result c.left_at_a_fault.ensures.made c.left_at_a_fault.ensures.ok c.domains-made.ensures.value
 
-pub part-domains-variables-requires : goal.part-domains-variables-requires
-part-domains-variables-requires t c =
-    let asked = c.if-is_in_domains.asked in
-    let test = shared_in_domains (domains_of (map domain_view c.in-Quantified.variables.items)) in
-    let other = shared_in (phrase_view c.in-Quantified.inner.value) in
-    let asks : Asks (test || other) asked = elim c.if-is_in_domains.branch [
-      | part-then-is_in_domains w ↦ asks_then test other asked (w.asked-is ∙ w.if-is_in_domains.true)
-      | part-else-is_in_domains w ↦
-          asks_else test other asked (w.asked-is ∙ w.is_in-asked.ensures ∙ ap (λ (y : Phrase). shared_in (phrase_view y)) w.deref-else-is_in_domains.ensures)
-          (w.if-is_in_domains.ensures ∙ ap (λ (vs : List Domain). shared_in_domains (domains_of (map domain_view vs))) c.deref-in-Quantified.ensures.value)
-    ] in (
+pub values_entered-returns-clause-value : goal.values_entered-returns-clause-value
+values_entered-returns-clause-value t c =
+    entered_unless c.args.asked phrases_seen c.left_at_a_fault.new.scope.locals c.values-made.new.scope.locals (values_settled (declared_by c.args.setting.now) c.args.scope.now.locals (phrases_view c.args.phrases.now))
+    c.left_at_a_fault.result c.values-made.result c.left_at_a_fault.ensures.made c.left_at_a_fault.ensures.ok c.values-made.ensures.value
+
+pub variables_entered-returns-clause-err : goal.variables_entered-returns-clause-err
+variables_entered-returns-clause-err t c =
+    left_unless c.left_at_a_fault.result c.depth-depth.result c.left_at_a_fault.new.scope.locals c.domains-made.new.scope.locals c.args.scope.now.locals c.left_at_a_fault.ensures.err c.domains-made.ensures.inside (sym c.depth-depth.ensures)
+
+pub variables_entered-returns-clause-inside : goal.variables_entered-returns-clause-inside
+variables_entered-returns-clause-inside t c =
+    inside_unless c.left_at_a_fault.result c.depth-depth.result c.left_at_a_fault.new.scope.locals c.domains-made.new.scope.locals c.args.scope.now.locals c.left_at_a_fault.ensures.ok c.left_at_a_fault.ensures.err c.domains-made.ensures.inside (sym c.depth-depth.ensures)
+
+pub values_entered-returns-clause-err : goal.values_entered-returns-clause-err
+values_entered-returns-clause-err t c =
+    left_unless c.left_at_a_fault.result c.depth-depth.result c.left_at_a_fault.new.scope.locals c.values-made.new.scope.locals c.args.scope.now.locals c.left_at_a_fault.ensures.err c.values-made.ensures.inside (sym c.depth-depth.ensures)
+
+pub values_entered-returns-clause-inside : goal.values_entered-returns-clause-inside
+values_entered-returns-clause-inside t c =
+    inside_unless c.left_at_a_fault.result c.depth-depth.result c.left_at_a_fault.new.scope.locals c.values-made.new.scope.locals c.args.scope.now.locals c.left_at_a_fault.ensures.ok c.left_at_a_fault.ensures.err c.values-made.ensures.inside (sym c.depth-depth.ensures)
+
+pub formula_inside-returns-clause-locals : goal.formula_inside-returns-clause-locals
+formula_inside-returns-clause-locals t c = λ outer is few. c.leave_until.ensures.left is.0 outer (c.formula-settled.ensures.locals ∙ is.1) few
+
+pub call-returns-in_err-kind-clause-value : goal.call-returns-in_err-kind-clause-value
+call-returns-in_err-kind-clause-value t c =
+    let s = c.args.setting.now in
+    let e = c.in_err-kind.field-0.0 in
+    let p = err_from_is_err_and c.from_residual-in_err-kind.result c.from_residual-in_err-kind.ensures.1 in
+    rw (p.1, p.2) (inr (call_fault s c.args.scope.now.locals c.args.place c.args.number c.args.phrases.now c.in_ok-arguments.arguments
+    c.in_ok-arguments.ensures.value c.deref.result.now c.deref.ensures.value (option_copied c.get.result) (entry_read (λ (x : Bor Header). x.now) c.deref.result.now c.args.number c.get.result c.get.ensures.lookup.1 c.get.ensures.lookup.3)
+    c.deref-2.result.now c.deref-2.ensures.value (Err e) c.in_err-kind.ensures e refl))
+
+pub call-returns-clause-value : goal.call-returns-clause-value
+call-returns-clause-value t c =
+    let s = c.args.setting.now in
+    let k = c.in_ok-kind.kind in
+    call_is s c.args.scope.now.locals c.args.place c.args.number c.args.phrases.now c.in_ok-arguments.arguments
+    c.in_ok-arguments.ensures.value c.deref.result.now c.deref.ensures.value (option_copied c.get.result) (entry_read (λ (x : Bor Header). x.now) c.deref.result.now c.args.number c.get.result c.get.ensures.lookup.1 c.get.ensures.lookup.3)
+    c.deref-2.result.now c.deref-2.ensures.value (Ok (kind_view k)) c.in_ok-kind.ensures k refl
+
+pub part-returns-in-Refers-clause-value : goal.part-returns-in-Refers-clause-value
+part-returns-in-Refers-clause-value t c =
+    refers_given (declared_by c.args.setting.now) c.args.scope.now.locals c.args.tops.now c.args.phrase.now c.referent_settled.result c.in-Refers.place c.in-Refers.referent c.in-Refers.is c.referent_settled.ensures
+
+pub part-returns-in-Called-clause-value : goal.part-returns-in-Called-clause-value
+part-returns-in-Called-clause-value t c =
+    call_given (declared_by c.args.setting.now) c.args.scope.now.locals c.args.tops.now c.args.phrase.now c.call.result c.in-Called.place c.in-Called.number c.in-Called.phrases c.deref.result.now c.in-Called.is c.deref.ensures.value c.call.ensures.value
+
+pub part-returns-in-Constant-clause-value : goal.part-returns-in-Constant-clause-value
+part-returns-in-Constant-clause-value t c =
+    constant_given (declared_by c.args.setting.now) c.args.scope.now.locals c.args.tops.now c.args.phrase.now (Ok c.constant_settled.result) c.in-Constant.constant c.in-Constant.place c.constant_settled.result c.in-Constant.is c.constant_settled.ensures
+
+pub part-returns-in-Bracketed-clause-value : goal.part-returns-in-Bracketed-clause-value
+part-returns-in-Bracketed-clause-value t c =
+    brackets_given (declared_by c.args.setting.now) c.args.scope.now.locals c.args.tops.now c.args.phrase.now c.in_round_brackets.result c.in-Bracketed.place c.in-Bracketed.inner c.deref-in-Bracketed.result.now c.in-Bracketed.is c.deref-in-Bracketed.ensures c.in_round_brackets.ensures.value
+
+pub part-returns-in-Block-clause-value : goal.part-returns-in-Block-clause-value
+part-returns-in-Block-clause-value t c =
+    block_given (declared_by c.args.setting.now) c.args.scope.now.locals c.args.tops.now c.args.phrase.now c.block.result c.in-Block.place c.in-Block.phrases c.deref-in-Block.result.now c.in-Block.is c.deref-in-Block.ensures.value c.block.ensures.value
+
+pub part-returns-in-Prefixed-clause-value : goal.part-returns-in-Prefixed-clause-value
+part-returns-in-Prefixed-clause-value t c =
+    prefixed_given (declared_by c.args.setting.now) c.args.scope.now.locals c.args.tops.now c.args.phrase.now c.prefixed.result c.in-Prefixed.prefix c.in-Prefixed.place c.in-Prefixed.inner c.deref-in-Prefixed.result.now c.in-Prefixed.is c.deref-in-Prefixed.ensures c.prefixed.ensures.value
+
+pub part-returns-in_ok-settled-in-Chain-clause-value : goal.part-returns-in_ok-settled-in-Chain-clause-value
+part-returns-in_ok-settled-in-Chain-clause-value t c =
+    chain_given (declared_by c.args.setting.now) c.args.scope.now.locals c.args.tops.now c.args.phrase.now c.chain.result c.in-Chain.first c.in-Chain.links c.deref-in-Chain.result.now c.deref-in-Chain-3.result.now c.deref-in-Chain-2.result.now
+    c.plain.new.scope.locals c.first_place.result c.in_ok-settled-in-Chain.settled c.in-Chain.is c.deref-in-Chain.ensures c.deref-in-Chain-3.ensures c.deref-in-Chain-2.ensures.value c.in_ok-settled-in-Chain.ensures.value c.in_ok-settled-in-Chain.ensures.locals
+    c.first_place.ensures c.chain.ensures.value
+
+pub part-returns-in_ok-settled-in-Path-clause-value : goal.part-returns-in_ok-settled-in-Path-clause-value
+part-returns-in_ok-settled-in-Path-clause-value t c =
+    path_given (declared_by c.args.setting.now) c.args.scope.now.locals c.args.tops.now c.args.phrase.now c.path.result c.in-Path.head c.in-Path.steps c.deref-in-Path-2.result.now c.deref-in-Path-3.result.now c.deref-in-Path-5.result.now
+    c.deref-in-Path.result.now c.deref-in-Path-4.result.now c.argument_asked.new.scope.locals c.head_settled.new.scope.locals c.first_place-in-Path.result c.in_ok-given-in-Path.given c.in_ok-settled-in-Path.settled
+    c.in-Path.is c.deref-in-Path-2.ensures c.deref-in-Path-3.ensures c.deref-in-Path-5.ensures c.deref-in-Path.ensures.value c.deref-in-Path-4.ensures.value c.in_ok-given-in-Path.ensures.value c.in_ok-given-in-Path.ensures.locals
+    c.in_ok-settled-in-Path.ensures.value c.in_ok-settled-in-Path.ensures.locals c.first_place-in-Path.ensures c.path.ensures.value
+
+pub part-returns-in_err-settled-in-Path-clause-value : goal.part-returns-in_err-settled-in-Path-clause-value
+part-returns-in_err-settled-in-Path-clause-value t c =
+    let p = err_from_is_err_and c.from_residual-in_err-settled-in-Path.result c.from_residual-in_err-settled-in-Path.ensures.1 in
+    rw (p.1, p.2) (path_told (declared_by c.args.setting.now) c.args.scope.now.locals c.args.tops.now c.args.phrase.now c.from_residual-in_err-settled-in-Path.result c.in-Path.head c.in-Path.steps c.deref-in-Path-2.result.now c.deref-in-Path-3.result.now c.deref-in-Path.result.now
+    c.argument_asked.new.scope.locals c.in_ok-given-in-Path.given c.in-Path.is c.deref-in-Path-2.ensures c.deref-in-Path-3.ensures c.deref-in-Path.ensures.value c.in_ok-given-in-Path.ensures.value c.in_ok-given-in-Path.ensures.locals
+    c.in_err-settled-in-Path.field-0.0 c.in_err-settled-in-Path.ensures.value)
+
+pub part-returns-in_ok-settled-in-Compared-clause-value : goal.part-returns-in_ok-settled-in-Compared-clause-value
+part-returns-in_ok-settled-in-Compared-clause-value t c =
+    compared_given (declared_by c.args.setting.now) c.args.scope.now.locals c.args.tops.now c.args.phrase.now c.compared.result c.in-Compared.left c.in-Compared.right c.in-Compared.comparing c.deref-in-Compared.result.now c.deref-in-Compared-3.result.now c.deref-in-Compared-2.result.now
+    c.plain-in-Compared.new.scope.locals c.first_place-in-Compared.result c.in_ok-settled-in-Compared.settled c.in-Compared.is c.deref-in-Compared.ensures c.deref-in-Compared-3.ensures c.deref-in-Compared-2.ensures c.in_ok-settled-in-Compared.ensures.value
+    c.in_ok-settled-in-Compared.ensures.locals c.first_place-in-Compared.ensures c.compared.ensures.value
+
+pub part-returns-in_ok-premise-in-Implies-clause-value : goal.part-returns-in_ok-premise-in-Implies-clause-value
+part-returns-in_ok-premise-in-Implies-clause-value t c =
+    implied_given (declared_by c.args.setting.now) c.args.scope.now.locals c.args.tops.now c.args.phrase.now c.implied.result c.in-Implies.left c.in-Implies.right c.in-Implies.place c.deref-in-Implies.result.now c.deref-in-Implies-2.result.now
+    c.formula.new.scope.locals c.in_ok-premise-in-Implies.premise c.in-Implies.is c.deref-in-Implies.ensures c.deref-in-Implies-2.ensures c.in_ok-premise-in-Implies.ensures.value c.in_ok-premise-in-Implies.ensures.locals c.implied.ensures.value
+
+pub part-returns-in_ok-second-in-ImpliesElse-clause-value : goal.part-returns-in_ok-second-in-ImpliesElse-clause-value
+part-returns-in_ok-second-in-ImpliesElse-clause-value t c =
+    else_given (declared_by c.args.setting.now) c.args.scope.now.locals c.args.tops.now c.args.phrase.now c.or_else.result c.in-ImpliesElse.left c.in-ImpliesElse.right c.in-ImpliesElse.other c.in-ImpliesElse.place
+    c.deref-in-ImpliesElse.result.now c.deref-in-ImpliesElse-2.result.now c.deref-in-ImpliesElse-3.result.now c.formula-in-ImpliesElse.new.scope.locals c.formula-in-ImpliesElse-2.new.scope.locals c.in_ok-premise-in-ImpliesElse.premise c.in_ok-second-in-ImpliesElse.second
+    c.in-ImpliesElse.is c.deref-in-ImpliesElse.ensures c.deref-in-ImpliesElse-2.ensures c.deref-in-ImpliesElse-3.ensures c.in_ok-premise-in-ImpliesElse.ensures.value c.in_ok-premise-in-ImpliesElse.ensures.locals
+    c.in_ok-second-in-ImpliesElse.ensures.value c.in_ok-second-in-ImpliesElse.ensures.locals c.or_else.ensures.value
+
+pub part-variables_entered-requires : goal.part-variables_entered-requires
+part-variables_entered-requires t c =
+    let asked = c.asks_quantified-asked.result in
+    let test = shared_in_domains (domains_of (map domain_view c.deref-in-Quantified.result.now)) in
+    let other = shared_in (phrase_view c.deref-in-Quantified-2.result.now) in (
       search (rules, the_lemmas, at_most),
       (
         c.requires,
-        subst (λ (vs : List Domain). Asks (shared_in_domains (domains_of (map domain_view vs))) asked) (sym c.deref-in-Quantified-2.ensures.value) (asks_left test other asked asks),
+        subst (λ (vs : List Domain). Asks (shared_in_domains (domains_of (map domain_view vs))) asked) (c.deref-in-Quantified.ensures.value ∙ sym c.deref-in-Quantified-3.ensures.value) (asks_first test other asked c.asks_quantified-asked.ensures),
       ),
     )
 
-pub part-values-values-requires : goal.part-values-values-requires
-part-values-values-requires t c =
-    let asked = c.if-is_among.asked in
-    let test = shared_among (phrases_view c.in-Let.phrases.items) in
-    let other = shared_in (phrase_view c.in-Let.inner.value) in
-    let asks : Asks (test || other) asked = elim c.if-is_among.branch [
-      | part-then-is_among w ↦ asks_then test other asked (w.asked-is ∙ w.if-is_among.true)
-      | part-else-is_among w ↦
-          asks_else test other asked (w.asked-is ∙ w.is_in-asked-else-is_among.ensures ∙ ap (λ (y : Phrase). shared_in (phrase_view y)) w.deref-else-is_among.ensures)
-          (w.if-is_among.ensures ∙ ap (λ (vs : List Phrase). shared_among (phrases_view vs)) c.deref-in-Let.ensures.value)
-    ] in (
+pub part-values_entered-requires : goal.part-values_entered-requires
+part-values_entered-requires t c =
+    let asked = c.asks_let-asked.result in
+    let test = shared_among (phrases_view c.deref-in-Let.result.now) in
+    let other = shared_in (phrase_view c.deref-in-Let-2.result.now) in (
       search (rules, the_lemmas, at_most),
       (
         c.requires,
-        subst (λ (vs : List Phrase). Asks (shared_among (phrases_view vs)) asked) (sym c.deref-in-Let-2.ensures.value) (asks_left test other asked asks),
+        subst (λ (vs : List Phrase). Asks (shared_among (phrases_view vs)) asked) (c.deref-in-Let.ensures.value ∙ sym c.deref-in-Let-3.ensures.value) (asks_first test other asked c.asks_let-asked.ensures),
       ),
     )
 
-pub part-returns-in_err-inner-in-Quantified-clause-value : goal.part-returns-in_err-inner-in-Quantified-clause-value
-part-returns-in_err-inner-in-Quantified-clause-value t c =
+pub part-returns-in_ok-others-in-Quantified-clause-locals : goal.part-returns-in_ok-others-in-Quantified-clause-locals
+part-returns-in_ok-others-in-Quantified-clause-locals t c = c.quantified.ensures.locals c.args.scope.now.locals c.in_ok-others-in-Quantified.ensures.inside (sym c.depth-depth.ensures)
+
+pub part-returns-in_ok-others-in-Let-clause-locals : goal.part-returns-in_ok-others-in-Let-clause-locals
+part-returns-in_ok-others-in-Let-clause-locals t c = c.inside_let.ensures.locals c.args.scope.now.locals c.in_ok-others-in-Let.ensures.inside (sym c.depth-depth-in-Let.ensures)
+
+pub part-returns-in_ok-others-in-Quantified-clause-value : goal.part-returns-in_ok-others-in-Quantified-clause-value
+part-returns-in_ok-others-in-Quantified-clause-value t c =
     let s = c.args.setting.now in
-    let d = declared_by s in
-    let ls = c.args.scope.now.locals in
-    let asked = c.if-is_in_domains.asked in
-    let test = shared_in_domains (domains_of (map domain_view c.in-Quantified.variables.items)) in
-    let other = shared_in (phrase_view c.in-Quantified.inner.value) in
-    let asks : Asks (test || other) asked = elim c.if-is_in_domains.branch [
-      | part-then-is_in_domains w ↦ asks_then test other asked (w.asked-is ∙ w.if-is_in_domains.true)
-      | part-else-is_in_domains w ↦
-          asks_else test other asked (w.asked-is ∙ w.is_in-asked.ensures ∙ ap (λ (y : Phrase). shared_in (phrase_view y)) w.deref-else-is_in_domains.ensures)
-          (w.if-is_in_domains.ensures ∙ ap (λ (vs : List Domain). shared_in_domains (domains_of (map domain_view vs))) c.deref-in-Quantified.ensures.value)
-    ] in
-    let p = err_from_is_err_and c.from_residual-in_err-inner-in-Quantified.result c.from_residual-in_err-inner-in-Quantified.ensures.1 in
-    rw (p.1, p.2) (body_fault d (same_types s c.requires) ls c.args.tops.now c.args.phrase.now asked _ c.in-Quantified.place c.in-Quantified.inner c.deref-in-Quantified-3.result.now c.deref-in-Quantified-3.ensures
-    c.in-Quantified.quantifier c.in-Quantified.variables c.deref-in-Quantified-2.result.now c.in-Quantified.is c.deref-in-Quantified-2.ensures.value c.in_ok-variables-in-Quantified.variables asks (entered_behind asked domains_seen c.domains-variables.result c.in_ok-variables-in-Quantified.variables c.domains-variables.new.scope.locals _ _ c.in_ok-variables-in-Quantified.ensures.made c.in_ok-variables-in-Quantified.ensures.ok c.domains-variables.ensures.value)
-    c.in_err-inner-in-Quantified.field-0.0 c.in_err-inner-in-Quantified.ensures.value)
+    let asked = c.asks_quantified-asked.result in
+    let asks : Asks (shared_in_domains (domains_of (map domain_view c.in-Quantified.variables.items)) || shared_in (phrase_view c.in-Quantified.inner.value)) asked =
+    subst (λ (vs : List Domain). Asks (shared_in_domains (domains_of (map domain_view vs)) || shared_in (phrase_view c.in-Quantified.inner.value)) asked) c.deref-in-Quantified.ensures.value
+    (subst (λ (y : Phrase). Asks (shared_in_domains (domains_of (map domain_view c.deref-in-Quantified.result.now)) || shared_in (phrase_view y)) asked) c.deref-in-Quantified-2.ensures
+    (asks_either (shared_in_domains (domains_of (map domain_view c.deref-in-Quantified.result.now))) (shared_in (phrase_view c.deref-in-Quantified-2.result.now)) asked c.asks_quantified-asked.ensures)) in
+    quantified_given (declared_by s) c.args.scope.now.locals c.args.tops.now c.args.phrase.now c.quantified.result (same_types s c.requires) asked c.variables_entered.new.scope.locals c.in-Quantified.place c.in-Quantified.inner
+    c.deref-in-Quantified-4.result.now c.deref-in-Quantified-4.ensures c.in-Quantified.quantifier c.in-Quantified.variables c.deref-in-Quantified-3.result.now c.in_ok-others-in-Quantified.others c.in-Quantified.is c.deref-in-Quantified-3.ensures.value
+    asks c.in_ok-others-in-Quantified.ensures.value c.quantified.ensures.value
 
-pub part-returns-in_err-inner-in-Let-clause-value : goal.part-returns-in_err-inner-in-Let-clause-value
-part-returns-in_err-inner-in-Let-clause-value t c =
+pub part-returns-in_ok-others-in-Let-clause-value : goal.part-returns-in_ok-others-in-Let-clause-value
+part-returns-in_ok-others-in-Let-clause-value t c =
     let s = c.args.setting.now in
-    let d = declared_by s in
-    let ls = c.args.scope.now.locals in
-    let asked = c.if-is_among.asked in
-    let test = shared_among (phrases_view c.in-Let.phrases.items) in
-    let other = shared_in (phrase_view c.in-Let.inner.value) in
-    let asks : Asks (test || other) asked = elim c.if-is_among.branch [
-      | part-then-is_among w ↦ asks_then test other asked (w.asked-is ∙ w.if-is_among.true)
-      | part-else-is_among w ↦
-          asks_else test other asked (w.asked-is ∙ w.is_in-asked-else-is_among.ensures ∙ ap (λ (y : Phrase). shared_in (phrase_view y)) w.deref-else-is_among.ensures)
-          (w.if-is_among.ensures ∙ ap (λ (vs : List Phrase). shared_among (phrases_view vs)) c.deref-in-Let.ensures.value)
-    ] in
-    let p = err_from_is_err_and c.from_residual-in_err-inner-in-Let.result c.from_residual-in_err-inner-in-Let.ensures.1 in
-    rw (p.1, p.2) (let_body_fault d (same_types s c.requires) ls c.args.tops.now c.args.phrase.now asked _ c.in-Let.place c.in-Let.inner c.deref-in-Let-3.result.now c.deref-in-Let-3.ensures
-    c.in-Let.phrases c.deref-in-Let-2.result.now c.in-Let.is c.deref-in-Let-2.ensures.value c.in_ok-values-in-Let.values asks (entered_behind asked phrases_seen c.values-values.result c.in_ok-values-in-Let.values c.values-values.new.scope.locals _ _ c.in_ok-values-in-Let.ensures.made c.in_ok-values-in-Let.ensures.ok c.values-values.ensures.value)
-    c.in_err-inner-in-Let.field-0.0 c.in_err-inner-in-Let.ensures.value)
-
-pub part-returns-in_ok-inner-in-Quantified-2-clause-value : goal.part-returns-in_ok-inner-in-Quantified-2-clause-value
-part-returns-in_ok-inner-in-Quantified-2-clause-value t c =
-    let s = c.args.setting.now in
-    let d = declared_by s in
-    let ls = c.args.scope.now.locals in
-    let asked = c.if-is_in_domains.asked in
-    let test = shared_in_domains (domains_of (map domain_view c.in-Quantified.variables.items)) in
-    let other = shared_in (phrase_view c.in-Quantified.inner.value) in
-    let asks : Asks (test || other) asked = elim c.if-is_in_domains.branch [
-      | part-then-is_in_domains w ↦ asks_then test other asked (w.asked-is ∙ w.if-is_in_domains.true)
-      | part-else-is_in_domains w ↦
-          asks_else test other asked (w.asked-is ∙ w.is_in-asked.ensures ∙ ap (λ (y : Phrase). shared_in (phrase_view y)) w.deref-else-is_in_domains.ensures)
-          (w.if-is_in_domains.ensures ∙ ap (λ (vs : List Domain). shared_in_domains (domains_of (map domain_view vs))) c.deref-in-Quantified.ensures.value)
-    ] in
-    body_is d (same_types s c.requires) ls c.args.tops.now c.args.phrase.now asked _ c.in-Quantified.place c.in-Quantified.inner c.deref-in-Quantified-3.result.now c.deref-in-Quantified-3.ensures
-    c.in-Quantified.quantifier c.in-Quantified.variables c.deref-in-Quantified-2.result.now c.in-Quantified.is c.deref-in-Quantified-2.ensures.value c.in_ok-variables-in-Quantified.variables asks (entered_behind asked domains_seen c.domains-variables.result c.in_ok-variables-in-Quantified.variables c.domains-variables.new.scope.locals _ _ c.in_ok-variables-in-Quantified.ensures.made c.in_ok-variables-in-Quantified.ensures.ok c.domains-variables.ensures.value)
-    c.in_ok-inner-in-Quantified.inner c.in_ok-inner-in-Quantified-2.inner c.in_ok-inner-in-Quantified-2.ensures.ok c.in_ok-inner-in-Quantified.ensures.value
-
-pub part-returns-in_ok-inner-in-Let-2-clause-value : goal.part-returns-in_ok-inner-in-Let-2-clause-value
-part-returns-in_ok-inner-in-Let-2-clause-value t c =
-    let s = c.args.setting.now in
-    let d = declared_by s in
-    let ls = c.args.scope.now.locals in
-    let asked = c.if-is_among.asked in
-    let test = shared_among (phrases_view c.in-Let.phrases.items) in
-    let other = shared_in (phrase_view c.in-Let.inner.value) in
-    let asks : Asks (test || other) asked = elim c.if-is_among.branch [
-      | part-then-is_among w ↦ asks_then test other asked (w.asked-is ∙ w.if-is_among.true)
-      | part-else-is_among w ↦
-          asks_else test other asked (w.asked-is ∙ w.is_in-asked-else-is_among.ensures ∙ ap (λ (y : Phrase). shared_in (phrase_view y)) w.deref-else-is_among.ensures)
-          (w.if-is_among.ensures ∙ ap (λ (vs : List Phrase). shared_among (phrases_view vs)) c.deref-in-Let.ensures.value)
-    ] in
-    let_body_is d (same_types s c.requires) ls c.args.tops.now c.args.phrase.now asked _ c.in-Let.place c.in-Let.inner c.deref-in-Let-3.result.now c.deref-in-Let-3.ensures
-    c.in-Let.phrases c.deref-in-Let-2.result.now c.in-Let.is c.deref-in-Let-2.ensures.value c.in_ok-values-in-Let.values asks (entered_behind asked phrases_seen c.values-values.result c.in_ok-values-in-Let.values c.values-values.new.scope.locals _ _ c.in_ok-values-in-Let.ensures.made c.in_ok-values-in-Let.ensures.ok c.values-values.ensures.value)
-    c.in_ok-inner-in-Let.inner c.in_ok-inner-in-Let-2.inner c.in_ok-inner-in-Let-2.ensures.ok c.in_ok-inner-in-Let.ensures.value
-
-pub part-returns-in_err-kind-in-Called-clause-value : goal.part-returns-in_err-kind-in-Called-clause-value
-part-returns-in_err-kind-in-Called-clause-value t c =
-    let s = c.args.setting.now in
-    let e = c.in_err-kind-in-Called.field-0.0 in
-    let p = err_from_is_err_and c.from_residual-in_err-kind-in-Called.result c.from_residual-in_err-kind-in-Called.ensures.1 in
-    rw (p.1, p.2) (inr (call_fault s c.args.scope.now.locals c.args.tops.now c.args.phrase.now c.in-Called.place c.in-Called.number c.in-Called.phrases c.deref.result.now c.in_ok-arguments-in-Called.arguments
-    c.in-Called.is c.deref.ensures.value c.in_ok-arguments-in-Called.ensures.value c.deref-in-Called.result.now c.deref-in-Called.ensures.value (option_copied c.get.result) (entry_read (λ (x : Bor Header). x.now) c.deref-in-Called.result.now c.in-Called.number c.get.result c.get.ensures.lookup.1 c.get.ensures.lookup.3)
-    c.deref-in-Called-2.result.now c.deref-in-Called-2.ensures.value (Err e) c.in_err-kind-in-Called.ensures e refl))
-
-pub part-returns-in_ok-kind-in-Called-clause-value : goal.part-returns-in_ok-kind-in-Called-clause-value
-part-returns-in_ok-kind-in-Called-clause-value t c =
-    let s = c.args.setting.now in
-    let k = c.in_ok-kind-in-Called.kind in
-    call_is s c.args.scope.now.locals c.args.tops.now c.args.phrase.now c.in-Called.place c.in-Called.number c.in-Called.phrases c.deref.result.now c.in_ok-arguments-in-Called.arguments
-    c.in-Called.is c.deref.ensures.value c.in_ok-arguments-in-Called.ensures.value c.deref-in-Called.result.now c.deref-in-Called.ensures.value (option_copied c.get.result) (entry_read (λ (x : Bor Header). x.now) c.deref-in-Called.result.now c.in-Called.number c.get.result c.get.ensures.lookup.1 c.get.ensures.lookup.3)
-    c.deref-in-Called-2.result.now c.deref-in-Called-2.ensures.value (Ok (kind_view k)) c.in_ok-kind-in-Called.ensures k refl
-
-pub part-returns-in_err-others-in-Path-clause-value : goal.part-returns-in_err-others-in-Path-clause-value
-part-returns-in_err-others-in-Path-clause-value t c =
-    let d = declared_by c.args.setting.now in
-    let ls = c.args.scope.now.locals in
-    let p = err_from_is_err_and c.from_residual-in_err-others-in-Path.result c.from_residual-in_err-others-in-Path.ensures.1 in
-    rw (p.1, p.2) (steps_fault d ls c.args.tops.now c.args.phrase.now c.in-Path.head c.in-Path.steps c.in-Path.is c.deref-in-Path.result.now c.deref-in-Path-3.result.now c.deref-in-Path-4.result.now
-    c.deref-in-Path.ensures c.deref-in-Path-3.ensures c.deref-in-Path-4.ensures c.deref-in-Path-2.result.now c.deref-in-Path-5.result.now c.deref-in-Path-2.ensures.value c.deref-in-Path-5.ensures.value
-    c.in_ok-given-in-Path.given c.in_ok-given-in-Path.ensures.value c.argument_asked.new.scope.locals c.in_ok-given-in-Path.ensures.locals c.in_ok-head-in-Path.head c.in_ok-head-in-Path.kind c.in_ok-head-in-Path.ensures.value
-    c.head_settled.new.scope.locals c.in_ok-head-in-Path.ensures.locals c.first_place-begins-in-Path.result c.first_place-begins-in-Path.ensures
-    c.in_err-others-in-Path.field-0.0 c.in_err-others-in-Path.ensures.value)
-
-pub part-returns-in_ok-new-in-Path-clause-value : goal.part-returns-in_ok-new-in-Path-clause-value
-part-returns-in_ok-new-in-Path-clause-value t c =
-    let d = declared_by c.args.setting.now in
-    let ls = c.args.scope.now.locals in
-    steps_are d ls c.args.tops.now c.args.phrase.now c.in-Path.head c.in-Path.steps c.in-Path.is c.deref-in-Path.result.now c.deref-in-Path-3.result.now c.deref-in-Path-4.result.now
-    c.deref-in-Path.ensures c.deref-in-Path-3.ensures c.deref-in-Path-4.ensures c.deref-in-Path-2.result.now c.deref-in-Path-5.result.now c.deref-in-Path-2.ensures.value c.deref-in-Path-5.ensures.value
-    c.in_ok-given-in-Path.given c.in_ok-given-in-Path.ensures.value c.argument_asked.new.scope.locals c.in_ok-given-in-Path.ensures.locals c.in_ok-head-in-Path.head c.in_ok-head-in-Path.kind c.in_ok-head-in-Path.ensures.value
-    c.head_settled.new.scope.locals c.in_ok-head-in-Path.ensures.locals c.first_place-begins-in-Path.result c.first_place-begins-in-Path.ensures
-    c.in_ok-others-in-Path.others c.in_ok-others-in-Path.kind c.in_ok-new-in-Path.field-0 c.in_ok-new-in-Path.ensures.ok c.in_ok-others-in-Path.ensures.value
+    let asked = c.asks_let-asked.result in
+    let asks : Asks (shared_among (phrases_view c.in-Let.phrases.items) || shared_in (phrase_view c.in-Let.inner.value)) asked =
+    subst (λ (vs : List Phrase). Asks (shared_among (phrases_view vs) || shared_in (phrase_view c.in-Let.inner.value)) asked) c.deref-in-Let.ensures.value
+    (subst (λ (y : Phrase). Asks (shared_among (phrases_view c.deref-in-Let.result.now) || shared_in (phrase_view y)) asked) c.deref-in-Let-2.ensures
+    (asks_either (shared_among (phrases_view c.deref-in-Let.result.now)) (shared_in (phrase_view c.deref-in-Let-2.result.now)) asked c.asks_let-asked.ensures)) in
+    let_given (declared_by s) c.args.scope.now.locals c.args.tops.now c.args.phrase.now c.inside_let.result (same_types s c.requires) asked c.values_entered.new.scope.locals c.in-Let.place c.in-Let.inner
+    c.deref-in-Let-4.result.now c.deref-in-Let-4.ensures c.in-Let.phrases c.deref-in-Let-3.result.now c.in_ok-others-in-Let.others c.in-Let.is c.deref-in-Let-3.ensures.value
+    asks c.in_ok-others-in-Let.ensures.value c.inside_let.ensures.value
