@@ -134,7 +134,7 @@ module _ (xs : List Assigned) (assumed : List Lit) (depth : ℕ) (first : IsAssu
   first_cut count = decisions_cut IsFirst xs first count
 
 module _ (clauses : List (List Lit)) (xs : List Assigned) (trail : IsTrail clauses xs) where
-  below_top : (i : ℕ) (d : Assigned) → i < length xs → (get_or xs i d).level ≤ level_of xs
+  pub below_top : (i : ℕ) (d : Assigned) → i < length xs → (get_or xs i d).level ≤ level_of xs
   below_top i d h =
       let up : (get_or xs i d).level ≤ level_of (take (length xs) xs) = level_before clauses xs trail (length xs) i d h (omega arith) in
       let same : level_of (take (length xs) xs) ≡ level_of xs = ap level_of (take_all (length xs) xs (omega arith)) in

@@ -4,4 +4,6 @@ pub mod Stops
 pub mod SearchClauses
 pub mod Numbers
 pub mod Searches
+pub mod Numbered
+pub mod Answered
 pub mod Limits

@@ -1,32 +1,33 @@
 -- How a search goes on, and how it ends.
-use Rattle.std.proofs.Common.{◌≡◌, ◌≢◌, ◌<◌, ◌≤◌, ◌+◌, ◌-◌, ◌++◌, [], ◌∷◌, ◌⊎◌, ℕ, Bool, Some, None, List, length, get_or, take, map, All, arith, sym, ◌∙◌, ap, inl, inr, refl, subst, append_assoc, length-append}
+use Rattle.std.proofs.Common.{◌≡◌, ◌≢◌, ◌<◌, ◌≤◌, ◌+◌, ◌-◌, ◌++◌, [], ◌∷◌, ◌⊎◌, ℕ, Bool, false, Some, None, List, length, get_or, take, map, All, arith, sym, ◌∙◌, ap, inl, inr, refl, subst, append_assoc, length-append}
 use Rattle.std.proofs.lemmas.Bool.{cases_lt}
-use Rattle.std.proofs.lemmas.List.{take_all, take_more, take-append-le, get_or_append_left, map-append, length-map}
+use Rattle.std.proofs.lemmas.List.{take_all, take_more, take-append-le, get_or_append_left, get_or-map, map-append, length-map}
 use Rattle.std.proofs.Math.Seq.{get_or-append_seam}
 use Rattle.std.proofs.lemmas.Option.{slice_get-get_or, get_or_from_slice_get, slice_get_cases}
-use Rattle.std.proofs.lemmas.List.Elements.{All-contains, All-push, All-append, All-map, All-nil, All-take, All-weaker, Contains-get_or, Contains-append_cases}
+use Rattle.std.proofs.lemmas.List.Elements.{All-contains, All-push, All-append, All-map, All-weaker, Contains-get_or, Contains-append_cases, Contains-append_left, Contains-append_right}
 use Rattle.std.specs.List.{Contains, slice_get}
 use Rattle.std.specs.Bool.{IsTrue}
 use Rattle.cnf_core.specs.declared.literal.Lit.{Lit}
-use Rattle.cnf_core.specs.Literal.{IsVariable, IsClause, HasVarsUpTo}
+use Rattle.cnf_core.specs.Literal.{negation_of, IsVariable, IsClause, HasVarsUpTo}
 use Rattle.cnf_core.specs.Valuation.{clause_value, value_of, Satisfies}
 use Rattle.refutation_check.specs.declared.log.Step.{Step}
-use Rattle.refutation_check.specs.Chain.{Names, IsFalsified, IsUnit, Refutes, IsChain, members_of, IsAccepted, IsNovel, EndsEmpty}
-use Rattle.refutation_check.specs.SearchLog.{IsSearchLog, IsVarOf, HasNoEmpty, HasVarsOf, IsAllNovel, IsNovelButLast}
+use Rattle.refutation_check.specs.Chain.{IsFalsified, IsUnit, Refutes, IsChain, members_of, IsAccepted, IsNovel, EndsEmpty}
+use Rattle.refutation_check.specs.SearchLog.{IsVarOf, HasVarsOf, IsAllNovel, IsNovelButLast}
 use Rattle.refutation_check.proofs.Entailment.{each_entailed, no_valuation}
-use Rattle.refutation_check.proofs.Renumbered.{chain_renumbered}
 use Rattle.unit_propagation.specs.declared.assignment_trail.assigned.Assigned.{Assigned}
 use Rattle.unit_propagation.specs.Assignments.Trail.{IsTrail, IsBackTo, falses_of}
 use Rattle.unit_propagation.proofs.Assignments.Trails.{All-front, IsTrail-cut, in_falses}
 use Rattle.sat_trail.specs.Trailed.{Trailed}
 use Rattle.sat_trail.specs.Learnt.{IsFlat, IsAbove, IsAsserting}
 use Rattle.sat_trail.specs.Closed.{IsClosed, IsClosedBelow}
-use Rattle.sat_core.specs.Answers.{HasEmptyOnlyLast, IsModel, NamesUnit, NamesNoUnits}
-use Rattle.sat_core.specs.Assuming.{AreTrue, IsAssumedFirst, IsClash}
-use Rattle.sat_core.specs.Search.{Searching, AreValues, IsStuck, IsProgress, IsVarIn}
-use Rattle.sat_core.proofs.Descents.{closed_no_chain, flat_or_above, full_model}
-use Rattle.sat_core.proofs.Assumes.{consistent, first_cut, front_true}
-use Rattle.sat_core.proofs.SearchClauses.{Keeps, keeps_more, given_closed, never_closed, given_novel, given_clauses, given_vars}
+use Rattle.sat_trail.proofs.Learned.{placed_decided}
+use Rattle.sat_core.specs.Answers.{IsModel}
+use Rattle.sat_core.specs.Assuming.{IsAssumedFirst, IsClash}
+use Rattle.sat_core.specs.Lent.{IsLearnt, Permits, with_units}
+use Rattle.sat_core.specs.Search.{Searching, HasNext, IsFound, IsNext, IsStuck, IsVarIn}
+use Rattle.sat_core.proofs.Descents.{flat_or_above, full_model}
+use Rattle.sat_core.proofs.Assumes.{below_top, consistent, first_cut, front_true}
+use Rattle.sat_core.proofs.SearchClauses.{Keeps, keeps_more, given_closed, given_clauses, given_vars}
 
 -- the members with one more step
 pub members_more : (given : List (List Lit)) (log : List Step) (s : Step) → members_of given (log ++ s ∷ []) ≡ members_of given log ++ s.clause ∷ []
@@ -39,10 +40,10 @@ members_none given = append_nil given
     append_nil [] = refl
     append_nil (x ∷ xs) = ap (λ (ys : List (List Lit)). x ∷ ys) (append_nil xs)
 
-front : (log : List Step) (s : Step) → take (length log) (log ++ s ∷ []) ≡ log
+pub front : (log : List Step) (s : Step) → take (length log) (log ++ s ∷ []) ≡ log
 front log s = take-append-le (length log) log (s ∷ []) (omega arith) ∙ take_all (length log) log (omega arith)
 
-slice_get_below : (xs : List Step) (i : ℕ) (x : Step) → slice_get xs i ≡ Some x → i < length xs
+pub slice_get_below : (xs : List Step) (i : ℕ) (x : Step) → slice_get xs i ≡ Some x → i < length xs
 slice_get_below xs i x e =
     elim (slice_get_cases xs i).1 [
       | inl (y, in', is, there) ↦ in'
@@ -139,24 +140,22 @@ module _ (old : Trailed) (conflict : ℕ) (trail : IsTrail old.clauses old.assig
   pub learnt_high : (IsFlat old.clauses old.assigned conflict → s.clause ≡ []) → IsAbove old.clauses old.assigned conflict
   learnt_high flat = learnt_above old conflict s.clause trail refuted flat learnt_some
 
-  pub learnt_progress : (number : ℕ → ℕ) (back new : Trailed) (before after : List Step) (level : ℕ) → All (λ l. IsVarOf old.clauses l.var) s.clause → IsAsserting old.assigned s.clause → IsNovel old.clauses s.clause →
-      after ≡ before ++ record { clause = s.clause; hints = map number s.hints } ∷ [] → new ≡ record { vars = back.vars; clauses = back.clauses ++ s.clause ∷ []; assigned = back.assigned } → back.vars ≡ old.vars → back.clauses ≡ old.clauses →
-      IsBackTo level old.assigned back.assigned → IsClosedBelow (old.clauses ++ s.clause ∷ []) back.assigned → IsProgress number old new before after
-  learnt_progress number back new before after level of asserting novel added is vars same went closed =
-      record {
-        step = s;
-        chain = chain;
-        added = added;
-        vars_of = of;
-        not_empty = learnt_some;
-        novel = novel;
-        is_false = learnt_false old.assigned s.clause asserting;
-        vars = ap (λ (t : Trailed). t.vars) is ∙ vars;
-        clauses = ap (λ (t : Trailed). t.clauses) is ∙ ap (λ (cs : List (List Lit)). cs ++ s.clause ∷ []) same;
-        closed_below = subst (λ (t : Trailed). IsClosedBelow t.clauses t.assigned) (sym is) (subst (λ (cs : List (List Lit)). IsClosedBelow (cs ++ s.clause ∷ []) back.assigned) (sym same) closed);
-        count = went.count;
-        stays = ap (λ (t : Trailed). t.assigned) is ∙ went.stays;
-      }
+  -- what is known of the step
+  pub learnt_next : HasVarsUpTo old.vars s.clause → All (λ l. IsVarOf old.clauses l.var) s.clause → IsAsserting old.assigned s.clause → IsNovel old.clauses s.clause → IsNext old s
+  learnt_next within of asserting novel =
+      record { chain = chain; vars_of = of; within = within; not_empty = learnt_some; novel = novel; asserting = asserting }
+
+-- the trail behind a step that is kept
+pub kept_next : (old back new : Trailed) (s : Step) (level : ℕ) → new ≡ record { vars = back.vars; clauses = back.clauses ++ s.clause ∷ []; assigned = back.assigned } → back.vars ≡ old.vars → back.clauses ≡ old.clauses → IsBackTo level old.assigned back.assigned →
+    IsClosedBelow (old.clauses ++ s.clause ∷ []) back.assigned → HasNext old s new
+kept_next old back new s level is vars same went closed =
+    record {
+      vars = ap (λ (t : Trailed). t.vars) is ∙ vars;
+      clauses = ap (λ (t : Trailed). t.clauses) is ∙ ap (λ (cs : List (List Lit)). cs ++ s.clause ∷ []) same;
+      closed_below = subst (λ (t : Trailed). IsClosedBelow t.clauses t.assigned) (sym is) (subst (λ (cs : List (List Lit)). IsClosedBelow (cs ++ s.clause ∷ []) back.assigned) (sym same) closed);
+      count = went.count;
+      stays = ap (λ (t : Trailed). t.assigned) is ∙ went.stays;
+    }
 
 -- what satisfies clauses satisfies the first of them
 pub model_front : (first : ℕ) (clauses more : List (List Lit)) (values : List Bool) → IsModel first (clauses ++ more) values → IsModel first clauses values
@@ -167,136 +166,134 @@ model_front first clauses more values model =
       satisfied = All-front (λ c. IsTrue (clause_value (value_of values) c)) clauses more model.satisfied;
     }
 
--- before the first step
-pub searching_start : (given kept local : List (List Lit)) (assumed : List Lit) (clauses first depth : ℕ) (trail : Trailed) (log : List Step) → log ≡ [] → trail.clauses ≡ kept → first ≤ trail.vars → All (IsVarIn trail.vars) assumed → trail.assigned ≡ [] →
-    Searching given kept local assumed clauses first depth trail log
-searching_start given kept local assumed clauses first depth trail log none same low in_range open_ =
-    subst (Searching given kept local assumed clauses first depth trail) (sym none) (record {
-      clauses_are = same ∙ sym (members_none kept);
-      vars = low;
-      in_range = in_range;
-      closed_below = subst (IsClosedBelow trail.clauses) (sym open_) (λ i d h. absurd (omega arith));
-      assumed_first = subst (IsAssumedFirst assumed depth) (sym open_) (λ i d h. absurd (omega arith));
+-- a trail that went back to its first level has no decision
+module _ (clauses : List (List Lit)) (old new : List Assigned) (trail : IsTrail clauses old) (back : IsBackTo 0 old new) where
+  pub none_decided : (i : ℕ) (d : Assigned) → i < length new → (get_or new i d).reason ≡ None → ⊥
+  none_decided i d h decided =
+      let is : IsTrail clauses new = subst (IsTrail clauses) (sym back.stays) (IsTrail-cut clauses old back.count trail) in
+      let next = placed_decided clauses (take i new) (get_or new i d) (is i d h) decided in
+      let up = below_top clauses new is i d h in
+      omega (arith, next, up, back.low)
+
+-- no step was learnt yet
+pub learnt_none : (clauses : List (List Lit)) (assumed : List Lit) → IsLearnt clauses assumed []
+learnt_none clauses assumed =
+    record {
       accepted = λ i d h. absurd (omega arith);
-      vars_of = λ i d h. absurd (omega arith);
+      vars = λ i d h. absurd (omega arith);
       novel = λ i s e. absurd (let below : i < 0 = slice_get_below [] i s e in omega arith);
       no_empty = λ i d h. absurd (omega arith);
-      no_units = λ i d h. absurd (omega arith);
-      direct = λ hints chain. refl;
+      none_assumed = λ i d h. absurd (omega arith);
+      direct = inl refl;
+    }
+
+-- before the first step
+pub searching_start : (assumed : List Lit) (old trail : Trailed) (log : List Step) → log ≡ [] → trail.clauses ≡ old.clauses → trail.vars ≡ old.vars → All (IsVarIn old.vars) assumed → IsTrail old.clauses old.assigned → IsBackTo 0 old.assigned trail.assigned →
+    Searching old.clauses old.vars assumed 0 trail log
+searching_start assumed old trail log none same vars in_range ordered back =
+    let free = none_decided old.clauses old.assigned trail.assigned ordered back in
+    subst (Searching old.clauses old.vars assumed 0 trail) (sym none) (record {
+      clauses_are = same ∙ sym (members_none old.clauses);
+      vars_are = vars;
+      in_range = in_range;
+      closed_below = λ i d h decided. absurd (free i d h decided);
+      assumed_first = λ i d h decided. absurd (free i d h decided);
+      learnt = learnt_none old.clauses assumed;
     })
 
-module _ (given kept local : List (List Lit)) (assumed : List Lit) (keeps : Keeps given kept assumed) (clauses first depth : ℕ) (old : Trailed) (log : List Step) (was : Searching given kept local assumed clauses first depth old log) where
-  -- the given clauses with the steps, and those that are kept
-  keeps_log : Keeps (members_of given log) (members_of kept log) assumed
-  keeps_log = keeps_more given kept (map (λ (s : Step). s.clause) log) assumed keeps
+-- a literal that is assumed has its clause
+pub has_unit : (ls : List Lit) (l : Lit) → Contains ls l → Contains (map (λ (l : Lit). l ∷ []) ls) (l ∷ [])
+has_unit ls l (k, h, e) =
+    (k, omega (arith, h, length-map ls (λ (l : Lit). l ∷ [])), get_or-map (λ (l : Lit). l ∷ []) ls k l (l ∷ []) h ∙ ap (λ (x : Lit). x ∷ []) e)
 
-  module _ (mid : Trailed) (same : mid.clauses ≡ old.clauses) (vars : mid.vars ≡ old.vars) (trail : IsTrail mid.clauses mid.assigned) where
-    mid_members : mid.clauses ≡ members_of kept log
+-- the clauses and those of one literal
+keeps_units : (clauses : List (List Lit)) (assumed : List Lit) → Keeps (with_units clauses assumed) clauses assumed
+keeps_units clauses assumed =
+    record {
+      of_kept = λ c h. Contains-append_left clauses (map (λ (l : Lit). l ∷ []) assumed) c h;
+      of_assumed = λ l h. Contains-append_right clauses (map (λ (l : Lit). l ∷ []) assumed) (l ∷ []) (has_unit assumed l h);
+      each = λ c h. elim (Contains-append_cases clauses (map (λ (l : Lit). l ∷ []) assumed) c h) [
+        | inl there ↦ inl there
+        | inr unit ↦ inr (is_unit assumed c unit)
+      ];
+    }
+  where
+    is_unit : (ls : List Lit) (c : List Lit) → Contains (map (λ (l : Lit). l ∷ []) ls) c → (l : Lit) × (c ≡ l ∷ []) × Contains ls l
+    is_unit ls c (k, h, e) =
+        let d : Lit = record { var = 0; positive = false } in
+        let below : k < length ls = omega (arith, h, length-map ls (λ (l : Lit). l ∷ [])) in
+        (get_or ls k d, sym e ∙ get_or-map (λ (l : Lit). l ∷ []) ls k d c below, Contains-get_or ls k d below)
+
+module _ (clauses : List (List Lit)) (vars : ℕ) (assumed : List Lit) (depth : ℕ) (old : Trailed) (log : List Step) (was : Searching clauses vars assumed depth old log) where
+  module _ (mid : Trailed) (same : mid.clauses ≡ old.clauses) (same_vars : mid.vars ≡ old.vars) (trail : IsTrail mid.clauses mid.assigned) where
+    mid_members : mid.clauses ≡ members_of clauses log
     mid_members = same ∙ was.clauses_are
 
-    -- where the trail is at its end for propagation and what is assumed is true, the given clauses force no more
-    pub all_closed : (place : ℕ) → IsClosed mid.clauses (falses_of (take place mid.assigned)) → AreTrue (falses_of (take place mid.assigned)) assumed → IsClosed (members_of given log) (falses_of (take place mid.assigned))
-    all_closed place closed is_true =
-        given_closed (members_of given log) (members_of kept log) assumed keeps_log (falses_of (take place mid.assigned))
-        (consistent mid.clauses (take place mid.assigned) (IsTrail-cut mid.clauses mid.assigned place trail))
-        (subst (λ (cs : List (List Lit)). IsClosed cs (falses_of (take place mid.assigned))) mid_members closed) is_true
-
-    -- the clauses and what is assumed can't hold
-    pub none_closed : IsClash mid.clauses assumed → (falses : List Lit) → IsClosed (members_of given log) falses → ⊥
-    none_closed clash = never_closed (members_of given log) (members_of kept log) assumed keeps_log (subst (λ (cs : List (List Lit)). IsClash cs assumed) mid_members clash)
-
-    -- where propagation is at its end before some decision, the empty clause is no chain
-    pub deep_chain : (conflict : ℕ) → IsStuck assumed mid conflict → (hints : List ℕ) → IsChain mid.clauses [] hints → ⊥
-    deep_chain conflict stuck hints chain = closed_no_chain mid.clauses (falses_of (take stuck.place mid.assigned)) stuck.closed hints chain
-
     -- how many clauses the trail has
-    pub members_long : length mid.clauses ≡ length kept + length log
-    members_long = ap length mid_members ∙ (length-append kept (map (λ (s : Step). s.clause) log) ∙ ap (λ (n : ℕ). length kept + n) (length-map log (λ (s : Step). s.clause)))
+    pub members_long : length mid.clauses ≡ length clauses + length log
+    members_long = ap length mid_members ∙ (length-append clauses (map (λ (s : Step). s.clause) log) ∙ ap (λ (n : ℕ). length clauses + n) (length-map log (λ (s : Step). s.clause)))
 
-    -- the values of a full trail satisfy all that is given
-    pub found_model : (values : List Bool) → IsClosed mid.clauses (falses_of mid.assigned) → AreTrue (falses_of mid.assigned) assumed → All IsClause mid.clauses → All (HasVarsUpTo mid.vars) mid.clauses → All (λ l. IsVariable l.var) assumed →
-        length values ≡ mid.vars → AreValues (falses_of mid.assigned) values → IsModel first given values
-    found_model values closed is_true each within variables long are =
+    pub clash_so_far : IsClash mid.clauses assumed → IsClash (members_of clauses log) assumed
+    clash_so_far clash = subst (λ (cs : List (List Lit)). IsClash cs assumed) mid_members clash
+
+    -- the values of a full trail satisfy the clauses with what is assumed
+    pub found_model : (values : List Bool) → IsFound mid assumed values → (length values ≡ vars) × IsModel vars (with_units clauses assumed) values
+    found_model values found =
         let falses : List Lit = falses_of mid.assigned in
-        let all : List (List Lit) = members_of given log in
-        let few : List (List Lit) = members_of kept log in
-        let low : first ≤ mid.vars = subst (λ (n : ℕ). first ≤ n) (sym vars) was.vars in
-        let in_range : All (IsVarIn mid.vars) assumed = subst (λ (n : ℕ). All (IsVarIn n) assumed) (sym vars) was.in_range in
-        let model : IsModel first all values = full_model mid.vars first all falses values
-        (given_closed all few assumed keeps_log falses (consistent mid.clauses mid.assigned trail) (subst (λ (cs : List (List Lit)). IsClosed cs falses) mid_members closed) is_true)
-        (given_clauses all few assumed keeps_log (subst (All IsClause) mid_members each) variables)
-        (given_vars all few assumed keeps_log mid.vars (subst (All (HasVarsUpTo mid.vars)) mid_members within) in_range) long low are in
-        model_front first given (map (λ (s : Step). s.clause) log) values model
+        let all : List (List Lit) = members_of (with_units clauses assumed) log in
+        let few : List (List Lit) = members_of clauses log in
+        let keeps = keeps_more (with_units clauses assumed) clauses (map (λ (s : Step). s.clause) log) assumed (keeps_units clauses assumed) in
+        let mid_vars : mid.vars ≡ vars = same_vars ∙ was.vars_are in
+        let variables : All (λ l. IsVariable l.var) assumed = All-weaker (IsVarIn vars) (λ (l : Lit). IsVariable l.var) (λ l low. (low.0, omega (arith, low.1, mid_vars, found.small))) assumed was.in_range in
+        let long : length values ≡ vars = found.long ∙ mid_vars in
+        let model : IsModel vars all values = full_model vars vars all falses values
+        (given_closed all few assumed keeps falses (consistent mid.clauses mid.assigned trail) (subst (λ (cs : List (List Lit)). IsClosed cs falses) mid_members found.full.closed) found.is_true)
+        (given_clauses all few assumed keeps (subst (All IsClause) mid_members found.each) variables)
+        (given_vars all few assumed keeps vars (subst (λ (n : ℕ). All (HasVarsUpTo n) few) mid_vars (subst (All (HasVarsUpTo mid.vars)) mid_members found.within)) was.in_range) long (omega arith) found.values in
+        (long, model_front vars (with_units clauses assumed) (map (λ (s : Step). s.clause) log) values model)
 
-    module _ (conflict : ℕ) (stuck : IsStuck assumed mid conflict) where
-      pub not_direct : (hints : List ℕ) → IsChain given [] hints → ⊥
-      not_direct hints chain =
-          closed_no_chain given (falses_of (take stuck.place mid.assigned)) (All-front (λ c. (¬ IsFalsified (Contains (falses_of (take stuck.place mid.assigned))) c) × ((l : Lit) → ¬ IsUnit (Contains (falses_of (take stuck.place mid.assigned))) c l)) given (map (λ (s : Step). s.clause) log) (all_closed stuck.place stuck.closed stuck.assumed_true)) hints chain
+    module _ (conflict : ℕ) (stuck : IsStuck assumed mid conflict) (s : Step) (next : IsNext mid s) where
+      -- the literals that were false at the newest place where all that is assumed was true
+      at_stop : Permits clauses assumed
+      at_stop =
+          let falses : List Lit = falses_of (take stuck.place mid.assigned) in
+          let all : IsClosed (members_of clauses log) falses = subst (λ (cs : List (List Lit)). IsClosed cs falses) mid_members stuck.closed in
+          record {
+            falses = falses;
+            consistent = consistent mid.clauses (take stuck.place mid.assigned) (IsTrail-cut mid.clauses mid.assigned stuck.place trail);
+            closed = All-front (λ c. (¬ IsFalsified (Contains falses) c) × ((l : Lit) → ¬ IsUnit (Contains falses) c l)) clauses (map (λ (s : Step). s.clause) log) all;
+            is_true = stuck.assumed_true;
+          }
+
+      -- no literal of a step is assumed: each is false, and each assumed literal was true before
+      not_assumed : All (λ l. ¬ Contains assumed l) s.clause
+      not_assumed k d h there =
+          let is_false = learnt_false mid.assigned s.clause next.asserting k d h in
+          let is_true = All-contains (λ (l : Lit). Contains (falses_of mid.assigned) (negation_of l)) assumed (get_or s.clause k d) (front_true mid.assigned stuck.place assumed stuck.assumed_true) there in
+          consistent mid.clauses mid.assigned trail (get_or s.clause k d) is_false is_true
 
       -- one more step
-      pub searching_more : (number : ℕ → ℕ) (new : Trailed) (after : List Step) (deep : ℕ) → IsAssumedFirst assumed deep mid.assigned → IsProgress number mid new log after →
-          ((hint : ℕ) (c : List Lit) → Names (members_of kept log) hint c → Names (members_of given log) (number hint) c) → ((hint : ℕ) → ¬ NamesUnit clauses local (number hint)) →
-          Searching given kept local assumed clauses first deep new after
-      searching_more number new after deep assumed_first p sends free =
-          let s : Step = record { clause = p.step.clause; hints = map number p.step.hints } in
-          let falses : List Lit = falses_of mid.assigned in
-          let chain : IsChain (members_of kept log) s.clause p.step.hints = subst (λ (cs : List (List Lit)). IsChain cs s.clause p.step.hints) mid_members p.chain in
-          let novel : IsNovel (members_of kept log) s.clause = subst (λ (cs : List (List Lit)). IsNovel cs s.clause) mid_members p.novel in
-          let of : All (λ (l : Lit). IsVarOf (members_of kept log) l.var) s.clause = subst (λ (cs : List (List Lit)). All (λ (l : Lit). IsVarOf cs l.var) s.clause) mid_members p.vars_of in
-          subst (Searching given kept local assumed clauses first deep new) (sym p.added) (record {
-            clauses_are = p.clauses ∙ (ap (λ (cs : List (List Lit)). cs ++ s.clause ∷ []) mid_members ∙ sym (members_more kept log s));
-            vars = subst (λ (n : ℕ). first ≤ n) (sym (p.vars ∙ vars)) was.vars;
-            in_range = subst (λ (n : ℕ). All (IsVarIn n) assumed) (sym (p.vars ∙ vars)) was.in_range;
-            closed_below = p.closed_below;
-            assumed_first = subst (IsAssumedFirst assumed deep) (sym p.stays) (first_cut mid.assigned assumed deep assumed_first p.count);
-            accepted = accepted_more given log s was.accepted (chain_renumbered number (members_of kept log) (members_of given log) s.clause p.step.hints (λ k d h c named. sends (get_or p.step.hints k d) c named) chain);
-            vars_of = vars_more given log s was.vars_of (All-weaker (λ (l : Lit). IsVarOf (members_of kept log) l.var) (λ (l : Lit). IsVarOf (members_of given log) l.var) (λ l v. record { clause = v.clause; literal = v.literal; given = keeps_log.of_kept v.clause v.given; member = v.member; same = v.same }) s.clause of);
-            novel = novel_more given log s was.novel (given_novel (members_of given log) (members_of kept log) assumed keeps_log falses (consistent mid.clauses mid.assigned trail) (front_true mid.assigned stuck.place assumed stuck.assumed_true) s.clause p.is_false novel);
-            no_empty = All-push (λ (s : Step). s.clause ≢ []) log s was.no_empty p.not_empty;
-            no_units = All-push (λ (s : Step). s.clause ≢ [] → All (λ hint. ¬ NamesUnit clauses local hint) s.hints) log s was.no_units (λ _. All-map (λ hint. ¬ NamesUnit clauses local hint) number p.step.hints (λ k d h. free (get_or p.step.hints k d)));
-            direct = λ hints chain. absurd (not_direct hints chain);
+      pub learnt_more : IsLearnt clauses assumed (log ++ s ∷ [])
+      learnt_more =
+          record {
+            accepted = accepted_more clauses log s was.learnt.accepted (subst (λ (cs : List (List Lit)). IsChain cs s.clause s.hints) mid_members next.chain);
+            vars = vars_more clauses log s was.learnt.vars (subst (λ (cs : List (List Lit)). All (λ (l : Lit). IsVarOf cs l.var) s.clause) mid_members next.vars_of);
+            novel = novel_more clauses log s was.learnt.novel (subst (λ (cs : List (List Lit)). IsNovel cs s.clause) mid_members next.novel);
+            no_empty = All-push (λ (s : Step). s.clause ≢ []) log s was.learnt.no_empty next.not_empty;
+            none_assumed = All-push (λ (s : Step). All (λ l. ¬ Contains assumed l) s.clause) log s was.learnt.none_assumed not_assumed;
+            direct = inr at_stop;
+          }
+
+      pub searching_more : (new : Trailed) (after : List Step) (deep : ℕ) → IsAssumedFirst assumed deep mid.assigned → HasNext mid s new → after ≡ log ++ s ∷ [] → Searching clauses vars assumed deep new after
+      searching_more new after deep first has added =
+          subst (Searching clauses vars assumed deep new) (sym added) (record {
+            clauses_are = has.clauses ∙ (ap (λ (cs : List (List Lit)). cs ++ s.clause ∷ []) mid_members ∙ sym (members_more clauses log s));
+            vars_are = has.vars ∙ (same_vars ∙ was.vars_are);
+            in_range = was.in_range;
+            closed_below = has.closed_below;
+            assumed_first = subst (IsAssumedFirst assumed deep) (sym has.stays) (first_cut mid.assigned assumed deep first has.count);
+            learnt = learnt_more;
           })
-
-  -- a last empty step
-  module _ (s : Step) (after : List Step) (added : after ≡ log ++ s ∷ []) (empty : s.clause ≡ []) (chain : IsChain (members_of given log) s.clause s.hints) where
-    pub end_accepted : IsAccepted given after
-    end_accepted = subst (IsAccepted given) (sym added) (accepted_more given log s was.accepted chain)
-
-    pub end_vars : HasVarsOf given after
-    end_vars = subst (HasVarsOf given) (sym added) (vars_more given log s was.vars_of (subst (All (λ (l : Lit). IsVarOf (members_of given log) l.var)) (sym empty) (All-nil (λ (l : Lit). IsVarOf (members_of given log) l.var))))
-
-    pub end_empty : EndsEmpty after
-    end_empty = subst EndsEmpty (sym added) (ends_empty given log s empty)
-
-    pub end_last : HasEmptyOnlyLast after
-    end_last =
-        let last : length (log ++ s ∷ []) - 1 ≡ length log = omega (arith, length-append log (s ∷ [])) in
-        subst HasEmptyOnlyLast (sym added) (subst HasNoEmpty (sym (ap (λ (n : ℕ). take n (log ++ s ∷ [])) last ∙ front log s)) was.no_empty)
-
-    pub end_log : IsSearchLog given after
-    end_log =
-        record {
-          accepted = end_accepted;
-          vars = end_vars;
-          novel = subst (IsNovelButLast given) (sym added) (novel_but_last given log s was.novel empty);
-          direct = λ hints chain. inr (s, added ∙ ap (λ (ss : List Step). ss ++ s ∷ []) (was.direct hints chain), empty);
-        }
-
-    pub end_no_units : NamesNoUnits clauses local after
-    end_no_units = subst (NamesNoUnits clauses local) (sym added) (All-push (λ (s : Step). s.clause ≢ [] → All (λ hint. ¬ NamesUnit clauses local hint) s.hints) log s was.no_units (λ not_empty. absurd (not_empty empty)))
-
-  -- the log while the search goes on
-  pub last_so_far : HasEmptyOnlyLast log
-  last_so_far = All-take (λ (s : Step). s.clause ≢ []) (length log - 1) log was.no_empty
-
-  pub log_so_far : IsSearchLog given log
-  log_so_far =
-      record {
-        accepted = was.accepted;
-        vars = was.vars_of;
-        novel = novel_all given log was.novel;
-        direct = λ hints chain. inl (was.direct hints chain);
-      }
 
 -- a valuation that satisfies the formula and the local clauses satisfies the pool too
 pool_holds : (clauses local : List (List Lit)) (pool : List Step) → IsAccepted clauses pool → (v : ℕ → Bool) → Satisfies v (clauses ++ local) → Satisfies v (members_of (clauses ++ local) pool)

@@ -1,12 +1,12 @@
 -- What an answer of a search says of the clauses that it was asked for.
-use Rattle.std.specs.Prelude.{◌≡◌, ◌≢◌, ◌<◌, ◌≤◌, ◌-◌, ◌^◌, ◌∷◌, [], ℕ, Bool, List, All, length, take}
+use Rattle.std.specs.Prelude.{◌≡◌, ◌≢◌, ◌<◌, ◌≤◌, ◌-◌, ◌^◌, ◌++◌, ◌∷◌, [], ℕ, Bool, List, All, length, take}
 use Rattle.cnf_core.specs.declared.literal.Lit.{Lit}
 use Rattle.cnf_core.specs.Literal.{HasVarsUpTo}
 use Rattle.cnf_core.specs.Valuation.{Satisfies, value_of}
 use Rattle.refutation_check.specs.declared.log.Step.{Step}
 use Rattle.refutation_check.specs.Chain.{members_of, Names, EndsEmpty}
 use Rattle.sat_trail.specs.Leaned.{Leaned}
-use Rattle.refutation_check.specs.SearchLog.{HasNoEmpty, IsAllNovel}
+use Rattle.refutation_check.specs.SearchLog.{IsSearchLog, HasNoEmpty, IsAllNovel}
 use Rattle.sat_core.specs.declared.search.Answer.{Answer}
 use Rattle.sat_core.specs.declared.search.Answer.TheVariants.{Found, Refuted, Spent}
 
@@ -54,3 +54,9 @@ abbrev pub IsRight : ℕ → List (List Lit) → List Step → ℕ → Answer �
 IsRight vars clauses pool budget (Found valuation log) = IsModel vars clauses valuation × HasNoEmpty log
 IsRight vars clauses pool budget (Refuted log) = EndsEmpty log × ((v : ℕ → Bool) → ¬ Satisfies v clauses)
 IsRight vars clauses pool budget (Spent log) = (length log ≡ budget) × IsAllNovel (members_of clauses pool) log × HasNoEmpty log
+
+-- where the budget is spent, the search was stopped: there is one more step
+abbrev pub IsStopped : List (List Lit) → List Step → Answer → Type 0
+IsStopped clauses pool (Found valuation log) = Unit {0}
+IsStopped clauses pool (Refuted log) = Unit {0}
+IsStopped clauses pool (Spent log) = (step : Step) × IsSearchLog (members_of clauses pool) (log ++ step ∷ [])

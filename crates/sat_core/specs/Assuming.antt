@@ -1,8 +1,9 @@
 -- What a search assumes: the literals of the local clauses of one literal. The other local clauses are clauses of the trail.
-use Rattle.std.specs.Prelude.{◌≡◌, ◌≢◌, ◌+◌, ◌-◌, ◌<◌, ◌≤◌, ◌⊎◌, ◌∷◌, [], ℕ, List, All, Contains, None, length, take, slice_get, slice_index_or, nat_lt, if◌then◌else◌}
+use Rattle.std.specs.Prelude.{◌≡◌, ◌≢◌, ◌+◌, ◌-◌, ◌<◌, ◌≤◌, ◌⊎◌, ◌∷◌, [], ℕ, List, All, Contains, None, length, map, take, slice_get, slice_index_or, nat_lt, if◌then◌else◌}
 use Rattle.std.specs.Option.{option_map_or}
 use Rattle.cnf_core.specs.declared.literal.Lit.{Lit}
 use Rattle.cnf_core.specs.Literal.{negation_of}
+use Rattle.refutation_check.specs.declared.log.Step.{Step}
 use Rattle.refutation_check.specs.Chain.{Names}
 use Rattle.unit_propagation.specs.declared.assignment_trail.assigned.Assigned.{Assigned}
 use Rattle.unit_propagation.specs.Assignments.Trail.{falses_of}
@@ -22,6 +23,10 @@ pub record IsSplit (local : List (List Lit)) (assumed : List Lit) (others : List
 abbrev pub number_of : ℕ → ℕ → List ℕ → ℕ → ℕ
 number_of clauses local places hint =
     if nat_lt clauses hint then option_map_or (λ place. clauses + place) (slice_get places (hint - clauses - 1)) ((hint - length places) + local) else hint
+
+-- the step with its hints by other numbers
+abbrev pub numbered : (ℕ → ℕ) → Step → Step
+numbered number s = record { clause = s.clause; hints = map number s.hints }
 
 -- each of the literals is true
 abbrev pub AreTrue : List Lit → List Lit → Type 0

@@ -1,4 +1,5 @@
 pub mod Answers
 pub mod Assuming
+pub mod Lent
 pub mod Search
 pub mod Limits

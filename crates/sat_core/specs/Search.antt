@@ -1,37 +1,35 @@
 -- What holds while a search goes on.
-use Rattle.std.specs.Prelude.{◌≡◌, ◌≢◌, ◌++◌, ◌∷◌, All, false, ◌≤◌, ◌<◌, [], ℕ, Bool, not, List, Contains, length, map, take, slice_index_or, ◌+◌, ◌-◌, ◌^◌}
+use Rattle.std.specs.Prelude.{◌≡◌, ◌≢◌, ◌++◌, ◌∷◌, All, ◌≤◌, ◌<◌, [], ℕ, Bool, not, List, Contains, length, take, slice_index_or, ◌+◌, ◌^◌}
 use Rattle.cnf_core.specs.declared.literal.Lit.{Lit}
 use Rattle.cnf_core.specs.Literal.{HasVarsUpTo, IsClause}
+use Rattle.cnf_core.specs.Formula.{Formula}
 use Rattle.refutation_check.specs.declared.log.Step.{Step}
 use Rattle.refutation_check.specs.Chain.{members_of, IsAccepted, IsChain, IsNovel, Refutes}
-use Rattle.refutation_check.specs.SearchLog.{IsVarOf, HasVarsOf, HasNoEmpty, IsAllNovel}
+use Rattle.refutation_check.specs.SearchLog.{IsSearchLog, IsVarOf, HasVarsOf, HasNoEmpty, IsAllNovel}
 use Rattle.unit_propagation.specs.Assignments.Trail.{IsTrail, falses_of}
 use Rattle.sat_trail.specs.Trailed.{Trailed}
 use Rattle.sat_trail.specs.Closed.{IsClosed, IsClosedBelow}
 use Rattle.sat_trail.specs.Deciding.{HasAllValues}
-use Rattle.sat_core.specs.Answers.{NamesNoUnits}
+use Rattle.sat_trail.specs.Learnt.{IsAsserting}
+use Rattle.sat_core.specs.Answers.{log_of, HasEmptyOnlyLast, HasFewValues, IsRight, IsStopped, NamesNoUnits}
 use Rattle.sat_core.specs.Assuming.{AreTrue, IsAssumedFirst, IsClash}
-use Rattle.sat_core.specs.declared.descent.DeadEnd.{DeadEnd}
-use Rattle.sat_core.specs.declared.descent.DeadEnd.TheVariants.{Conflict, Clash}
+use Rattle.sat_core.specs.Lent.{IsLearnt}
+use Rattle.sat_core.specs.declared.search.Answer.{Answer}
+use Rattle.sat_core.specs.declared.deciding.DeadEnd.{DeadEnd}
+use Rattle.sat_core.specs.declared.deciding.DeadEnd.TheVariants.{Conflict, Clash}
 
 -- the variable is one of the trail
 abbrev pub IsVarIn : ℕ → Lit → Type 0
 IsVarIn vars l = (1 ≤ l.var) × (l.var ≤ vars)
 
--- the trail has the kept clauses and the steps, was closed before each decision, and has the assumed literals first; and the log is
--- as an answer's has to be, over all the given clauses, of which the local ones come after so many of a formula
-pub record Searching (given kept local : List (List Lit)) (assumed : List Lit) (clauses first depth : ℕ) (trail : Trailed) (log : List Step) : Type 0 where
-  pub clauses_are : trail.clauses ≡ members_of kept log
-  pub vars : first ≤ trail.vars
-  pub in_range : All (IsVarIn trail.vars) assumed
+-- the trail has the clauses and the steps, was closed before each decision, and has the assumed literals first
+pub record Searching (clauses : List (List Lit)) (vars : ℕ) (assumed : List Lit) (depth : ℕ) (trail : Trailed) (log : List Step) : Type 0 where
+  pub clauses_are : trail.clauses ≡ members_of clauses log
+  pub vars_are : trail.vars ≡ vars
+  pub in_range : All (IsVarIn vars) assumed
   pub closed_below : IsClosedBelow trail.clauses trail.assigned
   pub assumed_first : IsAssumedFirst assumed depth trail.assigned
-  pub accepted : IsAccepted given log
-  pub vars_of : HasVarsOf given log
-  pub novel : IsAllNovel given log
-  pub no_empty : HasNoEmpty log
-  pub no_units : NamesNoUnits clauses local log
-  pub direct : (hints : List ℕ) → IsChain given [] hints → log ≡ []
+  pub learnt : IsLearnt clauses assumed log
 
 -- every clause is decided: nothing is left for propagation, and each variable has a value
 pub record IsFull (trail : Trailed) : Type 0 where
@@ -73,18 +71,41 @@ pub record IsFound (trail : Trailed) (assumed : List Lit) (valuation : List Bool
   pub small : trail.vars < 2 ^ 31
   pub values : AreValues (falses_of trail.assigned) valuation
 
--- the log has one more step: a chain over the trail's clauses with only their variables, novel and not empty, each of its literals false,
--- with its hints by other numbers; the trail has its clause too, went back, and was closed before each decision that stays
-pub record IsProgress (number : ℕ → ℕ) (old new : Trailed) (before after : List Step) : Type 0 where
-  pub step : Step
-  pub chain : IsChain old.clauses step.clause step.hints
-  pub added : after ≡ before ++ record { clause = step.clause; hints = map number step.hints } ∷ []
-  pub vars_of : All (λ l. IsVarOf old.clauses l.var) step.clause
+-- the step is a chain over the trail's clauses with only their variables, novel and not empty; one of its literals was made false at
+-- the newest of the levels at which they were
+pub record IsNext (trail : Trailed) (step : Step) : Type 0 where
+  pub chain : IsChain trail.clauses step.clause step.hints
+  pub vars_of : All (λ l. IsVarOf trail.clauses l.var) step.clause
+  pub within : HasVarsUpTo trail.vars step.clause
   pub not_empty : step.clause ≢ []
-  pub novel : IsNovel old.clauses step.clause
-  pub is_false : All (Contains (falses_of old.assigned)) step.clause
+  pub novel : IsNovel trail.clauses step.clause
+  pub asserting : IsAsserting trail.assigned step.clause
+
+-- the trail has the step's clause too, went back, and was closed before each decision that stays
+pub record HasNext (old : Trailed) (step : Step) (new : Trailed) : Type 0 where
   pub vars : new.vars ≡ old.vars
   pub clauses : new.clauses ≡ old.clauses ++ step.clause ∷ []
   pub closed_below : IsClosedBelow new.clauses new.assigned
   pub count : ℕ
   pub stays : new.assigned ≡ take count old.assigned
+
+-- the steps so far are as those of an answer have to be, over all the given clauses, of which the local ones come after so many of a
+-- formula; and none is empty
+pub record IsSoFar (given local : List (List Lit)) (clauses : ℕ) (log : List Step) : Type 0 where
+  pub accepted : IsAccepted given log
+  pub vars : HasVarsOf given log
+  pub novel : IsAllNovel given log
+  pub no_empty : HasNoEmpty log
+  pub no_units : NamesNoUnits clauses local log
+  pub direct : (hints : List ℕ) → IsChain given [] hints → log ≡ []
+
+-- all that an answer says of a formula, the pool and the local clauses
+pub record IsAnswerTo (f : Formula) (local : List (List Lit)) (pool : List Step) (budget : ℕ) (answer : Answer) : Type 0 where
+  pub log : IsSearchLog (members_of (f.clauses ++ local) pool) (log_of answer)
+  pub in_range : (n : ℕ) → All (HasVarsUpTo n) f.clauses → All (HasVarsUpTo n) local → All (λ s. HasVarsUpTo n s.clause) pool → All (λ s. HasVarsUpTo n s.clause) (log_of answer)
+  pub few : length (log_of answer) ≤ budget
+  pub right : IsRight f.vars (f.clauses ++ local) pool budget answer
+  pub stopped : IsStopped (f.clauses ++ local) pool answer
+  pub units : NamesNoUnits (length f.clauses) local (log_of answer)
+  pub last : HasEmptyOnlyLast (log_of answer)
+  pub small : HasFewValues answer

@@ -2,10 +2,12 @@
 //! spent budget. The module `search_limits` has the laws of how many steps a search can take.
 #![tactic(auto)]
 
-mod descent;
+mod deciding;
+mod lent;
 mod locals;
 mod search;
 pub mod search_limits;
 
+pub use crate::lent::{Ending, solve_on};
 pub use crate::search::{Answer, solve, solve_from, solve_towards};
-pub use sat_trail::{Leaning, Trail};
+pub use sat_trail::{SavedPhases, Trail};

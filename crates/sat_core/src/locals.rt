@@ -2,10 +2,10 @@
 ghost use Rattle.std.specs.Prelude.{◌≡◌, ◌+◌, ◌≤◌, ◌<◌, ◌^◌, ◌++◌, ◌∷◌, [], List, All, IfOk, OnOk, length, map};
 ghost use Rattle.cnf_core.specs.declared.literal.Lit.{Lit};
 ghost use Rattle.cnf_core.specs.Literal.{IsVariable};
-ghost use Rattle.sat_core.specs.Assuming.{IsSplit, number_of};
+ghost use Rattle.sat_core.specs.Assuming.{IsSplit, number_of, numbered};
 
 use cnf_core::{Clause, Lit};
-use refutation_check::{Hints, Step};
+use refutation_check::{Hints, Log, Step};
 use std::alloc::{AllocError, Global};
 
 /// How the members of a trail are numbered in an answer: so many clauses of the formula, then so many local clauses, of which
@@ -98,12 +98,12 @@ impl Numbering {
         }
     }
 
-    /// The step with the numbers of an answer.
-    pub(crate) fn step(&self, alloc: Global, step: &Step) -> Result<Step, AllocError>
+    // The step with the numbers of an answer.
+    fn step(&self, alloc: Global, step: &Step) -> Result<Step, AllocError>
         requires hints { All (λ hint. hint < 2 ^ 30) step.now.hints }
         requires clauses { self.now.clauses + self.now.local < 2 ^ 30 }
         requires places { All (λ place. place ≤ self.now.local) self.now.places.items }
-        ensures { IfOk result (λ s. s ≡ record { clause = step.now.clause; hints = map (number_of self.now.clauses self.now.local self.now.places.items) step.now.hints }) }
+        ensures { IfOk result (λ s. s ≡ numbered (number_of self.now.clauses self.now.local self.now.places.items) step.now) }
     {
         let mut numbers = Vec::with_capacity(alloc, step.hints.numbers().len())?;
         for hint in step.hints.numbers() {
@@ -114,5 +114,19 @@ impl Numbering {
             clause,
             hints: Hints::of(numbers),
         })
+    }
+
+    /// The steps with the numbers of an answer.
+    pub(crate) fn log(&self, alloc: Global, log: &Log) -> Result<Log, AllocError>
+        requires hints { All (λ s. All (λ hint. hint < 2 ^ 30) s.hints) log.now }
+        requires clauses { self.now.clauses + self.now.local < 2 ^ 30 }
+        requires places { All (λ place. place ≤ self.now.local) self.now.places.items }
+        ensures { IfOk result (λ steps. steps ≡ map (numbered (number_of self.now.clauses self.now.local self.now.places.items)) log.now) }
+    {
+        let mut steps = Log::new(alloc);
+        for step in log.steps() {
+            steps.push(self.step(alloc, step)?)?;
+        }
+        Ok(steps)
     }
 }

@@ -1,21 +1,21 @@
-// The search: descents and learning in turn.
+// The search for a valuation of a formula and local clauses.
 ghost use Rattle.std.specs.Prelude.{◌≡◌, ◌+◌, ◌≤◌, ◌<◌, ◌^◌, ◌++◌, [], ℕ, List, All, IfOk, OnOk, OnErr, length};
 ghost use Rattle.cnf_core.specs.Literal.{HasVarsUpTo, IsVariable};
-ghost use Rattle.refutation_check.specs.Chain.{members_of, IsAccepted, IsChain, Refutes};
+ghost use Rattle.refutation_check.specs.Chain.{members_of, IsAccepted, IsChain};
 ghost use Rattle.refutation_check.specs.SearchLog.{IsSearchLog, HasVarsOf};
-ghost use Rattle.unit_propagation.specs.Assignments.Trail.{falses_of};
 ghost use Rattle.sat_trail.specs.Trailed.{IsBase};
-ghost use Rattle.sat_trail.specs.Closed.{IsClosed, IsClosedBelow};
-ghost use Rattle.sat_core.specs.Answers.{log_of, leaned_behind, HasEmptyOnlyLast, HasFewValues, IsRight, NamesNoUnits};
-ghost use Rattle.sat_core.specs.Assuming.{AreTrue, IsSplit, number_of};
-ghost use Rattle.sat_core.specs.Search.{IsFound, IsFull, IsProgress, IsVarIn};
+ghost use Rattle.sat_trail.specs.Closed.{IsClosed};
+ghost use Rattle.sat_core.specs.Answers.{log_of, leaned_behind, HasEmptyOnlyLast, HasFewValues, IsRight, IsStopped, NamesNoUnits};
+ghost use Rattle.sat_core.specs.Assuming.{IsSplit};
+ghost use Rattle.sat_core.specs.Lent.{steps_of, IsEnding, IsLearnt};
+ghost use Rattle.sat_core.specs.Search.{IsAnswerTo, IsSoFar, IsVarIn};
 ghost use Rattle.cnf_core.specs.declared.literal.Lit.{Lit};
 
-use crate::descent::{DeadEnd, descend, values_of};
-use crate::locals::{Locals, Numbering, split};
+use crate::lent::{Ending, solve_on};
+use crate::locals::{Locals, split};
 use cnf_core::{Clause, Cnf, Lit, Valuation};
 use refutation_check::{Log, Step};
-use sat_trail::{Leaning, Propagated, Trail, learn};
+use sat_trail::{Propagated, SavedPhases, Trail, learn};
 use std::alloc::{AllocError, Global};
 
 /// What a search comes to, with the steps that were learnt.
@@ -25,7 +25,7 @@ pub enum Answer {
     Found { valuation: Valuation, log: Log },
     /// The formula and the local clauses can't be satisfied: the last step of the log, and no other, is empty.
     Refuted { log: Log },
-    /// The budget was spent on steps.
+    /// The budget was spent on steps, and there is one more.
     Spent { log: Log },
 }
 
@@ -49,6 +49,7 @@ pub fn solve(
     ensures in_range { (n : ℕ) → All (HasVarsUpTo n) f.now.clauses → All (HasVarsUpTo n) local.now → All (λ s. HasVarsUpTo n s.clause) pool.now → IfOk result (λ a. All (λ s. HasVarsUpTo n s.clause) (log_of a)) }
     ensures budget { IfOk result (λ a. length (log_of a) ≤ budget) }
     ensures answer { IfOk result (IsRight f.now.vars (f.now.clauses ++ local.now) pool.now budget) }
+    ensures stopped { IfOk result (IsStopped (f.now.clauses ++ local.now) pool.now) }
     ensures units { IfOk result (λ a. NamesNoUnits (length f.now.clauses) local.now (log_of a)) }
     ensures last { IfOk result (λ a. HasEmptyOnlyLast (log_of a)) }
 {
@@ -71,11 +72,12 @@ pub fn solve_towards(
     ensures in_range { (n : ℕ) → All (HasVarsUpTo n) f.now.clauses → All (HasVarsUpTo n) local.now → All (λ s. HasVarsUpTo n s.clause) pool.now → IfOk result (λ a. All (λ s. HasVarsUpTo n s.clause) (log_of a)) }
     ensures budget { IfOk result (λ a. length (log_of a) ≤ budget) }
     ensures answer { IfOk result (IsRight f.now.vars (f.now.clauses ++ local.now) pool.now budget) }
+    ensures stopped { IfOk result (IsStopped (f.now.clauses ++ local.now) pool.now) }
     ensures units { IfOk result (λ a. NamesNoUnits (length f.now.clauses) local.now (log_of a)) }
     ensures last { IfOk result (λ a. HasEmptyOnlyLast (log_of a)) }
 {
     let base = Trail::over(alloc, f, f.vars())?;
-    let mut leaning = Leaning::towards(alloc, value);
+    let mut leaning = SavedPhases::towards(alloc, value);
     solve_from(alloc, f, &base, pool, local, budget, &mut leaning)
 }
 
@@ -88,7 +90,7 @@ pub fn solve_from(
     pool: &Log,
     local: &[Clause],
     budget: u64,
-    leaning: &mut Leaning,
+    leaning: &mut SavedPhases,
 ) -> Result<Answer, AllocError>
     requires base { IsBase f.now base.now }
     requires pool { IsAccepted f.now.clauses pool.now }
@@ -97,6 +99,7 @@ pub fn solve_from(
     ensures in_range { (n : ℕ) → All (HasVarsUpTo n) f.now.clauses → All (HasVarsUpTo n) local.now → All (λ s. HasVarsUpTo n s.clause) pool.now → IfOk result (λ a. All (λ s. HasVarsUpTo n s.clause) (log_of a)) }
     ensures budget { IfOk result (λ a. length (log_of a) ≤ budget) }
     ensures answer { IfOk result (IsRight f.now.vars (f.now.clauses ++ local.now) pool.now budget) }
+    ensures stopped { IfOk result (IsStopped (f.now.clauses ++ local.now) pool.now) }
     ensures units { IfOk result (λ a. NamesNoUnits (length f.now.clauses) local.now (log_of a)) }
     ensures last { IfOk result (λ a. HasEmptyOnlyLast (log_of a)) }
     ensures leaning { IfOk result (λ a. leaning.new ≡ leaned_behind a leaning.old) }
@@ -106,15 +109,14 @@ pub fn solve_from(
     let others = locals.others.as_slice();
     let assumed = locals.assumed.as_slice();
     let mut trail = trail_of(alloc, f, base, pool, others, assumed)?;
-    let answer = search_on(
-        alloc, f, base, pool, local, budget, &locals, leaning, &mut trail,
-    )?;
+    let ending = solve_on(alloc, &mut trail, assumed, budget, leaning)?;
+    let answer = answer_of(alloc, f, base, pool, local, budget, &locals, &trail, ending)?;
     follow(alloc, leaning, &answer)?;
     Ok(answer)
 }
 
 // What was found is leant to from now on.
-fn follow(alloc: Global, leaning: &mut Leaning, answer: &Answer) -> Result<(), AllocError>
+fn follow(alloc: Global, leaning: &mut SavedPhases, answer: &Answer) -> Result<(), AllocError>
     requires { HasFewValues answer.now }
     ensures done { OnOk result (leaning.new ≡ leaned_behind answer.now leaning.old) }
     ensures err { OnErr result (leaning.new ≡ leaning.old) }
@@ -126,8 +128,9 @@ fn follow(alloc: Global, leaning: &mut Leaning, answer: &Answer) -> Result<(), A
     }
 }
 
-// Searches on a trail over the formula, the local clauses of more than one literal, and the pool, where no literal is true yet.
-fn search_on(
+// What the end of a search on a trail answers, with the numbers of all that was given. The trail was over the formula, the local
+// clauses of more than one literal, and the pool.
+fn answer_of(
     alloc: Global,
     f: &Cnf,
     base: &Trail,
@@ -135,62 +138,66 @@ fn search_on(
     local: &[Clause],
     budget: u64,
     locals: &Locals,
-    leaning: &Leaning,
-    trail: &mut Trail,
+    trail: &Trail,
+    ending: Ending,
 ) -> Result<Answer, AllocError>
     requires base { IsBase f.now base.now }
     requires pool { IsAccepted f.now.clauses pool.now }
     requires few { length f.now.clauses + length local.now + length pool.now + budget < 2 ^ 30 }
     requires split { IsSplit local.now locals.now.assumed.items locals.now.others.items locals.now.numbering.places.items }
-    requires variables { All (λ l. IsVariable l.var) locals.now.assumed.items }
     requires formula { locals.now.numbering.clauses ≡ length f.now.clauses }
     requires local { locals.now.numbering.local ≡ length local.now }
-    requires clauses { trail.old.clauses ≡ members_of (f.now.clauses ++ locals.now.others.items) pool.now }
-    requires vars { f.now.vars ≤ trail.old.vars }
-    requires in_range { All (IsVarIn trail.old.vars) locals.now.assumed.items }
-    requires assigned { trail.old.assigned ≡ [] }
-    ensures log { IfOk result (λ a. IsSearchLog (members_of (f.now.clauses ++ local.now) pool.now) (log_of a)) }
-    ensures in_range { (n : ℕ) → All (HasVarsUpTo n) f.now.clauses → All (HasVarsUpTo n) local.now → All (λ s. HasVarsUpTo n s.clause) pool.now → IfOk result (λ a. All (λ s. HasVarsUpTo n s.clause) (log_of a)) }
-    ensures budget { IfOk result (λ a. length (log_of a) ≤ budget) }
-    ensures answer { IfOk result (IsRight f.now.vars (f.now.clauses ++ local.now) pool.now budget) }
-    ensures units { IfOk result (λ a. NamesNoUnits (length f.now.clauses) local.now (log_of a)) }
-    ensures last { IfOk result (λ a. HasEmptyOnlyLast (log_of a)) }
-    ensures small { IfOk result HasFewValues }
+    requires vars { f.now.vars ≤ trail.now.vars }
+    requires in_range { All (IsVarIn trail.now.vars) locals.now.assumed.items }
+    requires learnt { IsLearnt (members_of (f.now.clauses ++ locals.now.others.items) pool.now) locals.now.assumed.items (steps_of ending) }
+    requires budget { length (steps_of ending) ≤ budget }
+    requires end { IsEnding trail.now.vars (members_of (f.now.clauses ++ locals.now.others.items) pool.now) locals.now.assumed.items budget ending }
+    ensures { IfOk result (IsAnswerTo f.now local.now pool.now budget) }
 {
+    let _ = trail.vars(); // for the proof
     let numbering = &locals.numbering;
-    let assumed = locals.assumed.as_slice();
-    let mut depth = 0;
-    let mut log = Log::new(alloc);
-    'learning: loop {
-        let Some(end) = descend(trail, assumed, &mut depth, leaning) else {
-            let valuation = found(alloc, trail, assumed)?;
-            return Ok(Answer::Found { valuation, log });
-        };
-        if log.steps().len() as u64 == budget {
-            return Ok(Answer::Spent { log });
+    match ending {
+        Ending::Found { valuation, log } => {
+            let log = numbering.log(alloc, &log)?;
+            Ok(Answer::Found { valuation, log })
         }
-        match end {
-            DeadEnd::Conflict(number) => {
-                learn_from(alloc, trail, &mut log, numbering, number)?;
-            }
-            DeadEnd::Clash => {
-                let step = last_step(alloc, f, base, pool, local, &log)?;
-                log.push(step)?;
-                return Ok(Answer::Refuted { log });
-            }
+        Ending::Clash { log } => {
+            let log = numbering.log(alloc, &log)?;
+            let answer = refuted(alloc, f, base, pool, local, budget, log)?;
+            Ok(answer)
+        }
+        Ending::Spent { log } => {
+            let log = numbering.log(alloc, &log)?;
+            Ok(Answer::Spent { log })
         }
     }
 }
 
-// The values of a full trail in which all that is assumed is true.
-fn found(alloc: Global, trail: &Trail, assumed: &[Lit]) -> Result<Valuation, AllocError>
-    requires full { IsFull trail.now }
-    requires assumed { AreTrue (falses_of trail.now.assigned) assumed.now }
-    ensures { IfOk result (IsFound trail.now assumed.now) }
+// The refutation that a last step makes of the steps of a log, where the budget allows it.
+fn refuted(
+    alloc: Global,
+    f: &Cnf,
+    base: &Trail,
+    pool: &Log,
+    local: &[Clause],
+    budget: u64,
+    steps: Log,
+) -> Result<Answer, AllocError>
+    requires base { IsBase f.now base.now }
+    requires pool { IsAccepted f.now.clauses pool.now }
+    requires few { length f.now.clauses + length local.now + length pool.now + budget < 2 ^ 30 }
+    requires budget { length steps ≤ budget }
+    requires so_far { IsSoFar (members_of (f.now.clauses ++ local.now) pool.now) local.now (length f.now.clauses) steps }
+    requires clash { (falses : List Lit) → ¬ IsClosed (members_of (members_of (f.now.clauses ++ local.now) pool.now) steps) falses }
+    ensures { IfOk result (IsAnswerTo f.now local.now pool.now budget) }
 {
-    let _assumed = assumed; // for the proof
-    let _ = trail.vars(); // for the proof
-    values_of(alloc, trail)
+    let mut log = steps;
+    let step = last_step(alloc, f, base, pool, local, &log)?;
+    if log.steps().len() as u64 == budget {
+        return Ok(Answer::Spent { log });
+    }
+    log.push(step)?;
+    Ok(Answer::Refuted { log })
 }
 
 // The highest variable of the literals, or this one where it is higher.
@@ -244,33 +251,6 @@ fn trail_of(
     }
     let formula = raised(alloc, f, highest)?;
     Trail::of(alloc, &formula, pool, others)
-}
-
-// Learns a step from the conflict of a stuck trail, which goes back to the second highest level of its clause, and has the
-// clause too.
-fn learn_from(
-    alloc: Global,
-    trail: &mut Trail,
-    log: &mut Log,
-    numbering: &Numbering,
-    conflict: u32,
-) -> Result<(), AllocError>
-    requires conflict { Refutes trail.old.clauses (falses_of trail.old.assigned) conflict }
-    requires closed_below { IsClosedBelow trail.old.clauses trail.old.assigned }
-    requires deep { (hints : List ℕ) → ¬ IsChain trail.old.clauses [] hints }
-    requires log { length log.old + 1 < 2 ^ 30 }
-    requires clauses { length trail.old.clauses + 1 < 2 ^ 30 }
-    requires numbers { numbering.now.clauses + numbering.now.local < 2 ^ 30 }
-    requires places { All (λ place. place ≤ numbering.now.local) numbering.now.places.items }
-    ensures { OnOk result (IsProgress (number_of numbering.now.clauses numbering.now.local numbering.now.places.items) trail.old trail.new log.old log.new) }
-{
-    let _ = trail.level(); // for the proof
-    let step = learn(alloc, trail, conflict)?;
-    let level = trail.back_level(step.clause.lits());
-    log.push(numbering.step(alloc, &step)?)?;
-    trail.back_to(level);
-    trail.add(step)?;
-    Ok(())
 }
 
 // The empty step, a chain over all that was given, the local clauses of one literal too, and the steps that were learnt.

@@ -16,7 +16,7 @@ use Rattle.unit_propagation.proofs.Propagation.MarkLists.{marked_in}
 use Rattle.unit_propagation.proofs.Propagation.Slots.{clause_is}
 use Rattle.sat_trail.specs.Rounds.{IsQuiet, IsFollowed}
 
-module _ (clauses : List (List Lit)) (w : WatchState) (vars : ℕ) (assigned : List Assigned) (flags : List Bool) (drawn n : ℕ) (codes : List ℕ) (was : IsReady clauses w (record { vars = vars; assigned = assigned }) flags drawn) (each : All IsClause clauses) (in' : n < length clauses) (named : slice_get clauses ((n + 1) - 1) ≡ Some (literals_of codes)) where
+module _ (clauses : List (List Lit)) (w : WatchState) (vars : ℕ) (assigned : List Assigned) (flags : List Bool) (propagated n : ℕ) (codes : List ℕ) (was : IsReady clauses w (record { vars = vars; assigned = assigned }) flags propagated) (each : All IsClause clauses) (in' : n < length clauses) (named : slice_get clauses ((n + 1) - 1) ≡ Some (literals_of codes)) where
   clause : get_or clauses n [] ≡ literals_of codes
   clause = clause_is clauses codes n named
 

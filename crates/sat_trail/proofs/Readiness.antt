@@ -16,11 +16,11 @@ use Rattle.unit_propagation.specs.Propagation.Rule.{twin, watched, IsMarked, IsC
 use Rattle.unit_propagation.specs.Propagation.Walk.{IsReady}
 use Rattle.unit_propagation.proofs.Propagation.Keeping.{right_push, right_mark, marked_more}
 use Rattle.unit_propagation.proofs.Propagation.Slots.{twin_is}
-use Rattle.sat_trail.specs.Settling.{IsSettled}
+use Rattle.sat_trail.specs.Settling.{NeedsNoMark}
 
 -- one more literal is true
-pub ready_push : (clauses : List (List Lit)) (w : WatchState) (vars : ℕ) (assigned : List Assigned) (flags : List Bool) (drawn : ℕ) (a : Assigned) → IsReady clauses w (record { vars = vars; assigned = assigned }) flags drawn → IsPlaced clauses assigned a → IsReady clauses w (record { vars = vars; assigned = assigned ++ a ∷ [] }) flags drawn
-ready_push clauses w vars assigned flags drawn a was placed =
+pub ready_push : (clauses : List (List Lit)) (w : WatchState) (vars : ℕ) (assigned : List Assigned) (flags : List Bool) (propagated : ℕ) (a : Assigned) → IsReady clauses w (record { vars = vars; assigned = assigned }) flags propagated → IsPlaced clauses assigned a → IsReady clauses w (record { vars = vars; assigned = assigned ++ a ∷ [] }) flags propagated
+ready_push clauses w vars assigned flags propagated a was placed =
     record {
       trail = IsTrail-push clauses assigned a was.trail placed;
       within = was.within;
@@ -28,19 +28,19 @@ ready_push clauses w vars assigned flags drawn a was placed =
       flags_long = was.flags_long;
       lists = was.lists;
       watching = was.watching;
-      drawn_in = omega (arith, was.drawn_in, length-append assigned (a ∷ []));
-      right = λ i x h in'. right_push w.codes assigned flags a i x (omega (arith, h, was.drawn_in)) (was.right i x h in');
+      propagated_in = omega (arith, was.propagated_in, length-append assigned (a ∷ []));
+      right = λ i x h in'. right_push w.codes assigned flags a i x (omega (arith, h, was.propagated_in)) (was.right i x h in');
     }
 
 -- one more clause is marked
-pub ready_mark : (clauses : List (List Lit)) (w : WatchState) (now : AssignmentState) (flags : List Bool) (drawn n : ℕ) → IsReady clauses w now flags drawn → IsReady clauses w now (set flags n true) drawn
-ready_mark clauses w now flags drawn n was =
+pub ready_mark : (clauses : List (List Lit)) (w : WatchState) (now : AssignmentState) (flags : List Bool) (propagated n : ℕ) → IsReady clauses w now flags propagated → IsReady clauses w now (set flags n true) propagated
+ready_mark clauses w now flags propagated n was =
     record {
       trail = was.trail;
       within = was.within;
       long = was.long;
       lists = was.lists;
-      drawn_in = was.drawn_in;
+      propagated_in = was.propagated_in;
       flags_long = length-set flags n true ∙ was.flags_long;
       watching = λ m h. elim (was.watching m h) [
         | inl s ↦ inl (record { flagged = marked_more flags n m s.flagged; first = s.first; second = s.second })
@@ -50,7 +50,7 @@ ready_mark clauses w now flags drawn n was =
     }
 
 -- a clause of which the rule holds without its mark is marked no more
-settled_covers : (codes : List ℕ) (assigned : List Assigned) (n x i : ℕ) → IsSettled codes assigned n → x / 2 ≡ n → i < length assigned → ((d : Assigned) → negation_of (get_or assigned i d).lit ≡ watched codes x) → IsCovered codes assigned x i
+settled_covers : (codes : List ℕ) (assigned : List Assigned) (n x i : ℕ) → NeedsNoMark codes assigned n → x / 2 ≡ n → i < length assigned → ((d : Assigned) → negation_of (get_or assigned i d).lit ≡ watched codes x) → IsCovered codes assigned x i
 settled_covers codes assigned n x i settled of in' is =
     elim (twin_is x) [
       | inl (even, t) ↦
@@ -65,14 +65,14 @@ settled_covers codes assigned n x i settled of in' is =
           record { place = r.0; in_range = r.1; true_there = λ d. r.2 d ∙ ap (watched codes) there; low = r.3 }
     ]
 
-pub ready_unmark : (clauses : List (List Lit)) (w : WatchState) (now : AssignmentState) (flags : List Bool) (drawn n : ℕ) → IsSettled w.codes now.assigned n → IsReady clauses w now flags drawn → IsReady clauses w now (set flags n false) drawn
-ready_unmark clauses w now flags drawn n settled was =
+pub ready_unmark : (clauses : List (List Lit)) (w : WatchState) (now : AssignmentState) (flags : List Bool) (propagated n : ℕ) → NeedsNoMark w.codes now.assigned n → IsReady clauses w now flags propagated → IsReady clauses w now (set flags n false) propagated
+ready_unmark clauses w now flags propagated n settled was =
     record {
       trail = was.trail;
       within = was.within;
       long = was.long;
       lists = was.lists;
-      drawn_in = was.drawn_in;
+      propagated_in = was.propagated_in;
       flags_long = length-set flags n false ∙ was.flags_long;
       watching = λ m h. elim (was.watching m h) [
         | inl s ↦ elim (cases_eq m n) [
@@ -84,14 +84,14 @@ ready_unmark clauses w now flags drawn n settled was =
       right = λ i x h in' is. elim (was.right i x h in' is) [
         | inr covered ↦ inr covered
         | inl m ↦ elim (cases_eq (x / 2) n) [
-          | inl e ↦ inr (settled_covers w.codes now.assigned n x i settled e (omega (arith, h, was.drawn_in)) is)
+          | inl e ↦ inr (settled_covers w.codes now.assigned n x i settled e (omega (arith, h, was.propagated_in)) is)
           | inr ne ↦ inl (get_or-set_other flags n (x / 2) false false ne ∙ m)
         ]
       ];
     }
 
--- one clause more: its slots watch two of its literals, or it is short and marked; and it is marked, or nothing is drawn
-module _ (clauses : List (List Lit)) (w : WatchState) (now : AssignmentState) (flags news : List Bool) (drawn one other : ℕ) (clause : List Lit) (was : IsReady clauses w now flags drawn) (stays : (m : ℕ) → IsMarked flags m → IsMarked news m) where
+-- one clause more: its slots watch two of its literals, or it is short and marked; and it is marked, or nothing is propagated
+module _ (clauses : List (List Lit)) (w : WatchState) (now : AssignmentState) (flags news : List Bool) (propagated one other : ℕ) (clause : List Lit) (was : IsReady clauses w now flags propagated) (stays : (m : ℕ) → IsMarked flags m → IsMarked news m) where
   abbrev n : ℕ
   n = length clauses
 
@@ -136,7 +136,7 @@ module _ (clauses : List (List Lit)) (w : WatchState) (now : AssignmentState) (f
         })
       ]
 
-  old_right : (i x : ℕ) → i < drawn → x < length w.codes → IsRightAt codes now.assigned news i x
+  old_right : (i x : ℕ) → i < propagated → x < length w.codes → IsRightAt codes now.assigned news i x
   old_right i x h in' is =
       let there : twin x < length w.codes = elim (twin_is x) [ inl (even, t) ↦ omega (arith, even, t, in', was.long) | inr (odd, t) ↦ omega (arith, odd, t, in') ] in
       elim (was.right i x h in' (λ d. is d ∙ old_watched x in')) [
@@ -144,7 +144,7 @@ module _ (clauses : List (List Lit)) (w : WatchState) (now : AssignmentState) (f
         | inr c ↦ inr (record { place = c.place; in_range = c.in_range; true_there = λ d. c.true_there d ∙ sym (old_watched (twin x) there); low = c.low })
       ]
 
-  module _ (long : length news ≡ length flags + 1) (vars : HasVarsUpTo now.vars clause) (new : (IsMarked news n × (one < 2) × (other < 2)) ⊎ (Contains clause (literal_of one) × Contains clause (literal_of other) × (literal_of one ≡ literal_of other → ⊥))) (rule : IsMarked news n ⊎ (drawn ≡ 0)) where
+  module _ (long : length news ≡ length flags + 1) (vars : HasVarsUpTo now.vars clause) (new : (IsMarked news n × (one < 2) × (other < 2)) ⊎ (Contains clause (literal_of one) × Contains clause (literal_of other) × (literal_of one ≡ literal_of other → ⊥))) (rule : IsMarked news n ⊎ (propagated ≡ 0)) where
     new_watching : IsShort codes news n ⊎ IsWatching more codes n
     new_watching =
         elim new [
@@ -156,7 +156,7 @@ module _ (clauses : List (List Lit)) (w : WatchState) (now : AssignmentState) (f
           })
         ]
 
-    pub ready_append : IsReady more (with_slot (with_slot w one) other) now news drawn
+    pub ready_append : IsReady more (with_slot (with_slot w one) other) now news propagated
     ready_append =
         record {
           trail = IsTrail-clause clauses clause now.assigned was.trail;
@@ -168,7 +168,7 @@ module _ (clauses : List (List Lit)) (w : WatchState) (now : AssignmentState) (f
             | inl lt ↦ old_watching m lt
             | inr ge ↦ let e : m ≡ n = omega (arith, h, length-append clauses (clause ∷ [])) in subst (λ (k : ℕ). IsShort codes news k ⊎ IsWatching more codes k) (sym e) new_watching
           ];
-          drawn_in = was.drawn_in;
+          propagated_in = was.propagated_in;
           right = λ i x h in'. elim (cases_lt x (length w.codes)) [
             | inl lt ↦ old_right i x h lt
             | inr ge ↦ λ is.

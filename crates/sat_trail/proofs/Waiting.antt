@@ -19,7 +19,7 @@ use Rattle.unit_propagation.specs.declared.assignment_trail.assigned.Assigned.{A
 use Rattle.unit_propagation.specs.Assignments.AssignmentState.{AssignmentState, IsValueOf}
 use Rattle.unit_propagation.specs.Assignments.Trail.{ForcesMore, IsBackTo, IsVarUpTo, falses_of}
 use Rattle.unit_propagation.proofs.Assignments.Trails.{falses_of-push, from_falses, in_front}
-use Rattle.sat_trail.specs.Deciding.{HasAllValues, IsOpenVar}
+use Rattle.sat_trail.specs.Deciding.{HasAllValues, IsLowestOpen, IsOpenVar}
 use Rattle.sat_trail.specs.Waiting.{IsOrderOf, IsPutBack}
 use Rattle.sat_trail.proofs.Learned.{named_in}
 
@@ -123,19 +123,24 @@ order_taken vars falses order place value was =
       ];
     }
 
--- where none waits, each variable has a value
-pub all_valued : (vars : ℕ) (falses : List Lit) (order : OrderState) → IsOrderOf vars falses order → NoneWaits order.waiting → HasAllValues vars falses
-all_valued vars falses order was none var low high =
+-- a variable that is not open has a value
+has_value : (falses : List Lit) (var : ℕ) → (IsOpen falses (record { var = var; positive = false }) → ⊥) → (value : Bool) × Contains falses (record { var = var; positive = not value })
+has_value falses var closed =
     elim (contains_or_not falses (record { var = var; positive = false })) [
       | inl is_true ↦ (true, is_true)
       | inr not_true ↦ elim (contains_or_not falses (record { var = var; positive = true })) [
         | inl is_false ↦ (false, is_false)
-        | inr not_false ↦
-            let back : (var - 1) + 1 ≡ var = omega arith in
-            let o : IsOpenVar vars falses var = record { from_one = low; in_range = high; is_open = (not_true, not_false) } in
-            absurd (none (var - 1) (was.waits (var - 1) (subst (IsOpenVar vars falses) (sym back) o)))
+        | inr not_false ↦ absurd (closed (not_true, not_false))
       ]
     ]
+
+-- where none waits, each variable has a value
+pub all_valued : (vars : ℕ) (falses : List Lit) (order : OrderState) → IsOrderOf vars falses order → NoneWaits order.waiting → HasAllValues vars falses
+all_valued vars falses order was none var low high =
+    has_value falses var (λ is_open.
+    let back : (var - 1) + 1 ≡ var = omega arith in
+    let o : IsOpenVar vars falses var = record { from_one = low; in_range = high; is_open = is_open } in
+    none (var - 1) (was.waits (var - 1) (subst (IsOpenVar vars falses) (sym back) o)))
 
 -- what the value of a variable's negative literal says
 low_literal : (var code : ℕ) → code ≡ 2 * var → literal_of code ≡ record { var = var; positive = false }
@@ -264,3 +269,22 @@ clause_within clauses n lits vars each within named k d h =
 -- the variable of a literal of the trail
 pub in_vars : (vars : ℕ) (xs : List Assigned) (m : ℕ) (a : Assigned) → m < length xs → All (IsVarUpTo vars) xs → ((d : Assigned) → a ≡ get_or xs m d) → IsVarUpTo vars a
 in_vars vars xs m a h all at = subst (IsVarUpTo vars) (sym (at a)) (all m a h)
+
+-- the first variables with one more that has a value
+pub valued_more : (n : ℕ) (falses : List Lit) → HasAllValues n falses → (IsOpen falses (record { var = n + 1; positive = false }) → ⊥) → HasAllValues (n + 1) falses
+valued_more n falses was closed var low high =
+    elim (cases_lt var (n + 1)) [
+      | inl less ↦ was var low (omega arith)
+      | inr more ↦
+          let is : n + 1 ≡ var = omega arith in
+          subst (λ (v : ℕ). (value : Bool) × Contains falses (record { var = v; positive = not value })) is (has_value falses (n + 1) closed)
+    ]
+
+-- the first variable that is open, behind so many that aren't
+pub open_behind : (n limit : ℕ) (falses : List Lit) → n < limit → HasAllValues n falses → IsOpen falses (record { var = n + 1; positive = false }) → IsLowestOpen limit falses (n + 1)
+open_behind n limit falses less was is_open =
+    let back : n ≡ (n + 1) - 1 = omega arith in
+    record {
+      is_open = record { from_one = omega arith; in_range = omega (arith, less); is_open = is_open };
+      below = subst (λ (k : ℕ). HasAllValues k falses) back was;
+    }

@@ -42,7 +42,7 @@ ready_none vars =
       flags_long = refl;
       lists = length-replicate (2 * vars + 2) [];
       watching = λ m h. absurd (omega arith);
-      drawn_in = omega arith;
+      propagated_in = omega arith;
       right = λ i x h. absurd (omega arith);
     }
 
@@ -74,6 +74,6 @@ pub or_true : (a b : Bool) → b ≡ true → (a || b) ≡ true
 or_true true b h = refl
 or_true false b h = h
 
-pub marked_or_none : (a b : Bool) (news : List Bool) (n drawn : ℕ) → ((a || b) ≡ true → IsMarked news n) → (a ≡ false → drawn ≡ 0) → IsMarked news n ⊎ (drawn ≡ 0)
-marked_or_none true b news n drawn marked none = inl (marked refl)
-marked_or_none false b news n drawn marked none = inr (none refl)
+pub marked_or_none : (a b : Bool) (news : List Bool) (n propagated : ℕ) → ((a || b) ≡ true → IsMarked news n) → (a ≡ false → propagated ≡ 0) → IsMarked news n ⊎ (propagated ≡ 0)
+marked_or_none true b news n propagated marked none = inl (marked refl)
+marked_or_none false b news n propagated marked none = inr (none refl)

@@ -6,6 +6,6 @@ use Rattle.sat_trail.specs.Waiting.{IsOrderOf}
 use Rattle.sat_trail.specs.declared.trail.Trail.TheInside.{Inside}
 
 pub record IsKept (t : Inside) : Type 0 where
-  pub ready : IsReady t.store t.watches t.assignment t.pending.flags t.drawn
+  pub ready : IsReady t.store t.watches t.assignment t.pending.flags t.propagated
   pub ordered : IsOrderOf t.assignment.vars (falses_of t.assignment.assigned) t.order
   pub met : length t.met_by.items ≡ t.assignment.vars

@@ -10,7 +10,7 @@ IsHeldUp assigned code other =
     (i : ℕ) → i < length assigned → ((d : Assigned) → negation_of (slice_index_or assigned i d).lit ≡ literal_of code) → (j : ℕ) × (j < length assigned) × ((d : Assigned) → (slice_index_or assigned j d).lit ≡ literal_of other) × ((d : Assigned) → (slice_index_or assigned j d).level ≤ (slice_index_or assigned i d).level)
 
 -- so it is of both watched literals of the clause at this place, which are no short clause's
-pub record IsSettled (codes : List ℕ) (assigned : List Assigned) (n : ℕ) : Type 0 where
+pub record NeedsNoMark (codes : List ℕ) (assigned : List Assigned) (n : ℕ) : Type 0 where
   pub first_is : 2 ≤ slice_index_or codes (2 * n) 0
   pub second_is : 2 ≤ slice_index_or codes (2 * n + 1) 0
   pub first : IsHeldUp assigned (slice_index_or codes (2 * n) 0) (slice_index_or codes (2 * n + 1) 0)

@@ -4,7 +4,7 @@ ghost use Rattle.cnf_core.specs.Literal.{HasVarsUpTo};
 ghost use Rattle.unit_propagation.specs.Clauses.Codes.{literals_of};
 ghost use Rattle.unit_propagation.specs.declared.assignment_trail.assigned.Assigned.{Assigned};
 ghost use Rattle.unit_propagation.specs.Assignments.Trail.{IsBackTo, falses_of};
-ghost use Rattle.sat_trail.specs.Deciding.{HasAllValues, IsOpenVar};
+ghost use Rattle.sat_trail.specs.Deciding.{HasAllValues, IsLowestOpen, IsOpenVar};
 ghost use Rattle.sat_trail.specs.Waiting.{IsOrderOf};
 
 use unit_propagation::activity_order::ActivityOrder;
@@ -22,6 +22,21 @@ pub(crate) fn take_open(order: &mut ActivityOrder, now: &Assignment) -> Option<u
         let var = place + 1;
         if now.value(2 * var).is_none() {
             return Some(var);
+        }
+    }
+    None
+}
+
+/// The lowest open variable above `from`, up to which each has a value, and not above `limit`: or none.
+pub(crate) fn lowest_open(now: &Assignment, from: u32, limit: u32) -> Option<u32>
+    requires limit { limit ≤ now.now.vars }
+    requires from { HasAllValues from (falses_of now.now.assigned) }
+    ensures { MatchOption result (HasAllValues limit (falses_of now.now.assigned)) (IsLowestOpen limit (falses_of now.now.assigned)) }
+{
+    let _ = now.vars(); // for the proof
+    for place in from..limit {
+        if now.value(2 * place + 2).is_none() {
+            return Some(place + 1);
         }
     }
     None

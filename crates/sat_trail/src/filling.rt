@@ -112,18 +112,18 @@ pub(crate) fn append(
     watches: &mut WatchLists,
     now: &Assignment,
     pending: &mut Pending,
-    drawn: usize,
+    propagated: usize,
     clause: &Clause,
     is_marked: bool,
 ) -> Result<(), AllocError>
-    requires ready { IsReady store.old watches.old now.now pending.old.flags drawn }
+    requires ready { IsReady store.old watches.old now.now pending.old.flags propagated }
     requires vars { HasVarsUpTo now.now.vars clause.now }
     requires few { length store.old + 1 < 2 ^ 30 }
-    requires unmarked { is_marked ≡ false → drawn ≡ 0 }
+    requires unmarked { is_marked ≡ false → propagated ≡ 0 }
     ensures store { OnOk result (store.new ≡ store.old ++ clause.now ∷ []) }
-    ensures ready { OnOk result (IsReady store.new watches.new now.now pending.new.flags drawn) }
+    ensures ready { OnOk result (IsReady store.new watches.new now.now pending.new.flags propagated) }
     ensures same_store { OnErr result (store.new ≡ store.old) }
-    ensures same { OnErr result (IsReady store.new watches.new now.now pending.new.flags drawn) }
+    ensures same { OnErr result (IsReady store.new watches.new now.now pending.new.flags propagated) }
 {
     let n = store.len();
     store.push(clause)?;

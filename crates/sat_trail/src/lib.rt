@@ -4,14 +4,14 @@
 mod deciding;
 mod filling;
 mod highest;
-mod leaning;
 mod learning;
 mod levels;
+mod phases;
 mod rounds;
 mod settling;
 mod trail;
 
-pub use crate::leaning::Leaning;
 pub use crate::learning::learn;
+pub use crate::phases::SavedPhases;
 pub use crate::trail::{Propagated, Trail};
 pub use unit_propagation::assignment_trail::Assigned;

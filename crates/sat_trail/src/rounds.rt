@@ -11,7 +11,7 @@ use refutation_check::Sight;
 use unit_propagation::assignment_trail::{Assigned, Assignment};
 use unit_propagation::clause_store::Store;
 use unit_propagation::watch_lists::WatchLists;
-use unit_propagation::watched_literals::{Pending, draw_all};
+use unit_propagation::watched_literals::{Pending, propagate_queue};
 
 // What a round came to.
 #[derive(Clone, Copy, Debug)]
@@ -30,14 +30,14 @@ fn follow(
     watches: &WatchLists,
     now: &mut Assignment,
     pending: &Pending,
-    drawn: usize,
+    propagated: usize,
     level: u32,
     n: u32,
 ) -> bool
-    requires ready { IsReady store.now watches.now now.old pending.now.flags drawn }
+    requires ready { IsReady store.now watches.now now.old pending.now.flags propagated }
     requires level { level ≡ level_of now.old.assigned }
     requires in_range { n < length store.now }
-    ensures ready { IsReady store.now watches.now now.new pending.now.flags drawn }
+    ensures ready { IsReady store.now watches.now now.new pending.now.flags propagated }
     ensures followed { MatchBool result (Refutes store.now (falses_of now.new.assigned) (n + 1)) (IsFollowed store.now now.old now.new n) }
     ensures vars { now.new.vars ≡ now.old.vars }
     ensures more { ForcesMore now.old.assigned now.new.assigned }
@@ -64,19 +64,19 @@ fn follow_marked(
     watches: &WatchLists,
     now: &mut Assignment,
     pending: &Pending,
-    drawn: usize,
+    propagated: usize,
     level: u32,
 ) -> Option<u32>
-    requires ready { IsReady store.now watches.now now.old pending.now.flags drawn }
+    requires ready { IsReady store.now watches.now now.old pending.now.flags propagated }
     requires level { level ≡ level_of now.old.assigned }
-    ensures ready { IsReady store.now watches.now now.new pending.now.flags drawn }
+    ensures ready { IsReady store.now watches.now now.new pending.now.flags propagated }
     ensures vars { now.new.vars ≡ now.old.vars }
     ensures more { ForcesMore now.old.assigned now.new.assigned }
     ensures level { level_of now.new.assigned ≡ level_of now.old.assigned }
     ensures found { MatchOption result (length now.new.assigned ≡ length now.old.assigned → AreQuiet store.now (falses_of now.new.assigned) pending.now.flags) (λ n. Refutes store.now (falses_of now.new.assigned) (n + 1)) }
 {
     for n in pending.list() {
-        if follow(store, watches, now, pending, drawn, level, *n) {
+        if follow(store, watches, now, pending, propagated, level, *n) {
             return Some(*n);
         }
     }
@@ -89,27 +89,27 @@ fn round(
     watches: &mut WatchLists,
     now: &mut Assignment,
     pending: &mut Pending,
-    drawn: &mut usize,
+    propagated: &mut usize,
     level: u32,
 ) -> Outcome
-    requires ready { IsReady store.now watches.old now.old pending.old.flags drawn.old }
+    requires ready { IsReady store.now watches.old now.old pending.old.flags propagated.old }
     requires level { level ≡ level_of now.old.assigned }
-    ensures ready { IsReady store.now watches.new now.new pending.new.flags drawn.new }
+    ensures ready { IsReady store.now watches.new now.new pending.new.flags propagated.new }
     ensures round { IsOutcome store.now now.old now.new result }
     ensures vars { now.new.vars ≡ now.old.vars }
     ensures more { ForcesMore now.old.assigned now.new.assigned }
     ensures level { level_of now.new.assigned ≡ level_of now.old.assigned }
 {
-    if let Some(n) = draw_all(store, watches, now, pending, drawn, level) {
+    if let Some(n) = propagate_queue(store, watches, now, pending, propagated, level) {
         return Outcome::Conflict(n);
     }
-    if let Some(n) = follow_marked(store, watches, now, pending, *drawn, level) {
+    if let Some(n) = follow_marked(store, watches, now, pending, *propagated, level) {
         return Outcome::Conflict(n);
     }
-    if *drawn < now.len() {
+    if *propagated < now.len() {
         return Outcome::Grown;
     }
-    settle(store, watches, now, pending, *drawn);
+    settle(store, watches, now, pending, *propagated);
     Outcome::Closed
 }
 
@@ -119,10 +119,10 @@ pub(crate) fn propagate_all(
     watches: &mut WatchLists,
     now: &mut Assignment,
     pending: &mut Pending,
-    drawn: &mut usize,
+    propagated: &mut usize,
 ) -> Option<u32>
-    requires { IsReady store.now watches.old now.old pending.old.flags drawn.old }
-    ensures ready { IsReady store.now watches.new now.new pending.new.flags drawn.new }
+    requires { IsReady store.now watches.old now.old pending.old.flags propagated.old }
+    ensures ready { IsReady store.now watches.new now.new pending.new.flags propagated.new }
     ensures propagated { MatchOption result (IsClosed store.now (falses_of now.new.assigned)) (λ n. Refutes store.now (falses_of now.new.assigned) (n + 1)) }
     ensures vars { now.new.vars ≡ now.old.vars }
     ensures more { ForcesMore now.old.assigned now.new.assigned }
@@ -131,7 +131,7 @@ pub(crate) fn propagate_all(
     let level = now.level();
     'rounds: loop {
         let _ = now.len(); // for the proof
-        match round(store, watches, now, pending, drawn, level) {
+        match round(store, watches, now, pending, propagated, level) {
             Outcome::Conflict(n) => return Some(n),
             Outcome::Closed => return None,
             Outcome::Grown => {}

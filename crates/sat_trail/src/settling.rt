@@ -1,7 +1,7 @@
 // Marks taken away where they are no longer needed.
 ghost use Rattle.std.specs.Prelude.{◌≡◌, ◌+◌, ◌*◌, ◌/◌, ◌<◌, ◌≤◌, ◌^◌, IsTrue, length};
 ghost use Rattle.unit_propagation.specs.Propagation.Walk.{IsReady};
-ghost use Rattle.sat_trail.specs.Settling.{IsHeldUp, IsSettled};
+ghost use Rattle.sat_trail.specs.Settling.{IsHeldUp, NeedsNoMark};
 
 use unit_propagation::assignment_trail::Assignment;
 use unit_propagation::clause_store::Store;
@@ -43,7 +43,7 @@ fn is_held_up(now: &Assignment, code: u32, other: u32) -> bool
 fn is_settled(watches: &WatchLists, now: &Assignment, n: u32) -> bool
     requires in_range { 2 * n + 1 < length watches.now.codes }
     requires lists { length watches.now.lists ≡ 2 * now.now.vars + 2 }
-    ensures { IsTrue result → IsSettled watches.now.codes now.now.assigned n }
+    ensures { IsTrue result → NeedsNoMark watches.now.codes now.now.assigned n }
 {
     let _ = watches.len(); // for the proof
     let one = watches.code(2 * n);
@@ -66,12 +66,12 @@ fn settle_at(
     watches: &WatchLists,
     now: &Assignment,
     pending: &mut Pending,
-    drawn: usize,
+    propagated: usize,
     i: usize,
 )
-    requires ready { IsReady store.now watches.now now.now pending.old.flags drawn }
+    requires ready { IsReady store.now watches.now now.now pending.old.flags propagated }
     requires in_range { i < length pending.old.list }
-    ensures ready { IsReady store.now watches.now now.now pending.new.flags drawn }
+    ensures ready { IsReady store.now watches.now now.now pending.new.flags propagated }
     ensures long { length pending.old.list ≤ length pending.new.list + 1 }
 {
     let _ = store.len(); // for the proof
@@ -87,14 +87,14 @@ pub(crate) fn settle(
     watches: &WatchLists,
     now: &Assignment,
     pending: &mut Pending,
-    drawn: usize,
+    propagated: usize,
 )
-    requires { IsReady store.now watches.now now.now pending.old.flags drawn }
-    ensures { IsReady store.now watches.now now.now pending.new.flags drawn }
+    requires { IsReady store.now watches.now now.now pending.old.flags propagated }
+    ensures { IsReady store.now watches.now now.now pending.new.flags propagated }
 {
     let mut i = pending.list().len();
     'settling: while i > 0 {
         i -= 1;
-        settle_at(store, watches, now, pending, drawn, i);
+        settle_at(store, watches, now, pending, propagated, i);
     }
 }

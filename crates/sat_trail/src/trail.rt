@@ -9,14 +9,14 @@ ghost use Rattle.unit_propagation.specs.Assignments.Trail.{IsTrail, IsVarUpTo, I
 ghost use Rattle.sat_trail.specs.Trailed.{IsBase, IsVarLimit, IsValue};
 ghost use Rattle.sat_trail.specs.Leaned.{leans_to};
 ghost use Rattle.sat_trail.specs.Closed.{IsClosedBelow, IsPropagated};
-ghost use Rattle.sat_trail.specs.Deciding.{HasAllValues, IsOpenVar, decided};
+ghost use Rattle.sat_trail.specs.Deciding.{HasAllValues, IsLowestOpen, IsOpenVar, decided};
 ghost use Rattle.sat_trail.specs.Learnt.{IsAsserting, IsBackLevel};
 
-use crate::deciding::{put_back_above, raise_met, take_open};
+use crate::deciding::{lowest_open, put_back_above, raise_met, take_open};
 use crate::filling::append;
 use crate::highest::{highest_in_steps, highest_of};
-use crate::leaning::Leaning;
 use crate::levels::highest_below;
+use crate::phases::SavedPhases;
 use crate::rounds::propagate_all;
 use cnf_core::{Clause, Cnf, Lit};
 use refutation_check::{Log, Step};
@@ -41,7 +41,7 @@ pub enum Propagated {
 /// see the number of variables, the clauses, and these literals, the oldest first.
 ///
 /// Each clause of two or more literals has two watched literals. Where a watched literal is false and its consequences
-/// are drawn, the other one is true, at a level that isn't above that of the false one, or the clause is marked.
+/// are propagated, the other one is true, at a level that isn't above that of the false one, or the clause is marked.
 ///
 /// The open variables wait to be decided, in an order by their activities. A clause that is added raises the activities of
 /// the variables that its step met.
@@ -51,7 +51,7 @@ pub struct Trail {
     watches: WatchLists,
     assignment: Assignment,
     pending: Pending,
-    drawn: usize,
+    propagated: usize,
     order: ActivityOrder,
     met_by: Vec<u32>,
 }
@@ -111,7 +111,7 @@ impl Trail {
             watches,
             assignment,
             pending,
-            drawn: self.drawn,
+            propagated: self.propagated,
             order,
             met_by,
         })
@@ -158,7 +158,7 @@ impl Trail {
             watches,
             assignment,
             pending: Pending::new(alloc),
-            drawn: 0,
+            propagated: 0,
             order,
             met_by,
         })
@@ -177,7 +177,7 @@ impl Trail {
             &mut self.watches,
             &self.assignment,
             &mut self.pending,
-            self.drawn,
+            self.propagated,
             clause,
             is_marked,
         )?;
@@ -299,7 +299,7 @@ impl Trail {
             &self.watches,
             &mut self.assignment,
             &self.pending,
-            &mut self.drawn,
+            &mut self.propagated,
             level,
         );
     }
@@ -335,6 +335,20 @@ impl Trail {
         Ok(self.store.len())
     }
 
+    /// Adds a clause that needn't follow from the others, where all decisions are undone. After an error the clauses are as before.
+    pub fn add_given(&mut self, clause: &Clause) -> Result<(), AllocError>
+        requires vars { HasVarsUpTo self.old.vars clause.now }
+        requires room { length self.old.clauses + 1 < 2 ^ 30 }
+        ensures ok { OnOk result (self.new.clauses ≡ self.old.clauses ++ clause.now ∷ []) }
+        ensures err { OnErr result (self.new.clauses ≡ self.old.clauses) }
+        ensures vars { self.new.vars ≡ self.old.vars }
+        ensures assigned { IsBackTo 0 self.old.assigned self.new.assigned }
+    {
+        self.back_to(0);
+        self.put(clause, true)?;
+        Ok(())
+    }
+
     /// Makes an open literal true, on a new level.
     pub fn decide(&mut self, l: Lit)
         requires from_one { 1 ≤ l.var }
@@ -352,7 +366,7 @@ impl Trail {
 
     /// Decides the open variable of the greatest activity, the lowest of those that have it, to the value that it leans to, on a
     /// new level; and answers the literal that is true then, or none where each variable has a value. It takes no memory.
-    pub fn decide_next(&mut self, leaning: &Leaning) -> Option<Lit>
+    pub fn decide_next(&mut self, leaning: &SavedPhases) -> Option<Lit>
         ensures next { MatchOption result (HasAllValues self.old.vars (falses_of self.old.assigned)) (λ l. IsOpenVar self.old.vars (falses_of self.old.assigned) l.var) }
         ensures decided { MatchOption result (self.new ≡ self.old) (λ l. self.new ≡ decided self.old l) }
         ensures value { IfSome result (λ l. l.positive ≡ leans_to leaning.now l.var) }
@@ -370,6 +384,26 @@ impl Trail {
         Some(lit)
     }
 
+    /// Decides the lowest open variable false, of those above `from` and up to `limit`, on a new level; and answers the literal that
+    /// is true then, or none where each of them has a value.
+    pub fn decide_low(&mut self, from: u32, limit: u32) -> Option<Lit>
+        requires limit { limit ≤ self.old.vars }
+        requires from { HasAllValues from (falses_of self.old.assigned) }
+        ensures next { MatchOption result (HasAllValues limit (falses_of self.old.assigned)) (λ l. IsLowestOpen limit (falses_of self.old.assigned) l.var) }
+        ensures decided { MatchOption result (self.new ≡ self.old) (λ l. self.new ≡ decided self.old l) }
+        ensures value { IfSome result (λ l. l.positive ≡ false) }
+        ensures few { length self.old.assigned ≤ self.old.vars + 1 }
+    {
+        let _ = self.level(); // for the proof
+        let var = lowest_open(&self.assignment, from, limit)?;
+        let low = Lit {
+            var,
+            positive: false,
+        };
+        self.decide(low);
+        Some(low)
+    }
+
     /// Makes true what the clauses force, until nothing is left or a clause is falsified. It takes no memory.
     pub fn propagate(&mut self) -> Propagated
         ensures propagated { IsPropagated self.new result }
@@ -385,7 +419,7 @@ impl Trail {
             &mut self.watches,
             &mut self.assignment,
             &mut self.pending,
-            &mut self.drawn,
+            &mut self.propagated,
         ) {
             Some(n) => Propagated::Conflict(n + 1),
             None => Propagated::Closed,

@@ -1,6 +1,5 @@
-use Rattle.std.proofs.Common.{◌≡◌, ◌<◌, ◌≤◌, ◌-◌, length, get_or, arith, ap, sym}
+use Rattle.std.proofs.Common.{◌≡◌, ◌-◌, get_or, arith, ap}
 use Rattle.unit_propagation.specs.declared.assignment_trail.assigned.Assigned.{Assigned}
-use Rattle.unit_propagation.specs.Assignments.Trail.{falses_of}
 use Rattle.sat_trail.proofs.Waiting.{back_done, back_more, back_start, in_vars}
 use Rattle.sat_trail.proofs.deciding.put_back_above.Goals as goal
 

@@ -1,6 +1,3 @@
-use Rattle.std.proofs.Common.{◌≡◌, ◌<◌, length, arith, sym, subst, ℕ, List, All}
-use Rattle.cnf_core.specs.declared.literal.Lit.{Lit}
-use Rattle.cnf_core.specs.Literal.{HasVarsUpTo}
 use Rattle.sat_trail.proofs.Waiting.{clause_within}
 use Rattle.sat_trail.proofs.deciding.raise_met.Goals as goal
 

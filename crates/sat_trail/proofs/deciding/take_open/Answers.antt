@@ -1,7 +1,4 @@
-use Rattle.std.proofs.Common.{◌+◌, ◌*◌, ◌++◌, ◌∷◌, [], List, true, arith, refl, sym, subst}
-use Rattle.cnf_core.specs.declared.literal.Lit.{Lit}
-use Rattle.unit_propagation.specs.Assignments.Trail.{falses_of}
-use Rattle.sat_trail.specs.Waiting.{IsOrderOf}
+use Rattle.std.proofs.Common.{◌+◌, ◌*◌, arith, refl}
 use Rattle.sat_trail.proofs.Waiting.{all_valued, closed_code, fewer_wait, open_code, order_skipped, order_taken}
 use Rattle.sat_trail.proofs.deciding.take_open.Goals as goal
 

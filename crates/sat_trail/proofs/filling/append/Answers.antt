@@ -53,9 +53,9 @@ returns-in-Ok-clause-ready c =
       | else-is_marked w ↦ w.is_flagged-is ∙ sym (ap (λ (b : Bool). b || c.pair_of-pair.result.is_short) w.if-is_marked.false)
     ] in
     let marked : (c.args.is_marked || c.pair_of-pair.result.is_short) ≡ true → IsMarked c.put_slots.new.pending.flags (length c.args.store.now) = λ e. subst (IsMarked c.put_slots.new.pending.flags) was.flags_long (flags.marked (asked ∙ e)) in
-    let made = ready_append c.args.store.now c.args.watches.now c.args.now.now c.args.pending.now.flags c.put_slots.new.pending.flags c.args.drawn c.pair_of-pair.result.one c.pair_of-pair.result.other c.args.clause.now was flags.stays flags.long c.requires.vars
+    let made = ready_append c.args.store.now c.args.watches.now c.args.now.now c.args.pending.now.flags c.put_slots.new.pending.flags c.args.propagated c.pair_of-pair.result.one c.pair_of-pair.result.other c.args.clause.now was flags.stays flags.long c.requires.vars
     (pair_watches c.codes.result.now c.args.clause.now c.pair_of-pair.result.one c.pair_of-pair.result.other c.pair_of-pair.result.is_short c.put_slots.new.pending.flags (length c.args.store.now) last c.pair_of-pair.ensures (λ e. marked (or_true c.args.is_marked c.pair_of-pair.result.is_short e)))
-    (marked_or_none c.args.is_marked c.pair_of-pair.result.is_short c.put_slots.new.pending.flags (length c.args.store.now) c.args.drawn marked c.requires.unmarked) in
+    (marked_or_none c.args.is_marked c.pair_of-pair.result.is_short c.put_slots.new.pending.flags (length c.args.store.now) c.args.propagated marked c.requires.unmarked) in
     rw (c.in_ok-push.ensures.ok, c.in-Ok.ensures.watches) made
 
 pub pop-requires : goal.pop-requires

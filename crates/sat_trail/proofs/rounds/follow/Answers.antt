@@ -30,7 +30,7 @@ returns-in-Neither-clause-followed c = inr (refl, looked_quiet _ _ _ _ _ _ c.arg
 pub returns-in-Unit-clause-ready : goal.returns-in-Unit-clause-ready
 returns-in-Unit-clause-ready c =
     let made = looked_unit _ _ _ _ _ _ c.args.n c.codes.result.now c.requires.ready c.len.ensures.clauses c.requires.in_range c.codes.ensures c.in-Unit.lit c.args.level c.in-Unit.ensures c.requires.level in
-    subst (λ (a : AssignmentState). IsReady c.args.store.now c.args.watches.now a c.args.pending.now.flags c.args.drawn) (sym c.assign.ensures) (ready_push _ _ _ _ _ _ _ c.requires.ready made.0)
+    subst (λ (a : AssignmentState). IsReady c.args.store.now c.args.watches.now a c.args.pending.now.flags c.args.propagated) (sym c.assign.ensures) (ready_push _ _ _ _ _ _ _ c.requires.ready made.0)
 
 pub returns-in-Unit-clause-followed : goal.returns-in-Unit-clause-followed
 returns-in-Unit-clause-followed c =

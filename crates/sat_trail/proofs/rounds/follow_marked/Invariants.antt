@@ -6,7 +6,7 @@ use Rattle.sat_trail.proofs.rounds.follow_marked.Given as goal
 
 abbrev pub invariant-loop-n : goal.invariant-loop-n
 invariant-loop-n l = record {
-  ready : IsReady l.store l.watches l.now l.pending.flags l.drawn;
+  ready : IsReady l.store l.watches l.now l.pending.flags l.propagated;
   vars : l.now.vars ≡ l.fn.now.vars;
   more : ForcesMore l.fn.now.assigned l.now.assigned;
   level : level_of l.now.assigned ≡ level_of l.fn.now.assigned;

@@ -5,7 +5,7 @@ use Rattle.sat_trail.proofs.rounds.propagate_all.Given as goal
 
 abbrev pub invariant-rounds : goal.invariant-rounds
 invariant-rounds l = record {
-  ready : IsReady l.store l.watches l.now l.pending.flags l.drawn;
+  ready : IsReady l.store l.watches l.now l.pending.flags l.propagated;
   vars : l.now.vars ≡ l.fn.now.vars;
   more : ForcesMore l.fn.now.assigned l.now.assigned;
   level : level_of l.now.assigned ≡ level_of l.fn.now.assigned;

@@ -4,7 +4,7 @@ use Rattle.sat_trail.proofs.settling.settle.Given as goal
 
 abbrev pub invariant-settling : goal.invariant-settling
 invariant-settling l = record {
-  ready : IsReady l.store l.watches l.now l.pending.flags l.drawn;
+  ready : IsReady l.store l.watches l.now l.pending.flags l.propagated;
   in_range : l.i ≤ length l.pending.list;
 }
 

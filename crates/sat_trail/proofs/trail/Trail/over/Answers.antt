@@ -1,4 +1,4 @@
-use Rattle.std.proofs.Common.{◌≡◌, ◌++◌, ◌∙◌, [], ℕ, List, length, max, arith, ap}
+use Rattle.std.proofs.Common.{◌++◌, ◌∙◌, ℕ, List, length, max, arith, ap}
 use Rattle.cnf_core.specs.declared.literal.Lit.{Lit}
 use Rattle.unit_propagation.specs.declared.assignment_trail.assigned.Assigned.{Assigned}
 use Rattle.sat_trail.specs.Trailed.{Trailed}

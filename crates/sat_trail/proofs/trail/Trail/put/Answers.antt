@@ -7,7 +7,7 @@ append-requires-clause-ready c = c.self.invariant.ready
 pub append-requires-clause-unmarked : goal.append-requires-clause-unmarked
 append-requires-clause-unmarked c = λ is.
     let none = rw (← c.self.view_is) at c.requires.unmarked is in
-    omega (arith, c.self.invariant.ready.drawn_in, ap length none)
+    omega (arith, c.self.invariant.ready.propagated_in, ap length none)
 
 pub invariant_of-self : goal.invariant_of-self
 invariant_of-self c = record { ready = c.in_err-append.ensures.same; ordered = c.self.invariant.ordered; met = c.self.invariant.met }

@@ -1,5 +1,4 @@
 use Rattle.std.proofs.Common.{◌≡◌, ℕ, List, All, length, arith, ap, ◌∙◌, sym, subst, length-append, length-drop, length-take}
-use Rattle.cnf_core.specs.declared.literal.Lit.{Lit}
 use Rattle.cnf_core.specs.Literal.{HasVarsUpTo}
 use Rattle.sat_trail.proofs.Waiting.{order_raised}
 use Rattle.sat_trail.proofs.trail.Trail.raise_met.Goals as goal
