@@ -2,15 +2,20 @@
 use Rattle.std.specs.Prelude.{◌+◌, ◌-◌, ◌≤◌, ◌++◌, ℕ, List, length, take, sum_by}
 use Rattle.refutation_check.specs.declared.log.Step.{Step}
 use Rattle.refutation_check.specs.Lift.{lifted}
+use Rattle.refutation_check.specs.Pool.{most_pool_steps}
 
 -- how many literals and hints the steps have together
 abbrev pub numbers_in : List Step → ℕ
 numbers_in steps = sum_by (λ s. length s.clause + length s.hints) steps
 
+-- a pool has at most so many literals and hints together
+abbrev pub most_pool_numbers : ℕ
+most_pool_numbers = 2000000
+
 -- at most 20,000 steps, with at most 2,000,000 literals and hints together
 pub record IsWithinLimits (pool : List Step) : Type 0 where
-  pub few_steps : length pool ≤ 20000
-  pub few_numbers : numbers_in pool ≤ 2000000
+  pub few_steps : length pool ≤ most_pool_steps
+  pub few_numbers : numbers_in pool ≤ most_pool_numbers
 
 -- so many of the steps, the first ones, can come behind the pool within its limits, and no more
 pub record IsLongestFit (pool steps : List Step) (n : ℕ) : Type 0 where

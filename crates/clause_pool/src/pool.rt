@@ -2,7 +2,8 @@
 ghost use Rattle.std.specs.Prelude.{◌≡◌, ◌+◌, ◌-◌, ◌≤◌, ◌<◌, ◌^◌, ◌++◌, [], IfOk, OnErr, List, length, take};
 ghost use Rattle.refutation_check.specs.declared.log.Step.{Step as LogStep};
 ghost use Rattle.refutation_check.specs.Chain.{members_of, IsAccepted};
-ghost use Rattle.clause_pool.specs.Limits.{numbers_in, IsWithinLimits, IsLongestFit, moved_behind};
+ghost use Rattle.refutation_check.specs.Pool.{most_pool_steps};
+ghost use Rattle.clause_pool.specs.Limits.{numbers_in, most_pool_numbers, IsWithinLimits, IsLongestFit, moved_behind};
 
 use crate::steps::{first_of, lifted_front};
 use cnf_core::Cnf;
@@ -98,8 +99,8 @@ impl Pool {
 // How many of the steps, the first ones, fit behind a pool of so many steps with so many literals and hints; and how
 // many literals and hints they have.
 fn fitting(steps: &[Step], pool_steps: u32, pool_numbers: u32) -> (u32, u32)
-    requires steps { pool_steps ≤ 20000 }
-    requires numbers { pool_numbers ≤ 2000000 }
+    requires steps { pool_steps ≤ most_pool_steps }
+    requires numbers { pool_numbers ≤ most_pool_numbers }
     ensures longest { (pool : List LogStep) → length pool ≡ pool_steps → numbers_in pool ≡ pool_numbers → IsLongestFit pool steps.now result.0 }
     ensures numbers { result.1 ≡ numbers_in (take result.0 steps.now) }
 {

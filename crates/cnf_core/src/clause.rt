@@ -1,15 +1,25 @@
 // Clauses.
 ghost use Rattle.std.specs.Prelude.{◌≡◌, ◌↔◌, All, IfOk, IfSome, IsNone};
 ghost use Rattle.cnf_core.specs.Literal.{IsVariable, IsClause, IsTautology, HasSameLiterals};
+ghost use Rattle.cnf_core.specs.Kept.{kept_literals};
 
 use crate::literal::Lit;
 use std::alloc::{AllocError, Global};
 use std::marker::Model;
+use std::slice;
 
-/// Literals in the order of their variables, with no variable twice. Contracts see the list of them.
+/// Literals in the order of their variables, with no variable twice. Contracts see the list of them. A clause of one
+/// literal takes no memory of its own.
 #[derive(Debug, Drop)]
 pub struct Clause {
-    lits: Vec<Lit>,
+    lits: Kept,
+}
+
+// How the literals of a clause are kept.
+#[derive(Debug, Drop)]
+enum Kept {
+    One(Lit),
+    Listed(Vec<Lit>),
 }
 
 impl Model for Clause {
@@ -19,10 +29,11 @@ impl Model for Clause {
     ghost Value = { List Lit };
 
     ghost use Rattle.cnf_core.specs.Literal.{IsClause};
+    ghost use Rattle.cnf_core.specs.Kept.{kept_literals};
 
-    ghost view = { λ c. c.lits.items };
+    ghost view = { λ c. kept_literals c.lits };
 
-    ghost invariant = { λ c. IsClause c.lits.items };
+    ghost invariant = { λ c. IsClause (kept_literals c.lits) };
 }
 
 impl Clause {
@@ -36,7 +47,7 @@ impl Clause {
     {
         let mut sorted = Vec::from_slice(alloc, lits)?;
         sorted.sort_by_key(|l| l.var)?;
-        let mut kept: Vec<Lit> = Vec::new(alloc);
+        let mut kept: Vec<Lit> = Vec::with_capacity(alloc, sorted.len())?;
         for lit in sorted.iter() {
             match kept.last() {
                 Some(last) if last.var == lit.var => {
@@ -47,7 +58,17 @@ impl Clause {
                 _ => kept.push(*lit)?,
             }
         }
-        Ok(Some(Clause { lits: kept }))
+        Ok(Some(Clause::in_order(kept)))
+    }
+
+    /// The clause of these literals, which are in the order of their variables.
+    pub fn in_order(lits: Vec<Lit>) -> Clause
+        requires { IsClause lits.items }
+        ensures { result ≡ lits.items }
+    {
+        Clause {
+            lits: Kept::of(lits),
+        }
     }
 
     /// The literals, in the order of their variables.
@@ -62,7 +83,36 @@ impl Clause {
     pub fn copy(&self, alloc: Global) -> Result<Clause, AllocError>
         ensures { IfOk result (λ c. c ≡ self.now) }
     {
-        let lits = Vec::from_slice(alloc, self.lits.as_slice())?;
+        let lits = self.lits.copy(alloc)?;
         Ok(Clause { lits })
+    }
+}
+
+impl Kept {
+    fn of(lits: Vec<Lit>) -> Kept
+        ensures { kept_literals result ≡ lits.items }
+    {
+        if lits.len() == 1 {
+            return Kept::One(lits[0]);
+        }
+        Kept::Listed(lits)
+    }
+
+    fn as_slice(&self) -> &[Lit]
+        ensures { result.now ≡ kept_literals self.now }
+    {
+        match self {
+            Kept::One(lit) => slice::from_ref(lit),
+            Kept::Listed(lits) => lits.as_slice(),
+        }
+    }
+
+    fn copy(&self, alloc: Global) -> Result<Kept, AllocError>
+        ensures { IfOk result (λ kept. kept_literals kept ≡ kept_literals self.now) }
+    {
+        match self {
+            Kept::One(lit) => Ok(Kept::One(*lit)),
+            Kept::Listed(lits) => Ok(Kept::Listed(Vec::from_slice(alloc, lits.as_slice())?)),
+        }
     }
 }

@@ -1,5 +1,5 @@
 // Formulas in conjunctive normal form.
-ghost use Rattle.std.specs.Prelude.{◌≡◌, ◌+◌, ◌-◌, ◌<◌, ◌≤◌, ◌^◌, ◌++◌, ◌∷◌, [], OnOk, OnErr, length, slice_get, Some};
+ghost use Rattle.std.specs.Prelude.{◌≡◌, ◌+◌, ◌-◌, ◌<◌, ◌≤◌, ◌^◌, ◌++◌, ◌∷◌, [], ℕ, All, IfOk, OnOk, OnErr, length, take, slice_get, Some};
 ghost use Rattle.cnf_core.specs.Literal.{HasVarsUpTo};
 ghost use Rattle.cnf_core.specs.Formula.{IsFormula};
 
@@ -36,6 +36,14 @@ impl Cnf {
         }
     }
 
+    /// These clauses over the variables from 1 to this one.
+    pub fn of(vars: u32, clauses: Vec<Clause>) -> Cnf
+        requires { IsFormula (record { vars = vars; clauses = clauses.items }) }
+        ensures { result ≡ record { vars = vars; clauses = clauses.items } }
+    {
+        Cnf { vars, clauses }
+    }
+
     /// Puts a clause at the end. After an error the formula is as before.
     pub fn push(&mut self, c: Clause) -> Result<(), AllocError>
         requires vars { HasVarsUpTo self.old.vars c }
@@ -48,12 +56,44 @@ impl Cnf {
         Ok(())
     }
 
+    /// Puts copies of clauses at the end. After an error there are copies of the first of them.
+    pub fn append(&mut self, alloc: Global, clauses: &[Clause]) -> Result<(), AllocError>
+        requires vars { All (HasVarsUpTo self.old.vars) clauses.now }
+        requires room { length self.old.clauses + length clauses.now < 2 ^ 30 }
+        ensures ok { OnOk result (self.new ≡ record self.old { clauses = self.old.clauses ++ clauses.now }) }
+        ensures err { OnErr result ((n : ℕ) × (self.new ≡ record self.old { clauses = self.old.clauses ++ take n clauses.now })) }
+    {
+        for clause in clauses {
+            self.push(clause.copy(alloc)?)?;
+        }
+        Ok(())
+    }
+
+    /// An equal formula.
+    pub fn copy(&self, alloc: Global) -> Result<Cnf, AllocError>
+        ensures { IfOk result (λ f. f ≡ self.now) }
+    {
+        let clauses = copies_of(alloc, self.clauses.as_slice())?;
+        Ok(Cnf {
+            vars: self.vars,
+            clauses,
+        })
+    }
+
     /// The number of variables.
     pub fn vars(&self) -> u32
         ensures vars { result ≡ self.now.vars }
         ensures formula { IsFormula self.now }
     {
         self.vars
+    }
+
+    /// The clauses, in order.
+    pub fn clauses(&self) -> &[Clause]
+        ensures clauses { result.now ≡ self.now.clauses }
+        ensures formula { IsFormula self.now }
+    {
+        self.clauses.as_slice()
     }
 
     /// The number of clauses.
@@ -73,4 +113,14 @@ impl Cnf {
     {
         &self.clauses[number as usize - 1]
     }
+}
+
+fn copies_of(alloc: Global, clauses: &[Clause]) -> Result<Vec<Clause>, AllocError>
+    ensures { IfOk result (λ copies. copies.items ≡ clauses.now) }
+{
+    let mut copies = Vec::with_capacity(alloc, clauses.len())?;
+    for clause in clauses {
+        copies.push(clause.copy(alloc)?)?;
+    }
+    Ok(copies)
 }

@@ -1,10 +1,8 @@
 -- Bytes have one answer.
 use Rattle.std.proofs.Common.{◌≡◌, ◌≢◌, ◌⊎◌, ℕ, List, inl, inr, refl, sym, subst, ap, ◌∙◌}
-use Rattle.cnf_core.specs.declared.literal.Lit.{Lit}
 use Rattle.cnf_core.specs.Formula.{Formula}
 use Rattle.refutation_check.specs.declared.log.Step.{Step}
 use Rattle.refutation_check.specs.declared.refutation.Verdict.{Verdict}
-use Rattle.refutation_check.specs.declared.refutation.Verdict.TheVariants.{Accepted, Refused, NoEmptyClause}
 use Rattle.refutation_check.specs.declared.proof_text.fault.ProofFault.{ProofFault}
 use Rattle.refutation_check.specs.declared.proof_text.fault.ProofFault.TheVariants.{Memory}
 use Rattle.refutation_check.specs.ProofFault.{HasFault}
@@ -41,10 +39,3 @@ one_text bytes status other text more (inl a) (inl b) = a.line ∙ ap verdict_li
 one_text bytes status other text more (inl a) (inr b) = absurd (not_both bytes status other text more a b)
 one_text bytes status other text more (inr a) (inl b) = absurd (not_both bytes other status more text b a)
 one_text bytes status other text more (inr a) (inr b) = a.line ∙ ap fault_line (one_first bytes status other text more a b) ∙ sym b.line
-
--- the verdict that a check gives is right
-pub verdict_fits : (clauses : List (List Lit)) (log : List Step) (v : Verdict) → ((v ≡ Accepted) → Fits clauses log Accepted) → ((step hint : ℕ) → (v ≡ Refused step hint) → Fits clauses log (Refused step hint))
-    → ((v ≡ NoEmptyClause) → Fits clauses log NoEmptyClause) → Fits clauses log v
-verdict_fits clauses log Accepted accepted refused none = accepted refl
-verdict_fits clauses log (Refused step hint) accepted refused none = refused step hint refl
-verdict_fits clauses log NoEmptyClause accepted refused none = none refl

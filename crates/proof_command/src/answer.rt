@@ -1,12 +1,9 @@
 // What is answered to the bytes of a proof text.
-ghost use Rattle.std.specs.Prelude.{◌≡◌, ◌≢◌, ◌++◌, All, codes, decimal, IfOk};
-ghost use Rattle.cnf_core.specs.Literal.{HasVarsUpTo};
-ghost use Rattle.refutation_check.specs.Verdict.{Fits};
+ghost use Rattle.std.specs.Prelude.{◌≡◌, ◌≢◌, ◌++◌, codes, decimal, IfOk};
 ghost use Rattle.proof_command.specs.Answer.{verdict_status, verdict_line, refused_line, fault_line, line_fault, IsAnswerTo};
 
-use cnf_core::Cnf;
 use itoa::Buffer;
-use refutation_check::{Log, ProofFault, Scratch, Verdict, check, read_proof};
+use refutation_check::{ProofFault, Verdict, read_proof, verdict_on};
 use std::alloc::{AllocError, Global};
 
 /// A status, and the text that is written under it.
@@ -22,7 +19,7 @@ pub fn answer_to(alloc: Global, bytes: &[u8]) -> Result<Answer, AllocError>
 {
     match read_proof(alloc, bytes) {
         Ok((formula, log)) => {
-            let verdict = verdict_of(alloc, &formula, &log)?;
+            let verdict = verdict_on(alloc, &formula, &log)?;
             let text = verdict_line(alloc, verdict)?;
             Ok(Answer {
                 status: status_of(verdict),
@@ -34,15 +31,6 @@ pub fn answer_to(alloc: Global, bytes: &[u8]) -> Result<Answer, AllocError>
             text: fault_line(alloc, fault)?,
         }),
     }
-}
-
-// What the check says.
-fn verdict_of(alloc: Global, formula: &Cnf, log: &Log) -> Result<Verdict, AllocError>
-    requires { All (λ s. HasVarsUpTo formula.now.vars s.clause) log.now }
-    ensures { IfOk result (Fits formula.now.clauses log.now) }
-{
-    let mut scratch = Scratch::for_vars(alloc, formula.vars())?;
-    Ok(check(formula, log, &mut scratch))
 }
 
 fn status_of(verdict: Verdict) -> u8

@@ -3,6 +3,8 @@ pub mod Entailment
 pub mod Keeping
 pub mod Novelty
 pub mod Raising
+pub mod Numbers
+pub mod Renamed
 pub mod Renumbered
 pub mod Sights
 pub mod Verdicts

@@ -35,6 +35,10 @@ unfolding HasClauses
 members_are_clauses ls clauses log says =
     All-append IsClause clauses (map (λ (s : Step). s.clause) log) (clauses_said says.clause_lines clauses says.each_clause) (steps_said says.step_lines log says.each_step)
 
+pub clauses_are : (p : Progress) {ls : List (List ℕ)} → IsProgress ls p → All IsClause p.clauses
+unfolding HasClauses
+clauses_are p {ls} is = clauses_said is.says.clause_lines p.clauses is.says.each_clause
+
 Variables : List Lit → Type 0
 Variables lits = All (λ l. IsVariable l.var) lits
 

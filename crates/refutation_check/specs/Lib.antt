@@ -5,6 +5,9 @@ pub mod Lift
 pub mod Log
 pub mod Marks
 pub mod Part
+pub mod Pool
+pub mod Numbering
+pub mod Renaming
 pub mod Renumbering
 pub mod SearchLog
 pub mod Verdict

@@ -8,7 +8,10 @@ ghost use Rattle.refutation_check.specs.declared.proof_text.fault.ProofFault.The
 ghost use Rattle.refutation_check.specs.ProofText.{IsProofText};
 ghost use Rattle.refutation_check.specs.ProofFault.{HasFault};
 ghost use Rattle.refutation_check.specs.Chain.{members_of, IsChain, IsNovel, IsAccepted, IsRefutation, EndsEmpty};
+ghost use Rattle.refutation_check.specs.declared.refutation.Verdict.{Verdict};
+ghost use Rattle.refutation_check.specs.Verdict.{Fits};
 ghost use Rattle.refutation_check.specs.Lift.{lifted};
+ghost use Rattle.refutation_check.specs.Renaming.{AreApart, renamed_clause, renamed_step};
 ghost use Rattle.refutation_check.specs.Renumbering.{Renumbers, not_local, free_steps};
 ghost use Rattle.refutation_check.specs.SearchLog.{IsAllNovel, IsNovelButLast, is_novel, novel_steps};
 
@@ -27,6 +30,12 @@ pub fn lifted_pool_and_log_are_accepted()
 /// The steps of a search that need no local clause are a log over the formula and the pool.
 pub fn free_steps_are_accepted()
     ensures { (clauses local : List (List Lit)) (pool log : List Step) → IsAccepted (members_of (clauses ++ local) pool) log → IsAccepted (members_of clauses pool) (free_steps (not_local (length clauses) (length local) (length pool)) log) }
+{}
+
+/// Under other names of the variables, no two with one name, the verdict is the same.
+pub fn verdicts_stand_under_other_names()
+    ensures { (name : ℕ → ℕ) (clauses : List (List Lit)) (log : List Step) (verdict : Verdict) → AreApart name
+        → Fits clauses log verdict → Fits (map (renamed_clause name) clauses) (map (renamed_step name) log) verdict }
 {}
 
 /// The number of novel steps is that of all steps, where each is novel, and at most one less, where a last one

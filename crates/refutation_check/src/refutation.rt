@@ -61,6 +61,16 @@ pub fn check(f: &Cnf, log: &Log, scratch: &mut Scratch) -> Verdict
     ensures no_empty_clause { (result ≡ Verdict.NoEmptyClause) ↔ (IsAccepted f.now.clauses log.now × (¬ EndsEmpty log.now)) }
     ensures scratch { scratch.new ≡ scratch.old }
 {
+    verdict_in(f, log, scratch)
+}
+
+/// The verdict on the log, as `check` gives it.
+pub fn verdict_in(f: &Cnf, log: &Log, scratch: &mut Scratch) -> Verdict
+    requires formula { f.now.vars ≤ scratch.old }
+    requires log { All (λ s. HasVarsUpTo scratch.old s.clause) log.now }
+    ensures fits { Fits f.now.clauses log.now result }
+    ensures scratch { scratch.new ≡ scratch.old }
+{
     verdict_of(f, log, &mut scratch.assumed)
 }
 

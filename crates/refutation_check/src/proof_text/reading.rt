@@ -15,7 +15,7 @@ use crate::log::{Hints, Log, Step};
 use crate::proof_text::fault::ProofFault;
 use crate::proof_text::line::{Form, are_small, form_of};
 use cnf_core::{Clause, Cnf, Lit};
-use std::alloc::{AllocError, Global};
+use std::alloc::Global;
 
 /// At most so many bytes are a proof text.
 pub const MOST_BYTES: usize = 268_435_456;
@@ -179,22 +179,6 @@ fn read_lines(alloc: Global, bytes: &[u8]) -> Result<Reading, ProofFault>
     Ok(reading)
 }
 
-// The formula of these clauses.
-fn formula_of(alloc: Global, vars: u32, clauses: Vec<Clause>) -> Result<Cnf, AllocError>
-    requires vars { vars < 2 ^ 31 }
-    requires within { All (HasVarsUpTo vars) clauses.items }
-    requires few { length clauses.items < 2 ^ 30 }
-    ensures { IfOk result (λ f. f ≡ record { vars = vars; clauses = clauses.items }) }
-{
-    let mut formula = Cnf::new(alloc, vars);
-    let mut rest = clauses;
-    rest.reverse();
-    while let Some(clause) = rest.pop() {
-        formula.push(clause)?;
-    }
-    Ok(formula)
-}
-
 fn read_whole(alloc: Global, bytes: &[u8]) -> Result<(Cnf, Log), ProofFault>
     ensures proof { IfOk result (λ read. IsProofText bytes.now read.0 read.1) }
     ensures fault { IfErr result (HasFault bytes.now) }
@@ -209,8 +193,7 @@ fn read_whole(alloc: Global, bytes: &[u8]) -> Result<(Cnf, Log), ProofFault>
         vars,
         ..
     } = reading;
-    let formula = formula_of(alloc, vars, clauses)?;
-    Ok((formula, log))
+    Ok((Cnf::of(vars, clauses), log))
 }
 
 /// Reads a proof text: the formula and the log that it says, or its first fault. The formula's number of variables is

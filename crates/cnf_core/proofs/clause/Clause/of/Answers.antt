@@ -44,15 +44,15 @@ loop-lit-preserved c =
           ]))
     ]
 
-pub invariant_of-result : goal.invariant_of-result
-invariant_of-result c =
+pub in_order-requires : goal.in_order-requires
+in_order-requires c =
     let back = moved_back _ _ _ _ c.in_ok-sorted.ensures.items c.in_ok-sort_by_key.ensures.permutation c.deref-lit-items.ensures.value in
     record { rising = c.loop-lit.invariant.rising; variables = keeps_variables _ _ _ back c.requires c.loop-lit.invariant.from_items }
 
 pub returns-clause-clause : goal.returns-clause-clause
 returns-clause-clause c =
     let back = moved_back _ _ _ _ c.in_ok-sorted.ensures.items c.in_ok-sort_by_key.ensures.permutation c.deref-lit-items.ensures.value in
-    record { rising = c.loop-lit.invariant.rising; variables = keeps_variables _ _ _ back c.requires c.loop-lit.invariant.from_items }
+    rw c.in_order.ensures (record { rising = c.loop-lit.invariant.rising; variables = keeps_variables _ _ _ back c.requires c.loop-lit.invariant.from_items })
 
 pub returns-clause-none : goal.returns-clause-none
 returns-clause-none c =
@@ -63,4 +63,4 @@ pub returns-clause-same : goal.returns-clause-same
 returns-clause-same c =
     let forth = moved _ _ _ _ c.in_ok-sorted.ensures.items c.in_ok-sort_by_key.ensures.permutation c.deref-lit-items.ensures.value in
     let back = moved_back _ _ _ _ c.in_ok-sorted.ensures.items c.in_ok-sort_by_key.ensures.permutation c.deref-lit-items.ensures.value in
-    λ l. (λ h. keeps_same _ _ _ (omega arith) c.loop-lit.invariant l (forth l h), λ h. back l (All-contains (Contains c.deref-lit-items.result.now) _ l c.loop-lit.invariant.from_items h))
+    rw c.in_order.ensures (λ l. (λ h. keeps_same _ _ _ (omega arith) c.loop-lit.invariant l (forth l h), λ h. back l (All-contains (Contains c.deref-lit-items.result.now) _ l c.loop-lit.invariant.from_items h)))
