@@ -1,18 +1,22 @@
 // A source over the library's reader, and a sink over its writer.
 ghost use Rattle.std.specs.Prelude.{◌≡◌, ℕ, ◌<◌, ◌≤◌, ◌↔◌, List, [], ◌++◌, length, take, Ok, IfSome, IfNone, IfOk, OnOk, OnErr};
 ghost use Rattle.outside_io.specs.Count.{Rose, raised};
-ghost use Rattle.std.specs.Io.KnownBytes.{Appends, ReadConsumes};
+ghost use Rattle.std.specs.Io.KnownBytes.{Keeps, Appends, ReadConsumes};
 ghost use Rattle.outside_io.specs.Streams.{untold};
 
 use crate::counter::raised;
 use crate::sink::Sink;
 use crate::source::{Failed, Source};
-use std::io::{Read, Write};
+use std::io::{ErrorKind, Read, Write};
 use std::marker::Model;
+
+// A call that signals interrupt is made so many times at most.
+const MOST_TRIES: u32 = 1000;
 
 /// A source over a reader. It tells no bytes. A contract sees the reader and the count of faults.
 ///
-/// Each error of the reader is a fault, one that a signal caused (`ErrorKind::Interrupted`) too.
+/// A read that a signal interrupts (`ErrorKind::Interrupted`) is tried again, up to 1,000 tries in all. An error that
+/// is left after that, and each other one, is a fault.
 #[derive(Drop)]
 pub struct StdSource<R> {
     reader: R,
@@ -65,9 +69,9 @@ impl<R: Read + Drop> Source for StdSource<R> {
         if into.is_empty() {
             return Ok(0);
         }
-        match self.reader.read(into) {
+        match read_through(&mut self.reader, into) {
             Ok(count) => Ok(count),
-            Err(_) => {
+            Err(Failed) => {
                 self.faults = raised(self.faults);
                 Err(Failed)
             }
@@ -75,11 +79,30 @@ impl<R: Read + Drop> Source for StdSource<R> {
     }
 }
 
+// Reads into the front of a buffer, and tries again where a signal interrupts that.
+fn read_through<R: Read>(reader: &mut R, into: &mut [u8]) -> Result<usize, Failed>
+    ensures room { length into.new ≡ length into.old }
+    ensures most { IfOk result (λ n. n ≤ length into.new) }
+    ensures given { ReadConsumes (R.remaining reader.old) (R.remaining reader.new) result into.new }
+{
+    for _ in 0..MOST_TRIES {
+        match reader.read(into) {
+            Ok(count) => return Ok(count),
+            Err(error) => {
+                if error.kind() != ErrorKind::Interrupted {
+                    return Err(Failed);
+                }
+            }
+        }
+    }
+    Err(Failed)
+}
+
 /// A sink over a writer, which it flushes at each write. It tells no bytes. A contract sees the writer
 /// and the count of faults.
 ///
-/// Each error of the writer is a fault, one that a signal caused (`ErrorKind::Interrupted`) too, and so is a write
-/// that took nothing.
+/// A write or a flush that a signal interrupts (`ErrorKind::Interrupted`) is tried again, up to 1,000 tries in all. An
+/// error that is left after that, and each other one, is a fault, and so is a write that took nothing.
 #[derive(Drop)]
 pub struct StdSink<W> {
     writer: W,
@@ -152,7 +175,43 @@ fn write_through<W: Write>(writer: &mut W, piece: &[u8]) -> Option<usize>
     ensures passed { IfSome result (λ n. Appends (W.contents writer.old) (W.contents writer.new) (take n piece.now)) }
     ensures lost { IfNone result ((n : ℕ) × Appends (W.contents writer.old) (W.contents writer.new) (take n piece.now)) }
 {
-    let count = writer.write(piece).ok()?;
-    writer.flush().ok()?;
+    let count = write_front(writer, piece)?;
+    flush(writer)?;
     if count == 0 { None } else { Some(count) }
+}
+
+// Writes the front of a piece, and tries again where a signal interrupts that. `None` means an error.
+fn write_front<W: Write>(writer: &mut W, piece: &[u8]) -> Option<usize>
+    ensures most { IfSome result (λ n. n ≤ length piece.now) }
+    ensures passed { IfSome result (λ n. Appends (W.contents writer.old) (W.contents writer.new) (take n piece.now)) }
+    ensures kept { IfNone result (Keeps (W.contents writer.old) (W.contents writer.new)) }
+{
+    for _ in 0..MOST_TRIES {
+        match writer.write(piece) {
+            Ok(count) => return Some(count),
+            Err(error) => {
+                if error.kind() != ErrorKind::Interrupted {
+                    return None;
+                }
+            }
+        }
+    }
+    None
+}
+
+// Flushes, and tries again where a signal interrupts that. `None` means an error.
+fn flush<W: Write>(writer: &mut W) -> Option<()>
+    ensures { Keeps (W.contents writer.old) (W.contents writer.new) }
+{
+    for _ in 0..MOST_TRIES {
+        match writer.flush() {
+            Ok(()) => return Some(()),
+            Err(error) => {
+                if error.kind() != ErrorKind::Interrupted {
+                    return None;
+                }
+            }
+        }
+    }
+    None
 }
