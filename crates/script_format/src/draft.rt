@@ -39,8 +39,7 @@ impl Draft {
         ensures { IfOk result (λ _. self.new ≡ with_text line.now self.old) }
     {
         self.text.push_str(line)?;
-        self.text.push_str("\n")?;
-        Ok(())
+        self.text.push_str("\n")
     }
 
     /// The name.

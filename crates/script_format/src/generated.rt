@@ -32,8 +32,7 @@ fn push_numbered(
     let mut buffer = Buffer::new();
     out.extend_from_slice(before)?;
     out.extend_from_slice(buffer.format(number).as_bytes())?;
-    out.extend_from_slice(behind)?;
-    Ok(())
+    out.extend_from_slice(behind)
 }
 
 // Adds the models, three of them with this scope.
@@ -43,8 +42,7 @@ fn push_models(out: &mut Vec<u8>, scope: u32) -> Result<(), AllocError>
     push_first(out, scope)?;
     push_second(out, scope)?;
     push_third(out, scope)?;
-    push_last(out)?;
-    Ok(())
+    push_last(out)
 }
 
 #[tactic(auto, unfolding(crate::specs::Generated::first_model))]
@@ -79,8 +77,7 @@ fn push_last(out: &mut Vec<u8>) -> Result<(), AllocError>
 {
     out.extend_from_slice(
         b"== model m4\nsig P { h: one Q } sig Q {} run { all disj p, q: P | p.h != q.h } for exactly 4 P, exactly 3 Q\n",
-    )?;
-    Ok(())
+    )
 }
 
 // Adds the session at this place, from 0.
@@ -89,6 +86,5 @@ fn push_session(out: &mut Vec<u8>, place: u32) -> Result<(), AllocError>
     ensures { IfOk result (λ _. out.new.items ≡ out.old.items ++ session_text place) }
 {
     push_numbered(out, b"== session s", place + 1, b" m")?;
-    push_numbered(out, b"", place % 4 + 1, b" 1\nall 100\n")?;
-    Ok(())
+    push_numbered(out, b"", place % 4 + 1, b" 1\nall 100\n")
 }

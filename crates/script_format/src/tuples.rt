@@ -31,7 +31,7 @@ fn atom_in(alloc: Global, text: &str) -> Result<Option<AtomName>, AllocError>
     ensures { IfOk result (λ atom. atom ≡ atom_in text.now) }
 {
     let parts = parts_of(alloc, text, '$')?;
-    Ok(atom_of(alloc, &parts)?)
+    atom_of(alloc, &parts)
 }
 
 // The atom behind the `>` of an arrow.
@@ -39,7 +39,7 @@ fn atom_behind(alloc: Global, text: &str) -> Result<Option<AtomName>, AllocError
     ensures { IfOk result (λ atom. atom ≡ atom_behind text.now) }
 {
     match text.strip_prefix('>') {
-        Some(rest) => Ok(atom_in(alloc, rest)?),
+        Some(rest) => atom_in(alloc, rest),
         None => Ok(None),
     }
 }
@@ -72,7 +72,7 @@ fn tuple_of(alloc: Global, parts: &[&str]) -> Result<Option<AtomNames>, AllocErr
     let Some(first) = atom_in(alloc, first)? else {
         return Ok(None);
     };
-    Ok(atoms_behind(alloc, first, others)?)
+    atoms_behind(alloc, first, others)
 }
 
 /// The atoms that a word says, which have `->` between them.
@@ -80,5 +80,5 @@ pub fn tuple_in(alloc: Global, word: &str) -> Result<Option<AtomNames>, AllocErr
     ensures { IfOk result (λ names. names ≡ tuple_in word.now) }
 {
     let parts = parts_of(alloc, word, '-')?;
-    Ok(tuple_of(alloc, &parts)?)
+    tuple_of(alloc, &parts)
 }
