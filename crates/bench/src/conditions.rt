@@ -4,8 +4,9 @@ ghost use Rattle.rel_formula.specs.Kernel.{rel, var, transpose, join, closure, i
 ghost use Rattle.rel_formula.specs.Shape.{IsProper};
 ghost use Rattle.rel_formula.specs.View.{expression_tree, formula_tree};
 
-use rel_formula::{Expression, Formula};
+use rel_formula::{Comparison, Expression, Formula, Quantifier};
 use std::alloc::{AllocError, Global};
+use tuple_core::{Operator, UnaryOperator};
 
 /// The relation holds compositions of itself and of itself turned round: `f.f in f && f.~f in f && ~f.f in f`.
 pub fn compositions(alloc: Global) -> Result<Formula, AllocError>
@@ -21,9 +22,13 @@ pub fn no_cycle(alloc: Global) -> Result<Formula, AllocError>
     let relation = Box::new(alloc, Expression::Rel(1))?;
     let first = Box::new(alloc, Expression::Univ)?;
     let second = Box::new(alloc, Expression::Univ)?;
-    let all = Box::new(alloc, Expression::Product(first, second))?;
+    let all = Box::new(alloc, Expression::Binary(Operator::Product, first, second))?;
     let same = Box::new(alloc, Expression::Iden)?;
-    Ok(Formula::In(Expression::Closure(relation), Expression::Minus(all, same)))
+    Ok(Formula::Compared(
+        Comparison::In,
+        Expression::Unary(UnaryOperator::Closure, relation),
+        Expression::Binary(Operator::Minus, all, same),
+    ))
 }
 
 /// Some atom reaches none but itself: `some x: A | ^(x.f) in iden`.
@@ -31,7 +36,7 @@ pub fn some_image(alloc: Global) -> Result<Formula, AllocError>
     ensures { IfOk result (λ f. IsProper (1 ∷ 3 ∷ []) 0 (formula_tree f)) }
 {
     let body = Box::new(alloc, is_its_own(alloc, 0)?)?;
-    Ok(Formula::Exists(Expression::Rel(0), body))
+    Ok(Formula::Quantified(Quantifier::Exists, Expression::Rel(0), body))
 }
 
 /// Two atoms have one image, of such: `some x, y: A | x.f = y.f && ^(x.f) in iden`.
@@ -48,8 +53,11 @@ fn some_two(alloc: Global, body: Formula) -> Result<Formula, AllocError>
     ensures { IfOk result (λ f. IsProper (1 ∷ 3 ∷ []) 0 (formula_tree f)) }
 {
     let inner = Box::new(alloc, body)?;
-    let outer = Box::new(alloc, Formula::Exists(Expression::Rel(0), inner))?;
-    Ok(Formula::Exists(Expression::Rel(0), outer))
+    let outer = Box::new(
+        alloc,
+        Formula::Quantified(Quantifier::Exists, Expression::Rel(0), inner),
+    )?;
+    Ok(Formula::Quantified(Quantifier::Exists, Expression::Rel(0), outer))
 }
 
 // `f.f in f`, `f.~f in f` and `~f.f in f`.
@@ -68,14 +76,21 @@ fn composed(alloc: Global, left: Expression, right: Expression) -> Result<Formul
 {
     let left = Box::new(alloc, left)?;
     let right = Box::new(alloc, right)?;
-    Ok(Formula::In(Expression::Join(left, right), Expression::Rel(1)))
+    Ok(Formula::Compared(
+        Comparison::In,
+        Expression::Binary(Operator::Join, left, right),
+        Expression::Rel(1),
+    ))
 }
 
 // `~f`.
 fn turned(alloc: Global) -> Result<Expression, AllocError>
     ensures { IfOk result (λ e. expression_tree e ≡ transpose (rel 1)) }
 {
-    Ok(Expression::Transpose(Box::new(alloc, Expression::Rel(1))?))
+    Ok(Expression::Unary(
+        UnaryOperator::Transpose,
+        Box::new(alloc, Expression::Rel(1))?,
+    ))
 }
 
 // `x.f`, where x is the atom of this binder.
@@ -84,7 +99,7 @@ fn image(alloc: Global, binder: u32) -> Result<Expression, AllocError>
 {
     let atom = Box::new(alloc, Expression::Var(binder))?;
     let relation = Box::new(alloc, Expression::Rel(1))?;
-    Ok(Expression::Join(atom, relation))
+    Ok(Expression::Binary(Operator::Join, atom, relation))
 }
 
 // `^(x.f) in iden`.
@@ -92,14 +107,18 @@ fn is_its_own(alloc: Global, binder: u32) -> Result<Formula, AllocError>
     ensures { IfOk result (λ f. formula_tree f ≡ within (closure (join (var binder) (rel 1))) iden) }
 {
     let pairs = Box::new(alloc, image(alloc, binder)?)?;
-    Ok(Formula::In(Expression::Closure(pairs), Expression::Iden))
+    Ok(Formula::Compared(
+        Comparison::In,
+        Expression::Unary(UnaryOperator::Closure, pairs),
+        Expression::Iden,
+    ))
 }
 
 // `x.f = y.f` and `^(x.f) in iden`, where x is the outer binder and y the inner one.
 fn equal_and_its_own(alloc: Global) -> Result<Vec<Formula>, AllocError>
     ensures { IfOk result (λ fs. All (λ f. IsProper (1 ∷ 3 ∷ []) 2 (formula_tree f)) fs.items) }
 {
-    let equal = Formula::Equal(image(alloc, 1)?, image(alloc, 0)?);
+    let equal = Formula::Compared(Comparison::Equal, image(alloc, 1)?, image(alloc, 0)?);
     let own = is_its_own(alloc, 1)?;
     Ok(vec![in alloc; equal, own]?)
 }

@@ -1,17 +1,18 @@
 // What is asked of a number of sets of the same atoms, relations 1 and on; relation 0 has all of the atoms.
 ghost use Rattle.std.specs.Prelude.{◌+◌, ◌≤◌, All, IfOk, OnOk};
 ghost use Rattle.rel_formula.specs.View.{formula_tree};
-ghost use Rattle.bench_descents.specs.Sets.{IsAbout};
+ghost use Rattle.bench_descents.specs.Sets.{IsAbout, IsAsked};
 
-use rel_formula::{Expression, Formula};
+use rel_formula::{Comparison, Expression, Formula};
 use std::alloc::{AllocError, Global};
+use tuple_core::Operator;
 
 /// Of each two sets one is in the other; the first four are not empty, and no two of them are equal; and the first and the
 /// last share no atom.
 pub fn asked(alloc: Global, sets: u8) -> Result<Formula, AllocError>
     requires some { 5 ≤ sets }
     requires few { sets ≤ 20 }
-    ensures { IfOk result (λ f. IsAbout (sets + 1) (formula_tree f)) }
+    ensures { IfOk result (λ f. IsAsked (sets + 1) (formula_tree f)) }
 {
     let mut parts = Vec::new(alloc);
     for set in 1..sets + 1 {
@@ -78,8 +79,8 @@ fn comparable(alloc: Global, one: u8, other: u8, sets: u8) -> Result<Formula, Al
     ensures { IfOk result (λ f. IsAbout (sets + 1) (formula_tree f)) }
 {
     let _sets = sets; // for the proof
-    let up = Formula::In(Expression::Rel(one), Expression::Rel(other));
-    let down = Formula::In(Expression::Rel(other), Expression::Rel(one));
+    let up = Formula::Compared(Comparison::In, Expression::Rel(one), Expression::Rel(other));
+    let down = Formula::Compared(Comparison::In, Expression::Rel(other), Expression::Rel(one));
     let either = vec![in alloc; up, down]?;
     Ok(Formula::any_of(either))
 }
@@ -91,7 +92,11 @@ fn different(alloc: Global, one: u8, other: u8, sets: u8) -> Result<Formula, All
     ensures { IfOk result (λ f. IsAbout (sets + 1) (formula_tree f)) }
 {
     let _sets = sets; // for the proof
-    let equal = Formula::Equal(Expression::Rel(one), Expression::Rel(other));
+    let equal = Formula::Compared(
+        Comparison::Equal,
+        Expression::Rel(one),
+        Expression::Rel(other),
+    );
     Ok(Formula::Not(Box::new(alloc, equal)?))
 }
 
@@ -104,6 +109,6 @@ fn apart(alloc: Global, one: u8, other: u8, sets: u8) -> Result<Formula, AllocEr
     let _sets = sets; // for the proof
     let left = Box::new(alloc, Expression::Rel(one))?;
     let right = Box::new(alloc, Expression::Rel(other))?;
-    let shared = Formula::AtLeast(1, Expression::Meet(left, right));
+    let shared = Formula::AtLeast(1, Expression::Binary(Operator::Meet, left, right));
     Ok(Formula::Not(Box::new(alloc, shared)?))
 }

@@ -18,18 +18,27 @@ const BUDGET: u64 = 10_000_000;
 /// What is found where this is done with the problem of so many sets: `make`, `descend` from a scenario of up to 500 cells, or
 /// `offer` at a scenario of 10.
 pub fn found(alloc: Global, done: &str, sets: u32) -> Result<Option<Found>, AllocError> {
-    let Some(made) = translated(alloc, sets)? else {
-        return Ok(None);
-    };
+    match translated(alloc, sets)? {
+        Some(made) => found_in(alloc, &made, done),
+        None => Ok(None),
+    }
+}
+
+// What is found where this is done with a translation.
+fn found_in(alloc: Global, made: &Translation, done: &str) -> Result<Option<Found>, AllocError> {
     match done {
-        "make" => Ok(Some(Found::Translated {
-            cells: made.problem().cells(),
-            variables: made.cnf().vars(),
-            clauses: made.cnf().len(),
-        })),
-        "descend" => Ok(descended(alloc, &made, 47, 500)?.map(|down| Found::Descended(down))),
-        "offer" => Ok(offered(alloc, &made)?.map(|offered| Found::Offered(offered))),
+        "make" => Ok(Some(size_of(made))),
+        "descend" => Ok(descended(alloc, made, 47, 500)?.map(|down| Found::Descended(down))),
+        "offer" => Ok(offered(alloc, made)?.map(|offered| Found::Offered(offered))),
         _ => Ok(None),
+    }
+}
+
+fn size_of(made: &Translation) -> Found {
+    Found::Translated {
+        cells: made.problem().cells(),
+        variables: made.cnf().vars(),
+        clauses: made.cnf().len(),
     }
 }
 

@@ -12,17 +12,30 @@ use std::alloc::{AllocError, Global};
 use std::{env, io};
 
 fn main(rt: HostRuntime) -> io::Result<()> {
-    let mut words = Vec::new(rt.alloc());
-    for word in env::args(&rt)?.skip(1) {
-        words.push(word)?;
-    }
+    let words = words(&rt)?;
     for pair in words.chunks_exact(2) {
-        match measured(rt.alloc(), pair[0].as_str(), pair[1].as_str())? {
-            Some(found) => println!(rt; "{} {}: {found}", pair[0], pair[1])?,
-            None => println!(rt; "{} {}: no measure", pair[0], pair[1])?,
+        if let [done, sets] = pair {
+            tell(&rt, done.as_str(), sets.as_str())?;
         }
     }
     Ok(())
+}
+
+// The words after the program's name.
+fn words(rt: &HostRuntime) -> io::Result<Vec<String>> {
+    let mut words = Vec::new(rt.alloc());
+    for word in env::args(rt)?.skip(1) {
+        words.push(word)?;
+    }
+    Ok(words)
+}
+
+// Prints what is found where this is done with so many sets.
+fn tell(rt: &HostRuntime, done: &str, sets: &str) -> io::Result<()> {
+    match measured(rt.alloc(), done, sets)? {
+        Some(found) => println!(rt; "{done} {sets}: {found}"),
+        None => println!(rt; "{done} {sets}: no measure"),
+    }
 }
 
 // What is found where this is done with so many sets.
@@ -30,5 +43,5 @@ fn measured(alloc: Global, done: &str, sets: &str) -> Result<Option<Found>, Allo
     let Ok(sets) = sets.parse::<u32>() else {
         return Ok(None);
     };
-    Ok(descents::found(alloc, done, sets)?)
+    descents::found(alloc, done, sets)
 }

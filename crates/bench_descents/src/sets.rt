@@ -3,7 +3,7 @@ ghost use Rattle.std.specs.Prelude.{◌≡◌, ◌+◌, ◌<◌, ◌≤◌, ◌�
 ghost use Rattle.rel_formula.specs.Renaming.{IsSymmetric};
 ghost use Rattle.rel_formula.specs.View.{formula_tree};
 ghost use Rattle.rel_terms.specs.Terms.{IsTranslatable};
-ghost use Rattle.bench_descents.specs.Sets.{IsAbout, AreSets};
+ghost use Rattle.bench_descents.specs.Sets.{IsAsked, AreFewAtoms, AreSets};
 
 use crate::asked::asked;
 use rel_formula::{Formula, Problem, Relation};
@@ -93,7 +93,7 @@ fn relations(alloc: Global, all: &TupleSet, sets: u8) -> Result<Vec<Relation>, A
 // The problem of so many sets of the atoms.
 fn problem_of(alloc: Global, sets: u8, formula: Formula) -> Result<Option<Problem>, AllocError>
     requires few { sets ≤ 20 }
-    requires formula { IsAbout (sets + 1) (formula_tree formula) }
+    requires formula { IsAsked (sets + 1) (formula_tree formula) }
     ensures symmetric { IfOk result (λ made. IfSome made IsSymmetric) }
     ensures tops { IfOk result (λ made. IfSome made (λ p. p.tops ≡ 0 ∷ [])) }
 {
@@ -101,8 +101,23 @@ fn problem_of(alloc: Global, sets: u8, formula: Formula) -> Result<Option<Proble
     if all.rows().len() > 100 {
         return Ok(None);
     }
-    let relations = relations(alloc, &all, sets)?;
+    Ok(Some(problem_over(alloc, &all, sets, formula)?))
+}
+
+// The problem of so many sets of these atoms.
+fn problem_over(
+    alloc: Global,
+    all: &TupleSet,
+    sets: u8,
+    formula: Formula,
+) -> Result<Problem, AllocError>
+    requires atoms { AreFewAtoms all.now }
+    requires few { sets ≤ 20 }
+    requires formula { IsAsked (sets + 1) (formula_tree formula) }
+    ensures symmetric { IfOk result IsSymmetric }
+    ensures tops { IfOk result (λ p. p.tops ≡ 0 ∷ []) }
+{
+    let relations = relations(alloc, all, sets)?;
     let tops = vec![in alloc; 0]?;
-    let made = Problem::of(alloc, relations, tops, formula)?;
-    Ok(Some(made))
+    Ok(Problem::of(alloc, relations, tops, formula)?)
 }

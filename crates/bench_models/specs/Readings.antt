@@ -3,7 +3,7 @@ use Rattle.std.specs.Prelude.{◌≡◌, ◌≤◌, ℕ, List, [], length, Ok}
 use Rattle.alloy_lex.specs.declared.token.Token.{Token}
 use Rattle.alloy_lex.specs.Tokens.{tokens_of, IsFaultOf}
 use Rattle.alloy_syntax.specs.Tree.{ModelTree}
-use Rattle.alloy_syntax.specs.Seen.{seen_all}
+use Rattle.alloy_syntax.specs.ParserTokens.{seen_all}
 use Rattle.alloy_syntax.specs.Paragraphs.{model_of}
 use Rattle.alloy_parse.specs.Faults.{Refuses}
 use Rattle.named_model.specs.Model.{NamedTree}

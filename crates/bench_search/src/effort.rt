@@ -7,7 +7,7 @@ ghost use Rattle.sat_trail.specs.Closed.{IsPropagated};
 use crate::found::Effort;
 use cnf_core::Cnf;
 use refutation_check::Log;
-use sat_trail::{Leaning, Propagated, Trail, learn};
+use sat_trail::{Propagated, SavedPhases, Trail, learn};
 use std::alloc::{AllocError, Global};
 
 // The most conflicts that are counted.
@@ -18,7 +18,7 @@ pub fn effort(alloc: Global, f: &Cnf) -> Result<Effort, AllocError>
     requires { length f.now.clauses ≤ 1000000 }
 {
     let mut trail = Trail::of(alloc, f, &Log::new(alloc), &[])?;
-    let leaning = Leaning::towards(alloc, false);
+    let leaning = SavedPhases::towards(alloc, false);
     let mut effort = Effort {
         decided: 0,
         forced: 0,
@@ -38,7 +38,7 @@ pub fn effort(alloc: Global, f: &Cnf) -> Result<Effort, AllocError>
 }
 
 // Propagates and decides, until a clause is falsified: its number; or until each variable has a value.
-fn descend(trail: &mut Trail, leaning: &Leaning, effort: &mut Effort) -> Option<u32>
+fn descend(trail: &mut Trail, leaning: &SavedPhases, effort: &mut Effort) -> Option<u32>
     ensures conflict { IfSome result (Refutes trail.new.clauses (falses_of trail.new.assigned)) }
     ensures vars { trail.new.vars ≡ trail.old.vars }
     ensures clauses { trail.new.clauses ≡ trail.old.clauses }

@@ -1,31 +1,19 @@
 // What no clause says: that calls succeed with ample memory; and that the tuples of the results are those that the
 // operators on sets give, at every value of the inputs.
-ghost use Rattle.std.specs.Prelude.{◌+◌, ◌*◌, ◌<◌, length, IsTrue};
+ghost use Rattle.std.specs.Prelude.{◌+◌, ◌*◌, ◌<◌, ◌≤◌, length, IsTrue};
 ghost use Rattle.bool_circuit.specs.Network.{size};
 ghost use Rattle.bool_matrix.specs.Cells.{IsOf, ThereIn};
-ghost use Rattle.bool_matrix.specs.Closure.{HasFewAtoms, HasRoom};
-ghost use Rattle.bool_matrix.specs.Terms.{tuples, joins};
-ghost use Rattle.tuple_core.specs.Operators.{Closed};
+ghost use Rattle.bool_matrix.specs.Work.{combine_work, MayTurn};
+ghost use Rattle.tuple_core.specs.declared.operator.Operator.{Operator as AnyOperator};
+ghost use Rattle.tuple_core.specs.declared.operator.UnaryOperator.{UnaryOperator as AnyUnaryOperator};
+ghost use Rattle.tuple_core.specs.Operators.{Fit};
 
 use crate::gates::{input, value};
 use bool_circuit::{Circuit, MOST_NODES, Node};
 use bool_matrix::Matrix;
 use std::alloc::Global;
 use std::process::Abort;
-use tuple_core::{Atom, Tuple, TupleSet};
-
-// An operator on two matrices or sets.
-#[derive(Clone, Copy)]
-enum Operator {
-    Union,
-    Minus,
-    Meet,
-    Product,
-    Join,
-    Over,
-    Dom,
-    Ran,
-}
+use tuple_core::{Atom, Operator, Tuple, TupleSet, UnaryOperator};
 
 // The tuple of the first `arity` of these places.
 fn tuple(arity: u8, places: [u16; 3]) -> Tuple {
@@ -56,8 +44,7 @@ fn are_small(circuit: &Circuit, left: &Matrix, right: &Matrix) -> bool
     ensures left { IsTrue result → IsOf circuit.now left.now }
     ensures right { IsTrue result → IsOf circuit.now right.now }
     ensures sum { IsTrue result → size circuit.now + 16 * (length left.now.entries + 2 * length right.now.entries) < MOST_NODES }
-    ensures product { IsTrue result → size circuit.now + 16 * (length left.now.entries * length right.now.entries) < MOST_NODES }
-    ensures joins { IsTrue result → size circuit.now + 16 * joins (tuples left.now) (tuples right.now) < MOST_NODES }
+    ensures work { IsTrue result → (o : AnyOperator) → size circuit.now + 16 * combine_work o left.now right.now < MOST_NODES }
 {
     is_small(circuit, left) && is_small(circuit, right)
 }
@@ -73,8 +60,7 @@ fn may_count(circuit: &Circuit, matrix: &Matrix, n: u32) -> bool
 // Whether this is one of them, and has at most 8 pairs.
 fn may_close(circuit: &Circuit, pairs: &Matrix) -> bool
     ensures of { IsTrue result → IsOf circuit.now pairs.now }
-    ensures atoms { IsTrue result → HasFewAtoms 64 (ThereIn pairs.now) }
-    ensures room { IsTrue result → HasRoom (size circuit.now) MOST_NODES (Closed (ThereIn pairs.now)) }
+    ensures may { IsTrue result → (o : AnyUnaryOperator) → MayTurn o (size circuit.now) MOST_NODES (ThereIn pairs.now) }
 {
     if pairs.entries().len() > 8 {
         return false;
@@ -132,100 +118,22 @@ fn true_tuples(
     out
 }
 
-fn matrix_union(
-    rt: &impl Abort,
-    alloc: Global,
-    circuit: &mut Circuit,
-    a: &Matrix,
-    b: &Matrix,
-) -> Matrix {
-    assert!(rt; a.arity() == b.arity());
-    assert!(rt; are_small(circuit, a, b));
-    a.union(alloc, circuit, b).expect(rt, "memory")
-}
-
-fn matrix_minus(
-    rt: &impl Abort,
-    alloc: Global,
-    circuit: &mut Circuit,
-    a: &Matrix,
-    b: &Matrix,
-) -> Matrix {
-    assert!(rt; a.arity() == b.arity());
-    assert!(rt; are_small(circuit, a, b));
-    a.minus(alloc, circuit, b).expect(rt, "memory")
-}
-
-fn matrix_meet(
-    rt: &impl Abort,
-    alloc: Global,
-    circuit: &mut Circuit,
-    a: &Matrix,
-    b: &Matrix,
-) -> Matrix {
-    assert!(rt; a.arity() == b.arity());
-    assert!(rt; are_small(circuit, a, b));
-    a.meet(alloc, circuit, b).expect(rt, "memory")
-}
-
-fn matrix_product(
-    rt: &impl Abort,
-    alloc: Global,
-    circuit: &mut Circuit,
-    a: &Matrix,
-    b: &Matrix,
-) -> Matrix {
-    assert!(rt; a.arity() + b.arity() <= 3);
-    assert!(rt; are_small(circuit, a, b));
-    a.product(alloc, circuit, b).expect(rt, "memory")
-}
-
-fn matrix_join(
-    rt: &impl Abort,
-    alloc: Global,
-    circuit: &mut Circuit,
-    a: &Matrix,
-    b: &Matrix,
-) -> Matrix {
-    assert!(rt; 3 <= a.arity() + b.arity() && a.arity() + b.arity() <= 5);
-    assert!(rt; are_small(circuit, a, b));
-    a.join(alloc, circuit, b).expect(rt, "memory")
-}
-
-fn matrix_over(
-    rt: &impl Abort,
-    alloc: Global,
-    circuit: &mut Circuit,
-    a: &Matrix,
-    b: &Matrix,
-) -> Matrix {
-    assert!(rt; a.arity() == 2 && b.arity() == 2);
-    assert!(rt; are_small(circuit, a, b));
-    a.over(alloc, circuit, b).expect(rt, "memory")
-}
-
-fn matrix_dom(
-    rt: &impl Abort,
-    alloc: Global,
-    circuit: &mut Circuit,
-    a: &Matrix,
-    b: &Matrix,
-) -> Matrix {
-    assert!(rt; b.arity() == 1);
-    assert!(rt; are_small(circuit, a, b));
-    a.dom(alloc, circuit, b).expect(rt, "memory")
-}
-
-fn matrix_ran(
-    rt: &impl Abort,
-    alloc: Global,
-    circuit: &mut Circuit,
-    a: &Matrix,
-    b: &Matrix,
-) -> Matrix {
-    assert!(rt; b.arity() == 1);
-    assert!(rt; are_small(circuit, a, b));
-    a.ran(alloc, circuit, b).expect(rt, "memory")
+// Whether matrices and sets of these arities are operands of the operator.
+fn fit(operator: Operator, m: u8, n: u8) -> bool
+    requires left { m ≤ 3 }
+    requires right { n ≤ 3 }
+    ensures { IsTrue result → Fit operator m n }
+{
+    match operator {
+        Operator::Union => m == n,
+        Operator::Minus => m == n,
+        Operator::Meet => m == n,
+        Operator::Product => m + n <= 3,
+        Operator::Join => 3 <= m + n && m + n <= 5,
+        Operator::Override => m == 2 && n == 2,
+        Operator::Dom => m == 1,
+        Operator::Ran => n == 1,
+    }
 }
 
 // What the operator makes of two matrices.
@@ -237,56 +145,9 @@ fn of_matrices(
     a: &Matrix,
     b: &Matrix,
 ) -> Matrix {
-    match operator {
-        Operator::Union => matrix_union(rt, alloc, circuit, a, b),
-        Operator::Minus => matrix_minus(rt, alloc, circuit, a, b),
-        Operator::Meet => matrix_meet(rt, alloc, circuit, a, b),
-        Operator::Product => matrix_product(rt, alloc, circuit, a, b),
-        Operator::Join => matrix_join(rt, alloc, circuit, a, b),
-        Operator::Over => matrix_over(rt, alloc, circuit, a, b),
-        Operator::Dom => matrix_dom(rt, alloc, circuit, a, b),
-        Operator::Ran => matrix_ran(rt, alloc, circuit, a, b),
-    }
-}
-
-fn set_union(rt: &impl Abort, alloc: Global, a: &TupleSet, b: &TupleSet) -> TupleSet {
-    assert!(rt; a.arity() == b.arity());
-    a.union(alloc, b).expect(rt, "memory")
-}
-
-fn set_minus(rt: &impl Abort, alloc: Global, a: &TupleSet, b: &TupleSet) -> TupleSet {
-    assert!(rt; a.arity() == b.arity());
-    a.minus(alloc, b).expect(rt, "memory")
-}
-
-fn set_meet(rt: &impl Abort, alloc: Global, a: &TupleSet, b: &TupleSet) -> TupleSet {
-    assert!(rt; a.arity() == b.arity());
-    a.meet(alloc, b).expect(rt, "memory")
-}
-
-fn set_product(rt: &impl Abort, alloc: Global, a: &TupleSet, b: &TupleSet) -> TupleSet {
-    assert!(rt; a.arity() + b.arity() <= 3);
-    a.product(alloc, b).expect(rt, "memory")
-}
-
-fn set_join(rt: &impl Abort, alloc: Global, a: &TupleSet, b: &TupleSet) -> TupleSet {
-    assert!(rt; 3 <= a.arity() + b.arity() && a.arity() + b.arity() <= 5);
-    a.join(alloc, b).expect(rt, "memory")
-}
-
-fn set_over(rt: &impl Abort, alloc: Global, a: &TupleSet, b: &TupleSet) -> TupleSet {
-    assert!(rt; a.arity() == 2 && b.arity() == 2);
-    a.over(alloc, b).expect(rt, "memory")
-}
-
-fn set_dom(rt: &impl Abort, alloc: Global, a: &TupleSet, b: &TupleSet) -> TupleSet {
-    assert!(rt; b.arity() == 1);
-    a.dom(alloc, b).expect(rt, "memory")
-}
-
-fn set_ran(rt: &impl Abort, alloc: Global, a: &TupleSet, b: &TupleSet) -> TupleSet {
-    assert!(rt; b.arity() == 1);
-    a.ran(alloc, b).expect(rt, "memory")
+    assert!(rt; fit(operator, a.arity(), b.arity()));
+    assert!(rt; are_small(circuit, a, b));
+    a.combine(alloc, circuit, operator, b).expect(rt, "memory")
 }
 
 // What the operator makes of two sets.
@@ -297,16 +158,8 @@ fn of_sets(
     a: &TupleSet,
     b: &TupleSet,
 ) -> TupleSet {
-    match operator {
-        Operator::Union => set_union(rt, alloc, a, b),
-        Operator::Minus => set_minus(rt, alloc, a, b),
-        Operator::Meet => set_meet(rt, alloc, a, b),
-        Operator::Product => set_product(rt, alloc, a, b),
-        Operator::Join => set_join(rt, alloc, a, b),
-        Operator::Over => set_over(rt, alloc, a, b),
-        Operator::Dom => set_dom(rt, alloc, a, b),
-        Operator::Ran => set_ran(rt, alloc, a, b),
-    }
+    assert!(rt; fit(operator, a.arity(), b.arity()));
+    a.combine(alloc, operator, b).expect(rt, "memory")
 }
 
 // The inputs that the bits of a number say.
@@ -379,14 +232,15 @@ fn agrees_at(
     assert!(rt; found == expected);
 }
 
-fn closure(rt: &impl Abort, alloc: Global, circuit: &mut Circuit, a: &Matrix) -> Matrix {
+fn turned(
+    rt: &impl Abort,
+    alloc: Global,
+    circuit: &mut Circuit,
+    operator: UnaryOperator,
+    a: &Matrix,
+) -> Matrix {
     assert!(rt; a.arity() == 2 && may_close(circuit, a));
-    a.closure(alloc, circuit).expect(rt, "memory")
-}
-
-fn transposed(rt: &impl Abort, alloc: Global, a: &Matrix) -> Matrix {
-    assert!(rt; a.arity() == 2);
-    a.transpose(alloc).expect(rt, "memory")
+    a.turn(alloc, circuit, operator).expect(rt, "memory")
 }
 
 // That the closure and the transposition of pairs are those of sets, at every value of the inputs.
@@ -394,10 +248,10 @@ fn closure_agrees(rt: &impl Abort, alloc: Global, rows: &[[u16; 3]]) {
     let inputs = small(rt, rows.len());
     let mut circuit = Circuit::new(alloc, inputs);
     let a = matrix(rt, alloc, &mut circuit, 2, rows, 0);
-    let closed = closure(rt, alloc, &mut circuit, &a);
-    let turned = transposed(rt, alloc, &a);
+    let closed = turned(rt, alloc, &mut circuit, UnaryOperator::Closure, &a);
+    let around = turned(rt, alloc, &mut circuit, UnaryOperator::Transpose, &a);
     for bits in 0..values_of(rt, inputs) {
-        closure_agrees_at(rt, alloc, &circuit, [&a, &closed, &turned], bits);
+        closure_agrees_at(rt, alloc, &circuit, [&a, &closed, &around], bits);
     }
 }
 
@@ -408,9 +262,11 @@ fn closure_and_transposition(
     set: &TupleSet,
 ) -> (TupleSet, TupleSet) {
     assert!(rt; set.arity() == 2);
-    let closed = set.closure(alloc).expect(rt, "memory");
-    let turned = set.transpose(alloc).expect(rt, "memory");
-    (closed, turned)
+    let closed = set.turn(alloc, UnaryOperator::Closure).expect(rt, "memory");
+    let around = set
+        .turn(alloc, UnaryOperator::Transpose)
+        .expect(rt, "memory");
+    (closed, around)
 }
 
 // That they are those of sets at the inputs of these bits.
@@ -418,14 +274,14 @@ fn closure_agrees_at(
     rt: &impl Abort,
     alloc: Global,
     circuit: &Circuit,
-    [a, closed, turned]: [&Matrix; 3],
+    [a, closed, around]: [&Matrix; 3],
     bits: u32,
 ) {
     let inputs = inputs_of(rt, alloc, bits, circuit.inputs());
     let set = true_tuples(rt, alloc, circuit, a, &inputs);
     let (closure, transposition) = closure_and_transposition(rt, alloc, &set);
     assert!(rt; true_tuples(rt, alloc, circuit, closed, &inputs) == closure);
-    assert!(rt; true_tuples(rt, alloc, circuit, turned, &inputs) == transposition);
+    assert!(rt; true_tuples(rt, alloc, circuit, around, &inputs) == transposition);
 }
 
 // The node that says whether the first matrix is a part of the second.
@@ -570,16 +426,16 @@ fn joins_are_those_of_sets(rt: HostRuntime) {
 
 #[test]
 fn overrides_are_those_of_sets(rt: HostRuntime) {
-    agrees(&rt, rt.alloc(), Operator::Over, (2, &A), (2, &B));
-    agrees(&rt, rt.alloc(), Operator::Over, (2, &C), (2, &A));
-    agrees(&rt, rt.alloc(), Operator::Over, (2, &C), (2, &NONE));
-    agrees(&rt, rt.alloc(), Operator::Over, (2, &NONE), (2, &C));
+    agrees(&rt, rt.alloc(), Operator::Override, (2, &A), (2, &B));
+    agrees(&rt, rt.alloc(), Operator::Override, (2, &C), (2, &A));
+    agrees(&rt, rt.alloc(), Operator::Override, (2, &C), (2, &NONE));
+    agrees(&rt, rt.alloc(), Operator::Override, (2, &NONE), (2, &C));
 }
 
 #[test]
 fn restrictions_are_those_of_sets(rt: HostRuntime) {
     for arity in 1..4u8 {
-        agrees(&rt, rt.alloc(), Operator::Dom, (arity, &A), (1, &B));
+        agrees(&rt, rt.alloc(), Operator::Dom, (1, &B), (arity, &A));
         agrees(&rt, rt.alloc(), Operator::Ran, (arity, &B), (1, &A));
         agrees(&rt, rt.alloc(), Operator::Ran, (arity, &A), (1, &ONE));
     }
@@ -659,7 +515,7 @@ fn a_union_in_the_other_order_is_quick(rt: HostRuntime) {
     let mut circuit = Circuit::new(rt.alloc(), 1);
     let low = atoms_from(&rt, rt.alloc(), &mut circuit, 0);
     let high = atoms_from(&rt, rt.alloc(), &mut circuit, 1000);
-    let all = matrix_union(&rt, rt.alloc(), &mut circuit, &high, &low);
+    let all = of_matrices(&rt, rt.alloc(), &mut circuit, Operator::Union, &high, &low);
     assert_eq!(rt; all.entries().len(), 1800);
     assert_eq!(rt; circuit.len(), 1);
 }

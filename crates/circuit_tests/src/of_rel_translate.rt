@@ -4,12 +4,13 @@ ghost use Rattle.rel_formula.specs.Kernel.{rel, var, product, within};
 ghost use Rattle.rel_formula.specs.Shape.{IsProper};
 ghost use Rattle.rel_formula.specs.View.{formula_tree};
 
-use rel_formula::{Expression, Formula, Problem, holds};
+use rel_formula::{Comparison, Expression, Formula, Problem, Quantifier, holds};
 use rel_translate::{ProblemCircuit, circuit_of};
 use sample_problems::{arrows, is_translatable, scenario_of, two};
 use std::alloc::{AllocError, Global};
 use std::process::Abort;
 use std::test::Fail;
+use tuple_core::{Operator, UnaryOperator};
 
 // The values of so many inputs that the bits of a number say.
 fn inputs_of(alloc: Global, bits: u32, count: u32) -> Result<Vec<bool>, AllocError> {
@@ -107,76 +108,108 @@ fn counts(rt: HostRuntime) -> Result<(), Fail> {
 #[test]
 fn unions(rt: HostRuntime) -> Result<(), Fail> {
     let (a, b) = two(rt.alloc(), Expression::Rel(1), Expression::Iden)?;
-    let formula = Formula::Equal(Expression::Union(a, b), Expression::Rel(1));
+    let formula = Formula::Compared(
+        Comparison::Equal,
+        Expression::Binary(Operator::Union, a, b),
+        Expression::Rel(1),
+    );
     agrees(&rt, rt.alloc(), &[], &[0, 1], formula)
 }
 
 #[test]
 fn differences(rt: HostRuntime) -> Result<(), Fail> {
     let (a, b) = two(rt.alloc(), Expression::Iden, Expression::Rel(1))?;
-    let formula = Formula::AtLeast(1, Expression::Minus(a, b));
+    let formula = Formula::AtLeast(1, Expression::Binary(Operator::Minus, a, b));
     agrees(&rt, rt.alloc(), &[0], &[0, 1], formula)
 }
 
 #[test]
 fn intersections(rt: HostRuntime) -> Result<(), Fail> {
     let (a, b) = two(rt.alloc(), Expression::Iden, Expression::Rel(1))?;
-    let formula = Formula::AtLeast(2, Expression::Meet(a, b));
+    let formula = Formula::AtLeast(2, Expression::Binary(Operator::Meet, a, b));
     agrees(&rt, rt.alloc(), &[], &[0, 1], formula)
 }
 
 #[test]
 fn products(rt: HostRuntime) -> Result<(), Fail> {
     let (a, b) = two(rt.alloc(), Expression::Univ, Expression::Rel(0))?;
-    let formula = Formula::In(Expression::Product(a, b), Expression::Rel(1));
+    let formula = Formula::Compared(
+        Comparison::In,
+        Expression::Binary(Operator::Product, a, b),
+        Expression::Rel(1),
+    );
     agrees(&rt, rt.alloc(), &[], &[0, 1], formula)
 }
 
 #[test]
 fn the_empty_set(rt: HostRuntime) -> Result<(), Fail> {
-    let formula = Formula::In(Expression::None, Expression::Rel(0));
+    let formula = Formula::Compared(Comparison::In, Expression::None, Expression::Rel(0));
     agrees(&rt, rt.alloc(), &[], &[0, 1], formula)
 }
 
 #[test]
 fn joins(rt: HostRuntime) -> Result<(), Fail> {
     let (a, b) = two(rt.alloc(), Expression::Rel(0), Expression::Rel(1))?;
-    let formula = Formula::In(Expression::Rel(0), Expression::Join(a, b));
+    let formula = Formula::Compared(
+        Comparison::In,
+        Expression::Rel(0),
+        Expression::Binary(Operator::Join, a, b),
+    );
     agrees(&rt, rt.alloc(), &[], &[0, 1], formula)
 }
 
 #[test]
 fn transpositions(rt: HostRuntime) -> Result<(), Fail> {
     let arrows = Box::new(rt.alloc(), Expression::Rel(1))?;
-    let formula = Formula::In(Expression::Transpose(arrows), Expression::Rel(1));
+    let formula = Formula::Compared(
+        Comparison::In,
+        Expression::Unary(UnaryOperator::Transpose, arrows),
+        Expression::Rel(1),
+    );
     agrees(&rt, rt.alloc(), &[], &[0, 1], formula)
 }
 
 #[test]
 fn closures(rt: HostRuntime) -> Result<(), Fail> {
     let arrows = Box::new(rt.alloc(), Expression::Rel(1))?;
-    let formula = Formula::In(Expression::Closure(arrows), Expression::Rel(1));
+    let formula = Formula::Compared(
+        Comparison::In,
+        Expression::Unary(UnaryOperator::Closure, arrows),
+        Expression::Rel(1),
+    );
     agrees(&rt, rt.alloc(), &[0], &[0, 1], formula)
 }
 
 #[test]
 fn overrides(rt: HostRuntime) -> Result<(), Fail> {
     let (a, b) = two(rt.alloc(), Expression::Iden, Expression::Rel(1))?;
-    let formula = Formula::Equal(Expression::Override(a, b), Expression::Rel(1));
+    let formula = Formula::Compared(
+        Comparison::Equal,
+        Expression::Binary(Operator::Override, a, b),
+        Expression::Rel(1),
+    );
     agrees(&rt, rt.alloc(), &[], &[0, 1], formula)
 }
 
 #[test]
 fn restrictions_of_the_domain(rt: HostRuntime) -> Result<(), Fail> {
     let (a, b) = two(rt.alloc(), Expression::Rel(0), Expression::Rel(1))?;
-    let formula = Formula::In(Expression::Rel(1), Expression::Dom(a, b));
+    let formula = Formula::Compared(
+        Comparison::In,
+        Expression::Rel(1),
+        Expression::Binary(Operator::Dom, a, b),
+    );
     agrees(&rt, rt.alloc(), &[], &[0, 1], formula)
 }
 
 #[test]
 fn restrictions_of_the_range(rt: HostRuntime) -> Result<(), Fail> {
     let (a, b) = two(rt.alloc(), Expression::Rel(1), Expression::Rel(0))?;
-    let formula = Formula::In(Expression::Rel(1), Expression::Ran(a, b));
+    let formula = Formula::Compared(
+        Comparison::In,
+        Expression::Rel(1),
+        Expression::Binary(Operator::Ran, a, b),
+    );
     agrees(&rt, rt.alloc(), &[], &[0, 1], formula)
 }
 
@@ -185,7 +218,11 @@ fn restrictions_of_the_range(rt: HostRuntime) -> Result<(), Fail> {
 fn triples(rt: HostRuntime) -> Result<(), Fail> {
     let (a, b) = two(rt.alloc(), Expression::Rel(0), Expression::Rel(1))?;
     let (c, d) = two(rt.alloc(), Expression::Rel(1), Expression::Rel(0))?;
-    let formula = Formula::In(Expression::Product(a, b), Expression::Product(c, d));
+    let formula = Formula::Compared(
+        Comparison::In,
+        Expression::Binary(Operator::Product, a, b),
+        Expression::Binary(Operator::Product, c, d),
+    );
     agrees(&rt, rt.alloc(), &[], &[0, 1], formula)
 }
 
@@ -193,8 +230,16 @@ fn triples(rt: HostRuntime) -> Result<(), Fail> {
 #[test]
 fn joined_triples(rt: HostRuntime) -> Result<(), Fail> {
     let (a, b) = two(rt.alloc(), Expression::Rel(1), Expression::Rel(0))?;
-    let (c, d) = two(rt.alloc(), Expression::Product(a, b), Expression::Rel(0))?;
-    let formula = Formula::Equal(Expression::Join(c, d), Expression::Rel(1));
+    let (c, d) = two(
+        rt.alloc(),
+        Expression::Binary(Operator::Product, a, b),
+        Expression::Rel(0),
+    )?;
+    let formula = Formula::Compared(
+        Comparison::Equal,
+        Expression::Binary(Operator::Join, c, d),
+        Expression::Rel(1),
+    );
     agrees(&rt, rt.alloc(), &[1], &[0, 1], formula)
 }
 
@@ -202,7 +247,7 @@ fn joined_triples(rt: HostRuntime) -> Result<(), Fail> {
 #[test]
 fn cycles(rt: HostRuntime) -> Result<(), Fail> {
     let arrows = Box::new(rt.alloc(), Expression::Rel(1))?;
-    let formula = Formula::AtLeast(9, Expression::Closure(arrows));
+    let formula = Formula::AtLeast(9, Expression::Unary(UnaryOperator::Closure, arrows));
     agrees(&rt, rt.alloc(), &[0, 1, 2], &[0, 1, 2], formula)
 }
 
@@ -213,31 +258,41 @@ fn linked(alloc: Global) -> Result<Box<Formula>, AllocError>
     let (a, b) = two(alloc, Expression::Var(1), Expression::Var(0))?;
     Ok(Box::new(
         alloc,
-        Formula::In(Expression::Product(a, b), Expression::Rel(1)),
+        Formula::Compared(
+            Comparison::In,
+            Expression::Binary(Operator::Product, a, b),
+            Expression::Rel(1),
+        ),
     )?)
 }
 
 // Some atom is linked to all of the set.
 fn one_is_linked_to_all(rt: &impl Abort, alloc: Global, places: &[u16]) -> Result<(), Fail> {
-    let inner = Box::new(alloc, Formula::All(Expression::Rel(0), linked(alloc)?))?;
+    let inner = Box::new(
+        alloc,
+        Formula::Quantified(Quantifier::All, Expression::Rel(0), linked(alloc)?),
+    )?;
     agrees(
         rt,
         alloc,
         &[],
         places,
-        Formula::Exists(Expression::Univ, inner),
+        Formula::Quantified(Quantifier::Exists, Expression::Univ, inner),
     )
 }
 
 // At most one atom is linked to some of the set.
 fn at_most_one_is_linked(rt: &impl Abort, alloc: Global, places: &[u16]) -> Result<(), Fail> {
-    let inner = Box::new(alloc, Formula::Exists(Expression::Rel(0), linked(alloc)?))?;
+    let inner = Box::new(
+        alloc,
+        Formula::Quantified(Quantifier::Exists, Expression::Rel(0), linked(alloc)?),
+    )?;
     agrees(
         rt,
         alloc,
         &[],
         places,
-        Formula::Lone(Expression::Univ, inner),
+        Formula::Quantified(Quantifier::Lone, Expression::Univ, inner),
     )
 }
 
@@ -247,13 +302,16 @@ fn all_are_linked_to_at_most_one(
     alloc: Global,
     places: &[u16],
 ) -> Result<(), Fail> {
-    let inner = Box::new(alloc, Formula::Lone(Expression::Rel(0), linked(alloc)?))?;
+    let inner = Box::new(
+        alloc,
+        Formula::Quantified(Quantifier::Lone, Expression::Rel(0), linked(alloc)?),
+    )?;
     agrees(
         rt,
         alloc,
         &[],
         places,
-        Formula::All(Expression::Rel(0), inner),
+        Formula::Quantified(Quantifier::All, Expression::Rel(0), inner),
     )
 }
 

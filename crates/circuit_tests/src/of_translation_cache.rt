@@ -3,7 +3,7 @@ ghost use Rattle.std.specs.Prelude.{◌≡◌, ◌⊎◌, ◌<◌, length};
 ghost use Rattle.rel_formula.specs.Kernel.{conjunction, disjunction, no_formulas};
 ghost use Rattle.rel_formula.specs.View.{formula_tree};
 
-use rel_formula::{Formula, Problem};
+use rel_formula::{Connective, Formula, Problem};
 use std::alloc::Global;
 use std::sync::Arc;
 use std::test::Fail;
@@ -36,7 +36,7 @@ fn shared<T: Send + Sync>(value: T) -> T {
 
 // Whether the translation is that of the formula that is always true.
 fn is_of_true(t: &Translation) -> bool {
-    matches!(t.problem().formula(), Formula::And(_))
+    matches!(t.problem().formula(), Formula::Junction(Connective::And, _))
 }
 
 // Publishes the translation of this formula for the key: whether the one that is kept is of the formula that is always true.

@@ -1,16 +1,17 @@
 // That the definitions are those of the field: small sets and problems, worked out by hand.
-ghost use Rattle.std.specs.Prelude.{◌≡◌, ◌∷◌, [], IfOk};
-ghost use Rattle.tuple_core.specs.Swap.{swap_atoms};
-ghost use Rattle.rel_formula.specs.Renaming.{KeepsBounds};
+ghost use Rattle.std.specs.Prelude.{◌≡◌, ◌∷◌, [], IfOk, IsTrue};
+ghost use Rattle.rel_formula.specs.Bounds.{IsAtomOf};
+ghost use Rattle.rel_formula.specs.Instance.{AreCells};
+ghost use Rattle.rel_formula.specs.Renaming.{IsSymmetric};
 ghost use Rattle.rel_formula.specs.Shape.{IsProper};
 ghost use Rattle.rel_formula.specs.View.{formula_tree};
 
-use rel_formula::{Cell, Expression, Formula, Problem, Relation, Scenario, holds};
-use sample_problems::{at, atoms, chosen, set_between, truism};
+use rel_formula::{Cell, Expression, Formula, Problem, Scenario, Tables, holds};
+use sample_problems::{at, atoms, chosen, set_between, set_of, truism};
 use std::alloc::{AllocError, Global};
 use std::process::Abort;
 use std::test::Fail;
-use tuple_core::{Atom, Name, Tuple, TupleSet};
+use tuple_core::{Atom, Tuple};
 
 // Whether the chosen scenario is an instance.
 fn is_instance(alloc: Global, problem: &Problem, numbers: &[u32]) -> Result<bool, AllocError> {
@@ -151,27 +152,11 @@ fn a_copy_has_the_same_parts(rt: HostRuntime) -> Result<(), Fail> {
     copies(&rt, rt.alloc(), &problem)
 }
 
-// Any set of two atoms of the first signature: a problem whose bounds the swap of the two leaves as they are.
-fn any_of_two(
-    rt: &impl Abort,
-    alloc: Global,
-    first: Atom,
-    second: Atom,
-) -> Result<Problem, AllocError>
-    requires first { first.top ≡ 0 }
-    requires second { second.top ≡ 0 }
-    ensures { IfOk result (λ p. KeepsBounds p (swap_atoms first second)) }
+// Any set of the atoms at places 1 and 4, with at least one of them.
+fn any_of_two(alloc: Global) -> Result<Problem, Fail>
+    ensures { IfOk result IsSymmetric }
 {
-    let lower = TupleSet::new(alloc, 1);
-    let mut upper = TupleSet::new(alloc, 1);
-    upper.insert(Tuple::single(first))?;
-    upper.insert(Tuple::single(second))?;
-    assert!(rt; upper.rows().len() <= 2);
-    let name = Name::of(alloc, "A")?;
-    let relations = vec![in alloc; Relation { name, lower, upper }]?;
-    let tops = vec![in alloc; 0]?;
-    let some = Formula::AtLeast(1, Expression::Rel(0));
-    Ok(Problem::of(alloc, relations, tops, some)?)
+    set_of(alloc, &[1, 4], Formula::AtLeast(1, Expression::Rel(0)))
 }
 
 fn swaps_cells(rt: &impl Abort, problem: &Problem) {
@@ -184,43 +169,52 @@ fn swaps_cells(rt: &impl Abort, problem: &Problem) {
 
 #[test]
 fn swapped_cells(rt: HostRuntime) -> Result<(), Fail> {
-    let problem = any_of_two(&rt, rt.alloc(), at(1), at(4))?;
+    let problem = any_of_two(rt.alloc())?;
     swaps_cells(&rt, &problem);
     Ok(())
 }
 
-// A chosen scenario of a problem, with two atoms exchanged.
-fn exchanged(
-    alloc: Global,
+// Whether the atom is one of the problem.
+fn has_atom(problem: &Problem, atom: Atom) -> bool
+    ensures { IsTrue result → IsAtomOf problem.now atom }
+{
+    problem.atoms().contains(&Tuple::single(atom))
+}
+
+// Exchanges two atoms of the problem. It fails where one isn't there.
+fn exchange(
+    scenario: &mut Scenario,
     problem: &Problem,
     first: Atom,
     second: Atom,
-    numbers: &[u32],
-) -> Result<Scenario, AllocError>
-    requires { KeepsBounds problem.now (swap_atoms first second) }
+) -> Result<(), Fail>
+    requires cells { AreCells problem.now scenario.old }
+    requires symmetric { IsSymmetric problem.now }
+    requires tops { first.top ≡ second.top }
 {
-    let mut scenario = chosen(alloc, problem, numbers)?;
+    if !has_atom(problem, first) {
+        return Err(Fail::new("no first atom"));
+    }
+    if !has_atom(problem, second) {
+        return Err(Fail::new("no second atom"));
+    }
     scenario.swap_atoms(problem, first, second);
-    Ok(scenario)
+    Ok(())
 }
 
-// The same of a problem of the two atoms alone.
-fn exchanged_of_two(
-    rt: &impl Abort,
-    alloc: Global,
-    numbers: &[u32],
-) -> Result<Scenario, AllocError> {
-    let first = at(1);
-    let second = at(4);
-    let problem = any_of_two(rt, alloc, first, second)?;
-    exchanged(alloc, &problem, first, second, numbers)
+// A chosen scenario of that problem, with its two atoms exchanged.
+fn exchanged(alloc: Global, numbers: &[u32]) -> Result<Scenario, Fail> {
+    let problem = any_of_two(alloc)?;
+    let mut scenario = chosen(alloc, &problem, numbers)?;
+    exchange(&mut scenario, &problem, at(1), at(4))?;
+    Ok(scenario)
 }
 
 #[test]
 fn swapped_scenarios(rt: HostRuntime) -> Result<(), Fail> {
-    let scenario = exchanged_of_two(&rt, rt.alloc(), &[1])?;
+    let scenario = exchanged(rt.alloc(), &[1])?;
     assert_eq!(rt; scenario.numbers(), [0].as_slice());
-    let scenario = exchanged_of_two(&rt, rt.alloc(), &[0, 1])?;
+    let scenario = exchanged(rt.alloc(), &[0, 1])?;
     assert_eq!(rt; scenario.numbers(), [0, 1].as_slice());
     Ok(())
 }
@@ -249,5 +243,13 @@ fn scenarios(rt: HostRuntime) -> Result<(), Fail> {
     );
     let copy = scenario.copy(rt.alloc())?;
     assert_eq!(rt; copy.numbers(), [2, 5, 9].as_slice());
+    Ok(())
+}
+
+#[test]
+fn told_tables(rt: HostRuntime) -> Result<(), Fail> {
+    let values = vec![in rt.alloc(); atoms(rt.alloc(), &[0, 1])?]?;
+    let tables = Tables::new(values, atoms(rt.alloc(), &[0, 1, 2])?);
+    assert_eq!(rt; (tables.values().len(), tables.universe().len()), (1, 3));
     Ok(())
 }

@@ -4,114 +4,145 @@ ghost use Rattle.rel_formula.specs.Kernel.{rel, var, univ, product, within};
 ghost use Rattle.rel_formula.specs.Shape.{IsWellFormed, IsProper};
 ghost use Rattle.rel_formula.specs.View.{expression_tree, formula_tree};
 
-use rel_formula::{Expression, Formula, Problem, Relation};
+use rel_formula::{Comparison, Expression, Formula, Quantifier};
 use rel_terms::{MOST_TERMS, terms};
-use sample_problems::{no_formulas, two};
+use sample_problems::{no_formulas, set_of, two};
 use std::alloc::{AllocError, Global};
-use std::process::Abort;
 use std::test::Fail;
-use tuple_core::{Atom, Name, Tuple, TupleSet};
+use tuple_core::{Operator, UnaryOperator};
 
-// The set of so many atoms.
-fn atoms(alloc: Global, count: u16) -> Result<TupleSet, AllocError>
-    ensures arity { IfOk result (λ s. s.arity ≡ 1) }
-    ensures tops { IfOk result (λ s. All (All (λ a. a.top ≡ 0)) s.rows) }
-{
-    let mut set = TupleSet::new(alloc, 1);
+// The first so many places.
+fn places(alloc: Global, count: u16) -> Result<Vec<u16>, AllocError> {
+    let mut places = Vec::new(alloc);
     for place in 0..count {
-        set.insert(Tuple::single(Atom { top: 0, place }))?;
+        places.push(place)?;
     }
-    Ok(set)
+    Ok(places)
 }
 
 // The number of terms of a formula over one set, which may have so many atoms.
-fn terms_of(
-    rt: &impl Abort,
-    alloc: Global,
-    count: u16,
-    formula: Formula,
-) -> Result<Option<u32>, AllocError>
+fn terms_of(alloc: Global, count: u16, formula: Formula) -> Result<Option<u32>, Fail>
     requires { IsProper (1 ∷ []) 0 (formula_tree formula) }
 {
-    let lower = atoms(alloc, 0)?;
-    let upper = atoms(alloc, count)?;
-    assert!(rt; lower.is_subset(&upper));
-    assert!(rt; lower.rows().len() <= upper.rows().len());
-    assert!(rt; upper.len() <= 4096);
-    let name = Name::of(alloc, "A")?;
-    let relations = vec![in alloc; Relation { name, lower, upper }]?;
-    let tops = vec![in alloc; 0]?;
-    let problem = Problem::of(alloc, relations, tops, formula)?;
-    terms(alloc, &problem)
+    let places = places(alloc, count)?;
+    let problem = set_of(alloc, places.as_slice(), formula)?;
+    Ok(terms(alloc, &problem)?)
 }
 
 // The terms of an expression and one for each tuple that it may have, over three atoms.
-fn and_size(rt: &impl Abort, alloc: Global, e: Expression) -> Result<Option<u32>, AllocError>
+fn and_size(alloc: Global, e: Expression) -> Result<Option<u32>, Fail>
     requires { IsWellFormed (1 ∷ []) 0 (expression_tree e) }
 {
-    terms_of(rt, alloc, 3, Formula::AtLeast(0, e))
+    terms_of(alloc, 3, Formula::AtLeast(0, e))
 }
 
 #[test]
 fn leaves(rt: HostRuntime) -> Result<(), Fail> {
-    let alloc = rt.alloc();
-    assert_eq!(rt; and_size(&rt, alloc, Expression::Rel(0))?, Some(3 + 3));
-    assert_eq!(rt; and_size(&rt, alloc, Expression::None)?, Some(0));
-    assert_eq!(rt; and_size(&rt, alloc, Expression::Univ)?, Some(3 + 3));
-    assert_eq!(rt; and_size(&rt, alloc, Expression::Iden)?, Some(3 + 3));
+    assert_eq!(rt; and_size(rt.alloc(), Expression::Rel(0))?, Some(3 + 3));
+    assert_eq!(rt; and_size(rt.alloc(), Expression::None)?, Some(0));
+    assert_eq!(rt; and_size(rt.alloc(), Expression::Univ)?, Some(3 + 3));
+    assert_eq!(rt; and_size(rt.alloc(), Expression::Iden)?, Some(3 + 3));
     Ok(())
 }
 
 #[test]
-fn operators_on_sets(rt: HostRuntime) -> Result<(), Fail> {
-    let alloc = rt.alloc();
-    let (a, b) = two(alloc, Expression::Rel(0), Expression::None)?;
+fn a_union(rt: HostRuntime) -> Result<(), Fail> {
+    let (a, b) = two(rt.alloc(), Expression::Rel(0), Expression::None)?;
     assert_eq!(rt;
-        and_size(&rt, alloc, Expression::Union(a, b))?,
+        and_size(rt.alloc(), Expression::Binary(Operator::Union, a, b))?,
         Some(3 + 3 + 3)
     );
-    let (a, b) = two(alloc, Expression::Rel(0), Expression::Univ)?;
+    Ok(())
+}
+
+#[test]
+fn a_difference(rt: HostRuntime) -> Result<(), Fail> {
+    let (a, b) = two(rt.alloc(), Expression::Rel(0), Expression::Univ)?;
     assert_eq!(rt;
-        and_size(&rt, alloc, Expression::Minus(a, b))?,
+        and_size(rt.alloc(), Expression::Binary(Operator::Minus, a, b))?,
         Some(6 + 6 + 3)
     );
-    let (a, b) = two(alloc, Expression::Rel(0), Expression::None)?;
-    assert_eq!(rt; and_size(&rt, alloc, Expression::Meet(a, b))?, Some(3 + 3));
-    let (a, b) = two(alloc, Expression::Rel(0), Expression::Univ)?;
+    Ok(())
+}
+
+#[test]
+fn an_intersection(rt: HostRuntime) -> Result<(), Fail> {
+    let (a, b) = two(rt.alloc(), Expression::Rel(0), Expression::None)?;
     assert_eq!(rt;
-        and_size(&rt, alloc, Expression::Product(a, b))?,
+        and_size(rt.alloc(), Expression::Binary(Operator::Meet, a, b))?,
+        Some(3 + 3)
+    );
+    Ok(())
+}
+
+#[test]
+fn a_product(rt: HostRuntime) -> Result<(), Fail> {
+    let (a, b) = two(rt.alloc(), Expression::Rel(0), Expression::Univ)?;
+    assert_eq!(rt;
+        and_size(rt.alloc(), Expression::Binary(Operator::Product, a, b))?,
         Some(6 + 9 + 9)
     );
     Ok(())
 }
 
 #[test]
-fn operators_on_pairs(rt: HostRuntime) -> Result<(), Fail> {
-    let alloc = rt.alloc();
-    let (a, b) = two(alloc, Expression::Rel(0), Expression::Iden)?;
+fn a_join(rt: HostRuntime) -> Result<(), Fail> {
+    let (a, b) = two(rt.alloc(), Expression::Rel(0), Expression::Iden)?;
     assert_eq!(rt;
-        and_size(&rt, alloc, Expression::Join(a, b))?,
+        and_size(rt.alloc(), Expression::Binary(Operator::Join, a, b))?,
         Some(6 + 3 + 3)
     );
-    let (a, b) = two(alloc, Expression::Iden, Expression::Iden)?;
+    Ok(())
+}
+
+#[test]
+fn turned_pairs(rt: HostRuntime) -> Result<(), Fail> {
+    let pairs = Box::new(rt.alloc(), Expression::Iden)?;
     assert_eq!(rt;
-        and_size(&rt, alloc, Expression::Transpose(a))?,
+        and_size(
+            rt.alloc(),
+            Expression::Unary(UnaryOperator::Transpose, pairs)
+        )?,
         Some(3 + 3 + 3)
     );
+    Ok(())
+}
+
+#[test]
+fn chained_pairs(rt: HostRuntime) -> Result<(), Fail> {
+    let pairs = Box::new(rt.alloc(), Expression::Iden)?;
     assert_eq!(rt;
-        and_size(&rt, alloc, Expression::Closure(b))?,
+        and_size(rt.alloc(), Expression::Unary(UnaryOperator::Closure, pairs))?,
         Some(3 + 6 * 3 + 3)
     );
-    let (a, b) = two(alloc, Expression::Iden, Expression::Iden)?;
+    Ok(())
+}
+
+#[test]
+fn an_override(rt: HostRuntime) -> Result<(), Fail> {
+    let (a, b) = two(rt.alloc(), Expression::Iden, Expression::Iden)?;
     assert_eq!(rt;
-        and_size(&rt, alloc, Expression::Override(a, b))?,
+        and_size(rt.alloc(), Expression::Binary(Operator::Override, a, b))?,
         Some(6 + 3 + 2 * 3 + 3)
     );
-    let (a, b) = two(alloc, Expression::None, Expression::Iden)?;
-    assert_eq!(rt; and_size(&rt, alloc, Expression::Dom(a, b))?, Some(3 + 3));
-    let (a, b) = two(alloc, Expression::Iden, Expression::Rel(0))?;
+    Ok(())
+}
+
+#[test]
+fn a_restricted_domain(rt: HostRuntime) -> Result<(), Fail> {
+    let (a, b) = two(rt.alloc(), Expression::None, Expression::Iden)?;
     assert_eq!(rt;
-        and_size(&rt, alloc, Expression::Ran(a, b))?,
+        and_size(rt.alloc(), Expression::Binary(Operator::Dom, a, b))?,
+        Some(3 + 3)
+    );
+    Ok(())
+}
+
+#[test]
+fn a_restricted_range(rt: HostRuntime) -> Result<(), Fail> {
+    let (a, b) = two(rt.alloc(), Expression::Iden, Expression::Rel(0))?;
+    assert_eq!(rt;
+        and_size(rt.alloc(), Expression::Binary(Operator::Ran, a, b))?,
         Some(6 + 3 + 3)
     );
     Ok(())
@@ -122,12 +153,17 @@ fn pairs(alloc: Global) -> Result<Expression, AllocError>
     ensures { IfOk result (λ e. expression_tree e ≡ product (rel 0) univ) }
 {
     let (a, b) = two(alloc, Expression::Rel(0), Expression::Univ)?;
-    Ok(Expression::Product(a, b))
+    Ok(Expression::Binary(Operator::Product, a, b))
+}
+
+// The terms of the closure of all pairs of so many atoms, and one for each pair that it may have.
+fn closure_and_size(alloc: Global, count: u16) -> Result<Option<u32>, Fail> {
+    let closure = Expression::Unary(UnaryOperator::Closure, Box::new(alloc, pairs(alloc)?)?);
+    terms_of(alloc, count, Formula::AtLeast(0, closure))
 }
 
 #[test]
 fn closures(rt: HostRuntime) -> Result<(), Fail> {
-    let alloc = rt.alloc();
     for (count, number) in [
         (0, Some(0)),
         (1, Some(2 + 1 + 6 + 1)),
@@ -137,30 +173,56 @@ fn closures(rt: HostRuntime) -> Result<(), Fail> {
         (36, None),
         (64, None),
     ] {
-        let closure = Expression::Closure(Box::new(alloc, pairs(alloc)?)?);
-        assert_eq!(rt;
-            terms_of(&rt, alloc, count, Formula::AtLeast(0, closure))?,
-            number
-        );
+        assert_eq!(rt; closure_and_size(rt.alloc(), count)?, number);
     }
     Ok(())
 }
 
+// The terms of all triples of so many atoms, and one for each of them.
+fn triples_and_size(alloc: Global, count: u16) -> Result<Option<u32>, Fail> {
+    let (a, b) = two(alloc, pairs(alloc)?, Expression::Rel(0))?;
+    terms_of(
+        alloc,
+        count,
+        Formula::AtLeast(0, Expression::Binary(Operator::Product, a, b)),
+    )
+}
+
 #[test]
 fn products_above_the_limit(rt: HostRuntime) -> Result<(), Fail> {
-    let alloc = rt.alloc();
     for (count, number) in [
         (50, Some(100 + 2500 + 50 + 2 * 125_000)),
         (51, None),
         (64, None),
     ] {
-        let (a, b) = two(alloc, pairs(alloc)?, Expression::Rel(0))?;
-        let triples = Expression::Product(a, b);
-        assert_eq!(rt;
-            terms_of(&rt, alloc, count, Formula::AtLeast(0, triples))?,
-            number
-        );
+        assert_eq!(rt; triples_and_size(rt.alloc(), count)?, number);
     }
+    Ok(())
+}
+
+#[test]
+fn inclusions_and_equalities(rt: HostRuntime) -> Result<(), Fail> {
+    let within = Formula::Compared(Comparison::In, Expression::Rel(0), Expression::Univ);
+    assert_eq!(rt; terms_of(rt.alloc(), 3, within)?, Some(6 + 3));
+    let equal = Formula::Compared(Comparison::Equal, Expression::Rel(0), Expression::None);
+    assert_eq!(rt; terms_of(rt.alloc(), 3, equal)?, Some(3 + 3));
+    Ok(())
+}
+
+#[test]
+fn least_numbers_of_tuples(rt: HostRuntime) -> Result<(), Fail> {
+    let some = Formula::AtLeast(2, Expression::Rel(0));
+    assert_eq!(rt; terms_of(rt.alloc(), 3, some)?, Some(3 + 3 * 3));
+    Ok(())
+}
+
+#[test]
+fn a_negation(rt: HostRuntime) -> Result<(), Fail> {
+    let some = Box::new(rt.alloc(), Formula::AtLeast(1, Expression::Rel(0)))?;
+    assert_eq!(rt;
+        terms_of(rt.alloc(), 3, Formula::Not(some))?,
+        Some(1 + 3 + 3 * 2)
+    );
     Ok(())
 }
 
@@ -168,40 +230,65 @@ fn products_above_the_limit(rt: HostRuntime) -> Result<(), Fail> {
 fn inner_within(alloc: Global) -> Result<Box<Formula>, AllocError>
     ensures { IfOk result (λ f. formula_tree f.value ≡ within (var 0) (rel 0)) }
 {
-    Ok(Box::new(alloc, Formula::In(Expression::Var(0), Expression::Rel(0)))?)
+    Ok(Box::new(
+        alloc,
+        Formula::Compared(Comparison::In, Expression::Var(0), Expression::Rel(0)),
+    )?)
 }
 
 #[test]
-fn formulas(rt: HostRuntime) -> Result<(), Fail> {
-    let alloc = rt.alloc();
-    let within = Formula::In(Expression::Rel(0), Expression::Univ);
-    assert_eq!(rt; terms_of(&rt, alloc, 3, within)?, Some(6 + 3));
-    let equal = Formula::Equal(Expression::Rel(0), Expression::None);
-    assert_eq!(rt; terms_of(&rt, alloc, 3, equal)?, Some(3 + 3));
-    let some = Formula::AtLeast(2, Expression::Rel(0));
-    assert_eq!(rt; terms_of(&rt, alloc, 3, some)?, Some(3 + 3 * 3));
-    let some = Box::new(alloc, Formula::AtLeast(1, Expression::Rel(0)))?;
-    assert_eq!(rt;
-        terms_of(&rt, alloc, 3, Formula::Not(some))?,
-        Some(1 + 3 + 3 * 2)
+fn a_universal_quantifier(rt: HostRuntime) -> Result<(), Fail> {
+    let all = Formula::Quantified(
+        Quantifier::All,
+        Expression::Rel(0),
+        inner_within(rt.alloc())?,
     );
-    let all = Formula::All(Expression::Rel(0), inner_within(alloc)?);
     assert_eq!(rt;
-        terms_of(&rt, alloc, 3, all)?,
+        terms_of(rt.alloc(), 3, all)?,
         Some(3 + 3 * (1 + 1 + 3 + 1))
     );
-    let some = Formula::Exists(Expression::Univ, inner_within(alloc)?);
+    Ok(())
+}
+
+#[test]
+fn a_universal_quantifier_over_nothing(rt: HostRuntime) -> Result<(), Fail> {
+    let all = Formula::Quantified(Quantifier::All, Expression::None, inner_within(rt.alloc())?);
+    assert_eq!(rt; terms_of(rt.alloc(), 3, all)?, Some(0));
+    Ok(())
+}
+
+#[test]
+fn an_existential_quantifier(rt: HostRuntime) -> Result<(), Fail> {
+    let some = Formula::Quantified(
+        Quantifier::Exists,
+        Expression::Univ,
+        inner_within(rt.alloc())?,
+    );
     assert_eq!(rt;
-        terms_of(&rt, alloc, 2, some)?,
+        terms_of(rt.alloc(), 2, some)?,
         Some(2 + 2 * (1 + 1 + 2 + 1))
     );
-    let lone = Formula::Lone(Expression::Rel(0), inner_within(alloc)?);
+    Ok(())
+}
+
+#[test]
+fn at_most_one(rt: HostRuntime) -> Result<(), Fail> {
+    let lone = Formula::Quantified(
+        Quantifier::Lone,
+        Expression::Rel(0),
+        inner_within(rt.alloc())?,
+    );
     assert_eq!(rt;
-        terms_of(&rt, alloc, 3, lone)?,
+        terms_of(rt.alloc(), 3, lone)?,
         Some(3 + 3 * (2 + 1 + 3 + 1))
     );
-    let none = Formula::All(Expression::None, inner_within(alloc)?);
-    assert_eq!(rt; terms_of(&rt, alloc, 3, none)?, Some(0));
+    Ok(())
+}
+
+#[test]
+fn a_list_without_formulas(rt: HostRuntime) -> Result<(), Fail> {
+    let empty = Formula::all_of(no_formulas(rt.alloc()));
+    assert_eq!(rt; terms_of(rt.alloc(), 3, empty)?, Some(1));
     Ok(())
 }
 
@@ -209,26 +296,27 @@ fn formulas(rt: HostRuntime) -> Result<(), Fail> {
 fn two_formulas(alloc: Global) -> Result<Vec<Formula>, AllocError>
     ensures { IfOk result (λ fs. All (λ f. IsProper (1 ∷ []) 0 (formula_tree f)) fs.items) }
 {
-    let none = Formula::In(Expression::None, Expression::Rel(0));
+    let none = Formula::Compared(Comparison::In, Expression::None, Expression::Rel(0));
     let some = Formula::AtLeast(0, Expression::Univ);
     Ok(vec![in alloc; none, some]?)
 }
 
 #[test]
-fn lists_of_formulas(rt: HostRuntime) -> Result<(), Fail> {
-    let alloc = rt.alloc();
-    let empty = Formula::all_of(no_formulas(alloc));
-    assert_eq!(rt; terms_of(&rt, alloc, 3, empty)?, Some(1));
-    let both = Formula::all_of(two_formulas(alloc)?);
-    assert_eq!(rt; terms_of(&rt, alloc, 3, both)?, Some(1 + 3 + 6));
-    let some = Formula::any_of(two_formulas(alloc)?);
-    assert_eq!(rt; terms_of(&rt, alloc, 3, some)?, Some(1 + 3 + 6));
+fn all_of_two_formulas(rt: HostRuntime) -> Result<(), Fail> {
+    let both = Formula::all_of(two_formulas(rt.alloc())?);
+    assert_eq!(rt; terms_of(rt.alloc(), 3, both)?, Some(1 + 3 + 6));
+    Ok(())
+}
+
+#[test]
+fn any_of_two_formulas(rt: HostRuntime) -> Result<(), Fail> {
+    let some = Formula::any_of(two_formulas(rt.alloc())?);
+    assert_eq!(rt; terms_of(rt.alloc(), 3, some)?, Some(1 + 3 + 6));
     Ok(())
 }
 
 #[test]
 fn at_the_limit_and_above(rt: HostRuntime) -> Result<(), Fail> {
-    let alloc = rt.alloc();
     for (least, number) in [
         (262_141, Some(262_143)),
         (262_142, Some(MOST_TERMS)),
@@ -236,7 +324,7 @@ fn at_the_limit_and_above(rt: HostRuntime) -> Result<(), Fail> {
         (4_294_967_295, None),
     ] {
         let least = Formula::AtLeast(least, Expression::Rel(0));
-        assert_eq!(rt; terms_of(&rt, alloc, 1, least)?, number);
+        assert_eq!(rt; terms_of(rt.alloc(), 1, least)?, number);
     }
     Ok(())
 }
@@ -248,22 +336,32 @@ fn nested(alloc: Global, depth: u32) -> Result<Formula, AllocError>
     let mut formula = Formula::AtLeast(0, Expression::None);
     for _ in 0..depth {
         let inner = Box::new(alloc, formula)?;
-        formula = Formula::All(Expression::Rel(0), inner);
+        formula = Formula::Quantified(Quantifier::All, Expression::Rel(0), inner);
     }
     Ok(formula)
 }
 
+// The terms of so many such quantifiers over so many atoms.
+fn nested_terms(alloc: Global, count: u16, depth: u32) -> Result<Option<u32>, Fail> {
+    terms_of(alloc, count, nested(alloc, depth)?)
+}
+
 #[test]
 fn nested_quantifiers(rt: HostRuntime) -> Result<(), Fail> {
-    let alloc = rt.alloc();
-    assert_eq!(rt;
-        terms_of(&rt, alloc, 2, nested(alloc, 3)?)?,
-        Some(2 + 2 * (1 + 2 + 2 * (1 + 2 + 2)))
-    );
-    assert_eq!(rt; terms_of(&rt, alloc, 64, nested(alloc, 60)?)?, None);
-    assert_eq!(rt; terms_of(&rt, alloc, 0, nested(alloc, 60)?)?, Some(0));
-    let inner = Box::new(alloc, nested(alloc, 60)?)?;
-    let none = Formula::All(Expression::None, inner);
-    assert_eq!(rt; terms_of(&rt, alloc, 64, none)?, Some(0));
+    for (count, depth, number) in [
+        (2, 3, Some(2 + 2 * (1 + 2 + 2 * (1 + 2 + 2)))),
+        (64, 60, None),
+        (0, 60, Some(0)),
+    ] {
+        assert_eq!(rt; nested_terms(rt.alloc(), count, depth)?, number);
+    }
+    Ok(())
+}
+
+#[test]
+fn nested_quantifiers_over_nothing(rt: HostRuntime) -> Result<(), Fail> {
+    let inner = Box::new(rt.alloc(), nested(rt.alloc(), 60)?)?;
+    let none = Formula::Quantified(Quantifier::All, Expression::None, inner);
+    assert_eq!(rt; terms_of(rt.alloc(), 64, none)?, Some(0));
     Ok(())
 }

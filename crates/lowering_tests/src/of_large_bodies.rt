@@ -2,7 +2,7 @@
 use alloy_lex::{Place, Text};
 use alloy_syntax::tree::Operator;
 use body_lowering::Room;
-use body_lowering::bodies::{block, expression};
+use body_lowering::bodies::{block, expression, predicate};
 use named_model::Named;
 use named_model::named::{Callee, Meaning, Signature};
 use named_model::phrase::{Domain, Link, Phrase, Referent};
@@ -168,6 +168,37 @@ fn long_chains_are_bounded(rt: HostRuntime) -> Result<(), Fail> {
         (Operator::Iff, 100, false),
     ] {
         assert_eq!(rt; is_chained(rt.alloc(), operator, count)?, expected);
+    }
+    Ok(())
+}
+
+// A predicate of so many parameters, which says nothing.
+fn predicate_of(alloc: Global, count: usize) -> Result<Callee, AllocError> {
+    let mut parameters = Vec::new(alloc);
+    parameters.push(Domain {
+        disjoint: false,
+        count,
+        mark: None,
+        domain: FIRST,
+    })?;
+    Ok(Callee {
+        place: PLACE,
+        parameters,
+        meaning: Meaning::Formulas(Vec::new(alloc)),
+    })
+}
+
+// Whether a predicate of so many parameters is lowered where it is run.
+fn is_run(alloc: Global, count: usize) -> Result<bool, AllocError> {
+    let model = model_with(alloc, Vec::new(alloc))?;
+    let callee = predicate_of(alloc, count)?;
+    Ok(predicate(alloc, &model, &mut Room::new(), &callee).is_ok())
+}
+
+#[test]
+fn parameters_are_levels(rt: HostRuntime) -> Result<(), Fail> {
+    for (count, expected) in [(1, true), (2_000, true), (2_049, false), (14_000, false)] {
+        assert_eq!(rt; is_run(rt.alloc(), count)?, expected);
     }
     Ok(())
 }

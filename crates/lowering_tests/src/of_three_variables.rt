@@ -1,7 +1,7 @@
 // What is said of three variables.
 use alloy_syntax::tree::Quantifier;
 use body_lowering::kernel_parts::binders::{add_differences, add_domains, quantified};
-use rel_formula::{Expression, Formula};
+use rel_formula::{Connective, Expression, Formula, Quantifier as Binder};
 use std::alloc::{AllocError, Global};
 use std::test::Fail;
 
@@ -12,15 +12,18 @@ fn some() -> Formula {
 // The kind of a formula.
 fn kind(formula: &Formula) -> &'static str {
     match formula {
-        Formula::In(..) => "in",
-        Formula::Equal(..) => "equal",
-        Formula::AtLeast(..) => "at least",
+        Formula::Quantified(binder, ..) => word(*binder),
+        Formula::Junction(Connective::And, _) => "and",
         Formula::Not(_) => "not",
-        Formula::And(_) => "and",
-        Formula::Or(_) => "or",
-        Formula::All(..) => "all",
-        Formula::Exists(..) => "some",
-        Formula::Lone(..) => "lone",
+        _ => "another kind",
+    }
+}
+
+fn word(binder: Binder) -> &'static str {
+    match binder {
+        Binder::All => "all",
+        Binder::Exists => "some",
+        Binder::Lone => "lone",
     }
 }
 

@@ -3,7 +3,7 @@ use outside_io::{
     Failed, MemSink, MemSource, ReadFault, Sink, Source, StdSink, StdSource, finish, read_all,
     write_all,
 };
-use std::io::{self, ErrorKind, Write};
+use std::io::{self, ErrorKind, Read, Write};
 use std::test::Fail;
 
 #[test]
@@ -119,4 +119,53 @@ fn a_writer_that_can_t_be_flushed_is_at_fault(rt: HostRuntime) {
     assert!(rt; sink.write(b"ab").is_err());
     assert!(rt; write_all(&mut sink, b"ab").is_err());
     assert!(rt; sink.write(b"").is_ok());
+}
+
+// A reader and a writer that signals interrupt so many times before each call comes through.
+#[derive(Drop)]
+struct Interrupted {
+    times: u32,
+}
+
+impl Interrupted {
+    fn pass(&mut self) -> io::Result<()> {
+        if self.times > 0 {
+            self.times -= 1;
+            return Err(ErrorKind::Interrupted.into());
+        }
+        Ok(())
+    }
+}
+
+impl Read for Interrupted {
+    fn read(&mut self, _: &mut [u8]) -> io::Result<usize> {
+        self.pass()?;
+        Ok(0)
+    }
+}
+
+impl Write for Interrupted {
+    fn write(&mut self, piece: &[u8]) -> io::Result<usize> {
+        self.pass()?;
+        Ok(piece.len())
+    }
+
+    fn flush(&mut self) -> io::Result<()> {
+        self.pass()
+    }
+}
+
+#[test]
+fn an_interrupted_call_is_tried_again(rt: HostRuntime) {
+    for (times, read, written) in [
+        (0, Ok(0), Ok(2)),
+        (1, Ok(0), Ok(2)),
+        (999, Ok(0), Ok(2)),
+        (1000, Err(Failed), Err(Failed)),
+    ] {
+        let mut source = StdSource::new(Interrupted { times });
+        assert_eq!(rt; source.read(&mut [0; 4]), read);
+        let mut sink = StdSink::new(Interrupted { times });
+        assert_eq!(rt; sink.write(b"ab"), written);
+    }
 }

@@ -40,6 +40,33 @@ fn checks_proofs(rt: HostRuntime) -> Result<(), Fail> {
 }
 
 #[test]
+fn checks_proofs_over_few_large_variables(rt: HostRuntime) -> Result<(), Fail> {
+    let alloc = rt.alloc();
+    let one = "c 2147483647 0\n";
+    checks(&rt, alloc, one, 1, "no empty clause\n")?;
+    let both = "c 2147483647 0\nc -2147483647 0\ns 0 1 2 0\n";
+    checks(&rt, alloc, both, 0, "accepted\n")?;
+    let chain = "c -7 2147483647 0\nc -2147483647 9 0\ns -7 9 0 1 2 0\ns 0 3 0\n";
+    checks(&rt, alloc, chain, 1, "refused step 2 hint 1\n")?;
+    let square = "c 7 2147483647 0\nc 7 -2147483647 0\nc -7 2147483647 0\nc -7 -2147483647 0\n";
+    let text = format!(in alloc; "{square}s 7 0 1 2 0\ns 0 5 3 4 0\n")?;
+    checks(&rt, alloc, &text, 0, "accepted\n")?;
+    let text = format!(in alloc; "{square}s 7 0 1 3 0\ns 0 5 3 4 0\n")?;
+    checks(&rt, alloc, &text, 1, "refused step 1 hint 2\n")
+}
+
+#[test]
+fn checks_a_million_clauses_of_one_literal(rt: HostRuntime) -> Result<(), Fail> {
+    let alloc = rt.alloc();
+    let mut text = String::new(alloc);
+    for _ in 0..1_000_000 {
+        text.push_str("c 1 0\n")?;
+    }
+    text.push_str("c -1 0\ns 0 1000000 1000001 0\n")?;
+    checks(&rt, alloc, &text, 0, "accepted\n")
+}
+
+#[test]
 fn tells_faults_of_proof_texts(rt: HostRuntime) -> Result<(), Fail> {
     let alloc = rt.alloc();
     let tautology = "fault proof line 1 tautology\n";

@@ -1,10 +1,15 @@
-//! Tests of `script_format`, `session_rules` and `session_words`, in a crate of their own: so these aren't proved a
-//! second time for their tests.
+//! Tests of the words and rules of sessions: the format of scripts, transcripts and their replies, and texts of proofs.
 #![tactic(auto)]
 
+#[cfg(test)]
+mod numbers_of_replies;
+#[cfg(test)]
+mod of_proof_command;
 #[cfg(test)]
 mod of_script_format;
 #[cfg(test)]
 mod of_session_rules;
 #[cfg(test)]
 mod of_session_words;
+#[cfg(test)]
+mod told_commands;

@@ -1,6 +1,8 @@
 // Copies of what sessions answer, read back as numbers.
 ghost use Rattle.std.specs.Prelude.{◌≡◌, ◌<◌, IfOk, length};
 
+use crate::numbers_of_replies::{numbers_of, push_reply, push_scenarios};
+use crate::told_commands::told_commands;
 use cnf_core::{Clause, Lit};
 use refutation_check::{Hints, Log, Part};
 use rel_formula::Scenario;
@@ -9,14 +11,20 @@ use session_rules::{
     SessionScript, Step, Transcript, WorkDone,
 };
 use std::alloc::{AllocError, Global};
+use std::process::Abort;
 use std::test::Fail;
 use tuple_core::Name;
+
+fn insert(scenario: &mut Scenario, number: u32) -> Result<(), AllocError> {
+    scenario.insert(number)?;
+    Ok(())
+}
 
 // The scenario of two cells.
 fn scenario(alloc: Global, first: u32, second: u32) -> Result<Scenario, AllocError> {
     let mut scenario = Scenario::new(alloc);
-    scenario.insert(first)?;
-    scenario.insert(second)?;
+    insert(&mut scenario, first)?;
+    insert(&mut scenario, second)?;
     Ok(scenario)
 }
 
@@ -24,10 +32,9 @@ fn scenario(alloc: Global, first: u32, second: u32) -> Result<Scenario, AllocErr
 fn scenarios(alloc: Global) -> Result<Scenarios, AllocError>
     ensures { IfOk result (λ s. length s ≡ 2) }
 {
-    let mut list = Vec::new(alloc);
-    list.push(scenario(alloc, 2, 0)?)?;
-    list.push(scenario(alloc, 1, 3)?)?;
-    Ok(Scenarios::of(list))
+    let first = scenario(alloc, 2, 0)?;
+    let second = scenario(alloc, 1, 3)?;
+    Ok(Scenarios::of(vec![in alloc; first, second]?))
 }
 
 // The clause of one variable.
@@ -35,28 +42,35 @@ fn unit(alloc: Global, var: u32) -> Result<Clause, Fail>
     requires positive { 0 < var }
     requires small { var < 100 }
 {
-    let lits = vec![in alloc;
-        Lit {
-            var,
-            positive: true
-        },
-    ]?;
-    match Clause::of(alloc, lits.as_slice())? {
+    let lit = Lit {
+        var,
+        positive: true,
+    };
+    match Clause::of(alloc, &[lit])? {
         Some(clause) => Ok(clause),
         None => Err("a tautology")?,
     }
 }
 
-// A log of one step, from the members of these numbers.
+fn step(
+    alloc: Global,
+    clause: Clause,
+    hints: &[u32],
+) -> Result<refutation_check::Step, AllocError> {
+    let hints = Hints::of(Vec::from_slice(alloc, hints)?);
+    Ok(refutation_check::Step { clause, hints })
+}
+
+// A log of one step, of a variable and with these members.
 fn log(alloc: Global, var: u32, first: u32, second: u32) -> Result<Log, Fail>
     requires positive { 0 < var }
     requires small { var < 100 }
     ensures { IfOk result (λ log. length log ≡ 1) }
 {
     let clause = unit(alloc, var)?;
-    let hints = Hints::of(vec![in alloc; first, second]?);
+    let step = step(alloc, clause, &[first, second])?;
     let mut log = Log::new(alloc);
-    log.push(refutation_check::Step { clause, hints })?;
+    log.push(step)?;
     Ok(log)
 }
 
@@ -70,13 +84,16 @@ fn proof(alloc: Global) -> Result<EndProof, Fail> {
 
 // A part with one local clause.
 fn part(alloc: Global) -> Result<Part, Fail> {
-    let mut local = Vec::new(alloc);
-    local.push(unit(alloc, 4)?)?;
-    Ok(Part::of(local, log(alloc, 3, 2, 1)?))
+    let log = log(alloc, 3, 2, 1)?;
+    Ok(Part::of(vec![in alloc; unit(alloc, 4)?]?, log))
+}
+
+fn parts(alloc: Global) -> Result<Parts, Fail> {
+    Ok(Parts::of(vec![in alloc; part(alloc)?]?))
 }
 
 fn work(alloc: Global) -> Result<WorkDone, Fail> {
-    let parts = Parts::of(vec![in alloc; part(alloc)?]?);
+    let parts = parts(alloc)?;
     let copies = scenarios(alloc)?;
     Ok(WorkDone {
         budget: 40,
@@ -85,231 +102,199 @@ fn work(alloc: Global) -> Result<WorkDone, Fail> {
     })
 }
 
-// The numbers of each cell, and 90 after each scenario.
-fn read_scenarios(out: &mut Vec<u32>, scenarios: &[Scenario]) -> Result<(), AllocError> {
-    for scenario in scenarios {
-        out.extend_from_slice(scenario.numbers())?;
-        out.push(90)?;
-    }
-    Ok(())
-}
-
-fn read_clause(out: &mut Vec<u32>, clause: &Clause) -> Result<(), AllocError> {
-    for lit in clause.lits() {
-        out.push(lit.var)?;
-    }
-    Ok(())
-}
-
-// The variables and hints of each step, and 91 after it.
-fn read_log(out: &mut Vec<u32>, log: &Log) -> Result<(), AllocError> {
-    for step in log.steps() {
-        read_clause(out, &step.clause)?;
-        out.extend_from_slice(step.hints.numbers())?;
-        out.push(91)?;
-    }
-    Ok(())
-}
-
-fn read_proof(out: &mut Vec<u32>, proof: &EndProof) -> Result<(), AllocError> {
-    out.push(proof.imported())?;
-    read_scenarios(out, proof.blocked())?;
-    read_log(out, proof.pool())?;
-    read_log(out, proof.log())?;
-    Ok(())
-}
-
-fn read_part(out: &mut Vec<u32>, part: &Part) -> Result<(), AllocError> {
-    for clause in part.local() {
-        read_clause(out, clause)?;
-    }
-    read_log(out, part.log())?;
-    Ok(())
-}
-
-fn read_work(out: &mut Vec<u32>, work: &WorkDone) -> Result<(), AllocError> {
-    out.push(work.budget)?;
-    for part in work.parts.parts() {
-        read_part(out, part)?;
-    }
-    read_scenarios(out, work.copies.scenarios())?;
-    Ok(())
-}
-
-// The place of the refusal in its list, and what it holds.
-fn read_refusal(out: &mut Vec<u32>, refusal: &Refusal) -> Result<(), AllocError> {
-    match refusal {
-        Refusal::NoScenario => Ok(out.push(1)?),
-        Refusal::UnknownTuple => Ok(out.push(2)?),
-        Refusal::Present => Ok(out.push(3)?),
-        Refusal::NoInstance(proof) => {
-            out.push(4)?;
-            Ok(read_proof(out, proof)?)
-        }
-        Refusal::Bottom => Ok(out.push(5)?),
-        Refusal::Deep => Ok(out.push(6)?),
-        Refusal::Spent(work) => {
-            out.push(7)?;
-            Ok(read_work(out, work)?)
-        }
-        Refusal::NoEnd => Ok(out.push(8)?),
-    }
-}
-
-// The place of the reply in its list, and what it holds.
-fn read_reply(out: &mut Vec<u32>, reply: &Reply) -> Result<(), AllocError> {
-    match reply {
-        Reply::Shown { number, scenario } => {
-            out.extend_from_slice(&[1, *number])?;
-            Ok(out.extend_from_slice(scenario.numbers())?)
-        }
-        Reply::End { number, proof } => {
-            out.extend_from_slice(&[2, *number])?;
-            Ok(read_proof(out, proof)?)
-        }
-        Reply::Offers { cells } => {
-            out.push(3)?;
-            Ok(out.extend_from_slice(cells.numbers())?)
-        }
-        Reply::Augmented { floor } => {
-            out.push(4)?;
-            Ok(out.extend_from_slice(floor.numbers())?)
-        }
-        Reply::Back => Ok(out.push(5)?),
-        Reply::BudgetSet(budget) => Ok(out.extend_from_slice(&[6, *budget])?),
-        Reply::All { scenarios } => {
-            out.push(7)?;
-            Ok(read_scenarios(out, scenarios.scenarios())?)
-        }
-        Reply::Partly { first, scenarios } => {
-            out.extend_from_slice(&[8, *first])?;
-            Ok(read_scenarios(out, scenarios.scenarios())?)
-        }
-        Reply::Proof { proof } => {
-            out.push(9)?;
-            Ok(read_proof(out, proof)?)
-        }
-        Reply::Refused(refusal) => {
-            out.push(10)?;
-            Ok(read_refusal(out, refusal)?)
-        }
-        Reply::Memory => Ok(out.push(11)?),
-    }
+// A copy of the reply as numbers.
+fn numbers_of_copy(alloc: Global, reply: &Reply) -> Result<Vec<u32>, AllocError> {
+    numbers_of(alloc, &reply.copy(alloc)?)
 }
 
 // Whether a copy of the reply reads as these numbers.
-fn copy_reads(alloc: Global, reply: Reply, want: &[u32]) -> Result<bool, AllocError> {
-    let mut out = Vec::new(alloc);
-    read_reply(&mut out, &reply.copy(alloc)?)?;
-    Ok(out.as_slice() == want)
+fn copies(
+    rt: &impl Abort,
+    alloc: Global,
+    reply: Result<Reply, Fail>,
+    want: &[u32],
+) -> Result<(), Fail> {
+    let found = numbers_of_copy(alloc, &reply?)?;
+    assert!(rt; found.as_slice() == want);
+    Ok(())
+}
+
+fn shown(alloc: Global) -> Result<Reply, Fail> {
+    let scenario = scenario(alloc, 4, 1)?;
+    Ok(Reply::Shown {
+        number: 3,
+        scenario,
+    })
+}
+
+fn end(alloc: Global) -> Result<Reply, Fail> {
+    let proof = proof(alloc)?;
+    Ok(Reply::End { number: 2, proof })
+}
+
+fn offers(alloc: Global) -> Result<Reply, Fail> {
+    let cells = CellNumbers::of(vec![in alloc; 6, 2]?);
+    Ok(Reply::Offers { cells })
+}
+
+fn augmented(alloc: Global) -> Result<Reply, Fail> {
+    let floor = scenario(alloc, 5, 0)?;
+    Ok(Reply::Augmented { floor })
 }
 
 #[test]
 fn copies_of_replies_are_equal(rt: HostRuntime) -> Result<(), Fail> {
     let alloc = rt.alloc();
-    let shown = Reply::Shown {
-        number: 3,
-        scenario: scenario(alloc, 4, 1)?,
-    };
-    assert!(rt; copy_reads(alloc, shown, &[1, 3, 1, 4])?);
-    let end = Reply::End {
-        number: 2,
-        proof: proof(alloc)?,
-    };
     let read = [2, 2, 1, 0, 2, 90, 1, 3, 90, 5, 7, 8, 91, 6, 9, 1, 91];
-    assert!(rt; copy_reads(alloc, end, &read)?);
-    let cells = CellNumbers::of(vec![in alloc; 6, 2]?);
-    assert!(rt; copy_reads(alloc, Reply::Offers { cells }, &[3, 6, 2])?);
-    let floor = scenario(alloc, 5, 0)?;
-    assert!(rt; copy_reads(alloc, Reply::Augmented { floor }, &[4, 0, 5])?);
-    assert!(rt; copy_reads(alloc, Reply::Back, &[5])?);
-    assert!(rt; copy_reads(alloc, Reply::BudgetSet(77), &[6, 77])?);
-    Ok(())
+    copies(&rt, alloc, shown(alloc), &[1, 3, 1, 4])?;
+    copies(&rt, alloc, end(alloc), &read)?;
+    copies(&rt, alloc, offers(alloc), &[3, 6, 2])?;
+    copies(&rt, alloc, augmented(alloc), &[4, 0, 5])
 }
 
 #[test]
-fn copies_of_lists_and_refusals_are_equal(rt: HostRuntime) -> Result<(), Fail> {
-    let alloc = rt.alloc();
-    let all = Reply::All {
-        scenarios: scenarios(alloc)?,
-    };
-    assert!(rt; copy_reads(alloc, all, &[7, 0, 2, 90, 1, 3, 90])?);
-    let partly = Reply::Partly {
+fn copies_of_plain_replies_are_equal(rt: HostRuntime) -> Result<(), Fail> {
+    copies(&rt, rt.alloc(), Ok(Reply::Back), &[5])?;
+    copies(&rt, rt.alloc(), Ok(Reply::BudgetSet(77)), &[6, 77])?;
+    copies(&rt, rt.alloc(), Ok(Reply::Memory), &[11])
+}
+
+fn all(alloc: Global) -> Result<Reply, Fail> {
+    let scenarios = scenarios(alloc)?;
+    Ok(Reply::All { scenarios })
+}
+
+fn partly(alloc: Global) -> Result<Reply, Fail> {
+    let scenarios = scenarios(alloc)?;
+    Ok(Reply::Partly {
         first: 9,
-        scenarios: scenarios(alloc)?,
-    };
-    assert!(rt; copy_reads(alloc, partly, &[8, 9, 0, 2, 90, 1, 3, 90])?);
-    let kept = Reply::Proof {
-        proof: proof(alloc)?,
-    };
+        scenarios,
+    })
+}
+
+fn kept(alloc: Global) -> Result<Reply, Fail> {
+    let proof = proof(alloc)?;
+    Ok(Reply::Proof { proof })
+}
+
+#[test]
+fn copies_of_lists_and_proofs_are_equal(rt: HostRuntime) -> Result<(), Fail> {
+    let alloc = rt.alloc();
     let read = [9, 1, 0, 2, 90, 1, 3, 90, 5, 7, 8, 91, 6, 9, 1, 91];
-    assert!(rt; copy_reads(alloc, kept, &read)?);
-    let spent = Reply::Refused(Refusal::Spent(work(alloc)?));
+    copies(&rt, alloc, all(alloc), &[7, 0, 2, 90, 1, 3, 90])?;
+    copies(&rt, alloc, partly(alloc), &[8, 9, 0, 2, 90, 1, 3, 90])?;
+    copies(&rt, alloc, kept(alloc), &read)
+}
+
+fn spent(alloc: Global) -> Result<Reply, Fail> {
+    Ok(Reply::Refused(Refusal::Spent(work(alloc)?)))
+}
+
+fn no_instance(alloc: Global) -> Result<Reply, Fail> {
+    Ok(Reply::Refused(Refusal::NoInstance(proof(alloc)?)))
+}
+
+#[test]
+fn copies_of_refusals_are_equal(rt: HostRuntime) -> Result<(), Fail> {
+    let alloc = rt.alloc();
     let read = [10, 7, 40, 4, 3, 2, 1, 91, 0, 2, 90, 1, 3, 90];
-    assert!(rt; copy_reads(alloc, spent, &read)?);
-    let none = Reply::Refused(Refusal::NoInstance(proof(alloc)?));
+    copies(&rt, alloc, spent(alloc), &read)?;
     let read = [10, 4, 1, 0, 2, 90, 1, 3, 90, 5, 7, 8, 91, 6, 9, 1, 91];
-    assert!(rt; copy_reads(alloc, none, &read)?);
-    assert!(rt; copy_reads(alloc, Reply::Memory, &[11])?);
-    Ok(())
+    copies(&rt, alloc, no_instance(alloc), &read)
+}
+
+// Whether a copy of the refusal has this place in its list, and holds nothing.
+fn refuses(rt: &impl Abort, alloc: Global, refusal: Refusal, place: u32) -> Result<(), Fail> {
+    copies(rt, alloc, Ok(Reply::Refused(refusal)), &[10, place])
 }
 
 #[test]
 fn copies_of_plain_refusals_are_equal(rt: HostRuntime) -> Result<(), Fail> {
-    let alloc = rt.alloc();
-    let rows = [
-        (Refusal::NoScenario, 1),
-        (Refusal::UnknownTuple, 2),
-        (Refusal::Present, 3),
-        (Refusal::Bottom, 5),
-        (Refusal::Deep, 6),
-        (Refusal::NoEnd, 8),
-    ];
-    for (refusal, place) in rows {
-        assert!(rt; copy_reads(alloc, Reply::Refused(refusal), &[10, place])?);
-    }
-    Ok(())
+    refuses(&rt, rt.alloc(), Refusal::NoScenario, 1)?;
+    refuses(&rt, rt.alloc(), Refusal::UnknownTuple, 2)?;
+    refuses(&rt, rt.alloc(), Refusal::Present, 3)?;
+    refuses(&rt, rt.alloc(), Refusal::Bottom, 5)?;
+    refuses(&rt, rt.alloc(), Refusal::Deep, 6)?;
+    refuses(&rt, rt.alloc(), Refusal::NoEnd, 8)
+}
+
+fn cells_given_back(alloc: Global) -> Result<Vec<u32>, Fail> {
+    Ok(CellNumbers::of(vec![in alloc; 6, 2]?).into_numbers())
+}
+
+fn scenarios_given_back(alloc: Global) -> Result<usize, Fail> {
+    Ok(scenarios(alloc)?.into_scenarios().len())
+}
+
+fn parts_given_back(alloc: Global) -> Result<usize, Fail> {
+    Ok(parts(alloc)?.into_parts().len())
+}
+
+fn replies_given_back(alloc: Global) -> Result<usize, Fail> {
+    Ok(
+        Replies::of(vec![in alloc; Reply::Back]?)
+            .into_replies()
+            .len(),
+    )
 }
 
 #[test]
 fn lists_are_given_back(rt: HostRuntime) -> Result<(), Fail> {
-    let alloc = rt.alloc();
-    let numbers = CellNumbers::of(vec![in alloc; 6, 2]?).into_numbers();
-    assert!(rt; numbers.as_slice() == [6, 2].as_slice());
-    assert_eq!(rt; scenarios(alloc)?.into_scenarios().len(), 2);
-    let parts = Parts::of(vec![in alloc; part(alloc)?]?);
-    assert_eq!(rt; parts.into_parts().len(), 1);
-    let replies = Replies::of(vec![in alloc; Reply::Back]?);
-    assert_eq!(rt; replies.into_replies().len(), 1);
+    assert!(rt; cells_given_back(rt.alloc())?.as_slice() == [6, 2].as_slice());
+    assert_eq!(rt; scenarios_given_back(rt.alloc())?, 2);
+    assert_eq!(rt; parts_given_back(rt.alloc())?, 1);
+    assert_eq!(rt; replies_given_back(rt.alloc())?, 1);
     Ok(())
 }
 
-#[test]
-fn copies_of_scripts_and_transcripts_are_equal(rt: HostRuntime) -> Result<(), Fail> {
-    let alloc = rt.alloc();
-    let script = SessionScript {
-        name: Name::of(alloc, "s1")?,
+fn script(alloc: Global) -> Result<SessionScript, Fail> {
+    let name = Name::of(alloc, "s1")?;
+    let commands = vec![in alloc; Command::Step(Step::Next), Command::All(3)]?;
+    Ok(SessionScript {
+        name,
         key: 4,
         budget: 20_000,
-        commands: Commands::of(vec![in alloc; Command::Step(Step::Next), Command::All(3)]?),
-    };
-    let copy = script.copy(alloc)?;
-    assert_eq!(rt; copy.name.text(), "s1");
-    assert_eq!(rt; (copy.key, copy.budget), (4, 20_000));
-    match copy.commands.commands() {
-        [Command::Step(Step::Next), Command::All(count)] => assert_eq!(rt; *count, 3),
-        _ => assert!(rt; false),
-    }
-    let transcript = Transcript {
-        replies: Replies::of(vec![in alloc; Reply::BudgetSet(5), Reply::Memory]?),
-        floors: scenarios(alloc)?,
-    };
-    let copy = transcript.copy(alloc)?;
+        commands: Commands::of(commands),
+    })
+}
+
+// What a session asks for, in one line.
+fn told_script(alloc: Global, script: &SessionScript) -> Result<String, Fail> {
+    let commands = told_commands(alloc, script.commands.commands())?;
+    let name = script.name.text();
+    Ok(format!(in alloc; "{name} {} {}:{commands}", script.key, script.budget)?)
+}
+
+#[test]
+fn copies_of_scripts_are_equal(rt: HostRuntime) -> Result<(), Fail> {
+    let copy = script(rt.alloc())?.copy(rt.alloc())?;
+    assert_eq!(rt;
+        told_script(rt.alloc(), &copy)?.as_str(),
+        "s1 4 20000: next all 3"
+    );
+    Ok(())
+}
+
+fn transcript(alloc: Global) -> Result<Transcript, Fail> {
+    let replies = Replies::of(vec![in alloc; Reply::BudgetSet(5), Reply::Memory]?);
+    let floors = scenarios(alloc)?;
+    Ok(Transcript { replies, floors })
+}
+
+// The replies and the floors of a transcript.
+fn numbers_of_transcript(alloc: Global, transcript: &Transcript) -> Result<Vec<u32>, AllocError> {
     let mut out = Vec::new(alloc);
-    for reply in copy.replies.replies() {
-        read_reply(&mut out, reply)?;
+    for reply in transcript.replies.replies() {
+        push_reply(&mut out, reply)?;
     }
-    read_scenarios(&mut out, copy.floors.scenarios())?;
-    assert!(rt; out.as_slice() == [6, 5, 11, 0, 2, 90, 1, 3, 90].as_slice());
+    push_scenarios(&mut out, transcript.floors.scenarios())?;
+    Ok(out)
+}
+
+#[test]
+fn copies_of_transcripts_are_equal(rt: HostRuntime) -> Result<(), Fail> {
+    let copy = transcript(rt.alloc())?.copy(rt.alloc())?;
+    let found = numbers_of_transcript(rt.alloc(), &copy)?;
+    assert!(rt; found.as_slice() == [6, 5, 11, 0, 2, 90, 1, 3, 90].as_slice());
     Ok(())
 }

@@ -1,87 +1,103 @@
 // The words of sessions at small values.
+use crate::told_commands::{told_command, told_commands, told_step};
 use session_words::{AtomName, AtomNames, Command, Commands, Step};
 use std::alloc::{AllocError, Global};
 use std::test::Fail;
 use tuple_core::Name;
 
+fn atom(alloc: Global, top: &str, place: u32) -> Result<AtomName, AllocError> {
+    let top = Name::of(alloc, top)?;
+    Ok(AtomName { top, place })
+}
+
 // The tuple `A$3->B_2$70000`.
 fn tuple(alloc: Global) -> Result<AtomNames, AllocError> {
-    let mut names = Vec::new(alloc);
-    for (top, place) in [("A", 3), ("B_2", 70000)] {
-        names.push(AtomName {
-            top: Name::of(alloc, top)?,
-            place,
-        })?;
-    }
+    let names = vec![in alloc; atom(alloc, "A", 3)?, atom(alloc, "B_2", 70000)?]?;
     Ok(AtomNames::of(names))
 }
 
-// How a step looks.
-fn told(alloc: Global, step: &Step) -> Result<String, AllocError> {
-    match step {
-        Step::Next => String::from_str(alloc, "next"),
-        Step::Offers => String::from_str(alloc, "offers"),
-        Step::Augment { relation, tuple } => {
-            let mut text = format!(in alloc; "augment {}", relation.text())?;
-            for name in tuple.names() {
-                let atom = format!(in alloc; " {} {}", name.top.text(), name.place)?;
-                text.push_str(&atom)?;
-            }
-            Ok(text)
-        }
-        Step::Back => String::from_str(alloc, "back"),
-        Step::Budget(budget) => format!(in alloc; "budget {budget}"),
-        Step::Proof => String::from_str(alloc, "proof"),
-    }
+fn augment(alloc: Global) -> Result<Step, AllocError> {
+    let relation = Name::of(alloc, "f")?;
+    let tuple = tuple(alloc)?;
+    Ok(Step::Augment { relation, tuple })
+}
+
+// Whether a copy of a step is told like this.
+fn is_copied(alloc: Global, step: &Step, want: &str) -> Result<bool, Fail> {
+    let copy = step.copy(alloc)?;
+    Ok(told_step(alloc, &copy)?.as_str() == want)
 }
 
 #[test]
-fn copies_are_equal(rt: HostRuntime) -> Result<(), Fail> {
+fn copies_of_steps_are_equal(rt: HostRuntime) -> Result<(), Fail> {
     let alloc = rt.alloc();
-    let rows = [
-        (Step::Next, "next"),
-        (Step::Offers, "offers"),
-        (
-            Step::Augment {
-                relation: Name::of(alloc, "f")?,
-                tuple: tuple(alloc)?,
-            },
-            "augment f A 3 B_2 70000",
-        ),
-        (Step::Back, "back"),
-        (Step::Budget(100_000), "budget 100000"),
-        (Step::Proof, "proof"),
-    ];
-    let mut commands = Commands::of(Vec::new(alloc));
-    commands.push(Command::All(7))?;
-    for (step, want) in rows {
-        assert_eq!(rt; told(alloc, &step.copy(alloc)?)?.as_str(), want);
-        commands.push(Command::Step(step))?;
-    }
-    let copy = commands.copy(alloc)?;
-    let mut all = String::new(alloc);
-    for command in copy.commands() {
-        let line = match command.copy(alloc)? {
-            Command::All(count) => format!(in alloc; "all {count}; ")?,
-            Command::Step(step) => format!(in alloc; "{}; ", told(alloc, &step)?)?,
-        };
-        all.push_str(&line)?;
-    }
-    assert_eq!(rt;
-        all.as_str(),
-        "all 7; next; offers; augment f A 3 B_2 70000; back; budget 100000; proof; "
-    );
-    assert_eq!(rt; copy.into_commands().len(), 7);
+    assert!(rt; is_copied(alloc, &Step::Next, "next")?);
+    assert!(rt; is_copied(alloc, &Step::Offers, "offers")?);
+    assert!(rt; is_copied(alloc, &augment(alloc)?, "augment f A 3 B_2 70000")?);
     Ok(())
 }
 
 #[test]
-fn names_are_given_back(rt: HostRuntime) -> Result<(), Fail> {
+fn copies_of_other_steps_are_equal(rt: HostRuntime) -> Result<(), Fail> {
     let alloc = rt.alloc();
+    assert!(rt; is_copied(alloc, &Step::Back, "back")?);
+    assert!(rt; is_copied(alloc, &Step::Budget(100_000), "budget 100000")?);
+    assert!(rt; is_copied(alloc, &Step::Proof, "proof")?);
+    Ok(())
+}
+
+fn push_step(commands: &mut Commands, step: Step) -> Result<(), Fail> {
+    Ok(commands.push(Command::Step(step))?)
+}
+
+// All seven commands.
+fn commands(alloc: Global) -> Result<Commands, Fail> {
+    let mut commands = Commands::of(vec![in alloc; Command::All(7)]?);
+    push_step(&mut commands, Step::Next)?;
+    push_step(&mut commands, Step::Offers)?;
+    push_step(&mut commands, augment(alloc)?)?;
+    push_step(&mut commands, Step::Back)?;
+    push_step(&mut commands, Step::Budget(100_000))?;
+    push_step(&mut commands, Step::Proof)?;
+    Ok(commands)
+}
+
+// Copies of these commands, each behind a blank.
+fn told_copies(alloc: Global, commands: &[Command]) -> Result<String, Fail> {
+    let mut text = String::new(alloc);
+    for command in commands {
+        push_copy(alloc, &mut text, command)?;
+    }
+    Ok(text)
+}
+
+fn push_copy(alloc: Global, text: &mut String, command: &Command) -> Result<(), Fail> {
+    let copy = command.copy(alloc)?;
+    let told = format!(in alloc; " {}", told_command(alloc, &copy)?)?;
+    Ok(text.push_str(&told)?)
+}
+
+#[test]
+fn copies_of_commands_are_equal(rt: HostRuntime) -> Result<(), Fail> {
+    let copy = commands(rt.alloc())?.copy(rt.alloc())?;
+    let want = " all 7 next offers augment f A 3 B_2 70000 back budget 100000 proof";
+    assert_eq!(rt; told_commands(rt.alloc(), copy.commands())?.as_str(), want);
+    assert_eq!(rt; told_copies(rt.alloc(), copy.commands())?.as_str(), want);
+    assert_eq!(rt; copy.into_commands().len(), 7);
+    Ok(())
+}
+
+// The places in a copy of the tuple, all together.
+fn places(alloc: Global) -> Result<u64, AllocError> {
     let mut places = 0_u64;
     for name in tuple(alloc)?.copy(alloc)?.into_names() {
         places = places.wrapping_add(u64::from(name.copy(alloc)?.place));
     }
-    assert_eq!(rt; places, 70003);
+    Ok(places)
+}
+
+#[test]
+fn names_are_given_back(rt: HostRuntime) -> Result<(), Fail> {
+    assert_eq!(rt; places(rt.alloc())?, 70003);
     Ok(())
 }

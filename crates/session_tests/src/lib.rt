@@ -1,7 +1,17 @@
-//! Tests of `session_search`, `session_store` and `tuple_names`, in a crate of their own: so these aren't proved a
-//! second time for their tests.
+//! Tests of sessions, from searches to replies and the texts of them. They stand on small problems, whose answers were worked
+//! out by hand.
 #![tactic(auto)]
 
+#[cfg(test)]
+mod large_sets;
+#[cfg(test)]
+mod of_explorer_run;
+#[cfg(test)]
+mod of_proof_lines;
+#[cfg(test)]
+mod of_script_text;
+#[cfg(test)]
+mod of_search_rounds;
 #[cfg(test)]
 mod of_session_search;
 #[cfg(test)]

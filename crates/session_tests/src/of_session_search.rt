@@ -42,15 +42,15 @@ enum Ask {
     Proof,
 }
 
-// What it answers, with the bits of cells.
-#[derive(Clone, Copy, Debug, PartialEq, Eq)]
+// What it answers.
+#[derive(Clone, Copy, PartialEq, Eq)]
 enum Told {
-    Shown(u32, u32),
-    Ended(u32),
-    Offers(u32),
-    Augmented(u32),
+    Shown,
+    Ended,
+    Offers,
+    Augmented,
     Back,
-    Budget(u32),
+    Budget,
     Proof,
     NoScenario,
     UnknownTuple,
@@ -58,38 +58,38 @@ enum Told {
     NoInstance,
     Bottom,
     Deep,
-    Spent(u32),
+    Spent,
     NoEnd,
     Other,
-    Listed(usize),
 }
 
-fn told_by(refusal: &Refusal) -> Told {
+fn told_by(refusal: &Refusal) -> (Told, u32, u32) {
     match refusal {
-        Refusal::NoScenario => Told::NoScenario,
-        Refusal::UnknownTuple => Told::UnknownTuple,
-        Refusal::Present => Told::Present,
-        Refusal::NoInstance(_) => Told::NoInstance,
-        Refusal::Bottom => Told::Bottom,
-        Refusal::Deep => Told::Deep,
-        Refusal::Spent(work) => Told::Spent(work.budget),
-        Refusal::NoEnd => Told::NoEnd,
+        Refusal::NoScenario => (Told::NoScenario, 0, 0),
+        Refusal::UnknownTuple => (Told::UnknownTuple, 0, 0),
+        Refusal::Present => (Told::Present, 0, 0),
+        Refusal::NoInstance(_) => (Told::NoInstance, 0, 0),
+        Refusal::Bottom => (Told::Bottom, 0, 0),
+        Refusal::Deep => (Told::Deep, 0, 0),
+        Refusal::Spent(work) => (Told::Spent, work.budget, 0),
+        Refusal::NoEnd => (Told::NoEnd, 0, 0),
     }
 }
 
-fn told_of(reply: &Reply) -> Told {
+// What a reply tells, with a number and the bits of cells where it has them.
+fn told_of(reply: &Reply) -> (Told, u32, u32) {
     match reply {
-        Reply::Shown { number, scenario } => Told::Shown(*number, bits_of(scenario.numbers())),
-        Reply::End { number, .. } => Told::Ended(*number),
-        Reply::Offers { cells } => Told::Offers(bits_of(cells.numbers())),
-        Reply::Augmented { floor } => Told::Augmented(bits_of(floor.numbers())),
-        Reply::Back => Told::Back,
-        Reply::BudgetSet(budget) => Told::Budget(*budget),
-        Reply::Proof { .. } => Told::Proof,
+        Reply::Shown { number, scenario } => (Told::Shown, *number, bits_of(scenario.numbers())),
+        Reply::End { number, .. } => (Told::Ended, *number, 0),
+        Reply::Offers { cells } => (Told::Offers, 0, bits_of(cells.numbers())),
+        Reply::Augmented { floor } => (Told::Augmented, 0, bits_of(floor.numbers())),
+        Reply::Back => (Told::Back, 0, 0),
+        Reply::BudgetSet(budget) => (Told::Budget, *budget, 0),
+        Reply::Proof { .. } => (Told::Proof, 0, 0),
         Reply::Refused(refusal) => told_by(refusal),
-        Reply::All { .. } => Told::Other,
-        Reply::Partly { .. } => Told::Other,
-        Reply::Memory => Told::Other,
+        Reply::All { .. } => (Told::Other, 0, 0),
+        Reply::Partly { .. } => (Told::Other, 0, 0),
+        Reply::Memory => (Told::Other, 0, 0),
     }
 }
 
@@ -99,7 +99,7 @@ fn search(
     session: &mut Session,
     made: &Translation,
     step: Step,
-) -> Result<Told, AllocError>
+) -> Result<(Told, u32, u32), AllocError>
     requires step { NeedsTranslation step }
     requires fits { FitsProblem made.now.problem session.old.kept }
     requires few { length session.old.kept.state.shown ≤ 1000 }
@@ -120,7 +120,7 @@ fn answer(
     session: &mut Session,
     made: &Translation,
     step: Step,
-) -> Result<Told, AllocError>
+) -> Result<(Told, u32, u32), AllocError>
     requires step { IsPlain step }
     requires fits { FitsProblem made.now.problem session.old.kept }
     ensures fits { OnOk result (FitsProblem made.now.problem session.new.kept) }
@@ -149,7 +149,7 @@ fn tell(
     session: &mut Session,
     made: &Translation,
     ask: Ask,
-) -> Result<Told, AllocError>
+) -> Result<(Told, u32, u32), AllocError>
     requires fits { FitsProblem made.now.problem session.old.kept }
     requires few { length session.old.kept.state.shown ≤ 1000 }
     ensures fits { OnOk result (FitsProblem made.now.problem session.new.kept) }
@@ -168,20 +168,38 @@ fn tell(
     }
 }
 
+// An ask, what it is to be told, and a number and the bits of cells with it.
+type Row = (Ask, Told, u32, u32);
+
 // The answers, one after the other, where fewer than so many atoms are there; and how many scenarios are listed then.
-fn answers(alloc: Global, count: u32, asks: &[Ask]) -> Result<Vec<Told>, Fail>
-    requires { length asks.now ≤ 100 }
+fn answers(alloc: Global, count: u32, rows: &[Row]) -> Result<(Vec<(Told, u32, u32)>, usize), Fail>
+    requires { length rows.now ≤ 100 }
 {
     let made = translated(alloc, count)?;
     let mut session = Session::new(alloc, 1, 2, 1000)?;
     let mut told = Vec::new(alloc);
-    for ask in asks {
+    for (ask, ..) in rows {
         let one = tell(alloc, &mut session, &made, *ask)?;
         told.push(one)?;
     }
     let listed = session.listed(alloc)?;
-    told.push(Told::Listed(listed.len()))?;
-    Ok(told)
+    Ok((told, listed.len()))
+}
+
+// Whether each ask is told what it is to be, where fewer than so many atoms are there, and so many scenarios are listed then.
+fn is_told(alloc: Global, count: u32, rows: &[Row], listed: usize) -> Result<bool, Fail> {
+    if rows.len() > 100 {
+        Err("too many asks")?;
+    }
+    let (told, found) = answers(alloc, count, rows)?;
+    Ok(found == listed && are_told(told.as_slice(), rows))
+}
+
+fn are_told(told: &[(Told, u32, u32)], rows: &[Row]) -> bool {
+    told.len() == rows.len()
+        && told.iter().zip(rows).all(|(one, row)| one.0 == row.1
+            && one.1 == row.2
+            && one.2 == row.3)
 }
 
 #[test]
@@ -195,94 +213,56 @@ fn nothing_was_shown(rt: HostRuntime) -> Result<(), Fail> {
 }
 
 // Of the subsets the empty one is minimal, and at the floor of one atom the set of it.
+const UP_AND_BACK: [Row; 8] = [
+    (Ask::Next, Told::Shown, 1, 0b00),
+    (Ask::Offers, Told::Offers, 0, 0b11),
+    (Ask::Augment(1), Told::Augmented, 0, 0b10),
+    (Ask::Next, Told::Shown, 1, 0b10),
+    (Ask::Next, Told::Ended, 1, 0),
+    (Ask::Proof, Told::Proof, 0, 0),
+    (Ask::Back, Told::Back, 0, 0),
+    (Ask::Next, Told::Ended, 1, 0),
+];
+
 #[test]
 fn a_floor_up_and_back(rt: HostRuntime) -> Result<(), Fail> {
-    let alloc = rt.alloc();
-    let asks = [
-        Ask::Next,
-        Ask::Offers,
-        Ask::Augment(1),
-        Ask::Next,
-        Ask::Next,
-        Ask::Proof,
-        Ask::Back,
-        Ask::Next,
-    ];
-    let told = answers(alloc, 3, asks.as_slice())?;
-    let wanted = [
-        Told::Shown(1, 0b00),
-        Told::Offers(0b11),
-        Told::Augmented(0b10),
-        Told::Shown(1, 0b10),
-        Told::Ended(1),
-        Told::Proof,
-        Told::Back,
-        Told::Ended(1),
-        Told::Listed(1),
-    ];
-    assert_eq!(rt; told.as_slice(), wanted.as_slice());
+    assert!(rt; is_told(rt.alloc(), 3, &UP_AND_BACK, 1)?);
     Ok(())
 }
 
 // With at most one atom no second one can be added; without a budget that is not known.
+const AT_MOST_ONE: [Row; 9] = [
+    (Ask::Next, Told::Shown, 1, 0b00),
+    (Ask::Augment(0), Told::Augmented, 0, 0b01),
+    (Ask::Next, Told::Shown, 1, 0b01),
+    (Ask::Budget(0), Told::Budget, 0, 0),
+    (Ask::Offers, Told::Spent, 0, 0),
+    (Ask::Augment(1), Told::Spent, 0, 0),
+    (Ask::Budget(10), Told::Budget, 10, 0),
+    (Ask::Offers, Told::Offers, 0, 0),
+    (Ask::Augment(1), Told::NoInstance, 0, 0),
+];
+
 #[test]
 fn at_most_one(rt: HostRuntime) -> Result<(), Fail> {
-    let alloc = rt.alloc();
-    let asks = [
-        Ask::Next,
-        Ask::Augment(0),
-        Ask::Next,
-        Ask::Budget(0),
-        Ask::Offers,
-        Ask::Augment(1),
-        Ask::Budget(10),
-        Ask::Offers,
-        Ask::Augment(1),
-    ];
-    let told = answers(alloc, 2, asks.as_slice())?;
-    let wanted = [
-        Told::Shown(1, 0b00),
-        Told::Augmented(0b01),
-        Told::Shown(1, 0b01),
-        Told::Budget(0),
-        Told::Spent(0),
-        Told::Spent(0),
-        Told::Budget(10),
-        Told::Offers(0),
-        Told::NoInstance,
-        Told::Listed(1),
-    ];
-    assert_eq!(rt; told.as_slice(), wanted.as_slice());
+    assert!(rt; is_told(rt.alloc(), 2, &AT_MOST_ONE, 1)?);
     Ok(())
 }
 
+const REFUSALS: [Row; 9] = [
+    (Ask::Augment(0), Told::NoScenario, 0, 0),
+    (Ask::Offers, Told::NoScenario, 0, 0),
+    (Ask::Back, Told::Bottom, 0, 0),
+    (Ask::Proof, Told::NoEnd, 0, 0),
+    (Ask::Next, Told::Shown, 1, 0b00),
+    (Ask::Augment(7), Told::UnknownTuple, 0, 0),
+    (Ask::Augment(0), Told::Augmented, 0, 0b01),
+    (Ask::Next, Told::Shown, 1, 0b01),
+    (Ask::Augment(0), Told::Present, 0, 0),
+];
+
 #[test]
 fn refusals(rt: HostRuntime) -> Result<(), Fail> {
-    let alloc = rt.alloc();
-    let asks = [
-        Ask::Augment(0),
-        Ask::Offers,
-        Ask::Back,
-        Ask::Proof,
-        Ask::Next,
-        Ask::Augment(7),
-        Ask::Augment(0),
-        Ask::Next,
-        Ask::Augment(0),
-    ];
-    let told = answers(alloc, 3, asks.as_slice())?;
-    let wanted = [
-        Told::NoScenario,
-        Told::NoScenario,
-        Told::Bottom,
-        Told::NoEnd,
-        Told::Shown(1, 0b00),
-        Told::UnknownTuple,
-        Told::Augmented(0b01),
-        Told::Shown(1, 0b01),
-        Told::Present,
-        Told::Listed(1),
-    ];
-    assert_eq!(rt; told.as_slice(), wanted.as_slice());
+    assert!(rt; is_told(rt.alloc(), 3, &REFUSALS, 1)?);
     Ok(())
 }

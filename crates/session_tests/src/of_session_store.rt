@@ -51,25 +51,61 @@ fn with_two(alloc: Global) -> Result<SessionStore, AllocError> {
     Ok(store)
 }
 
-// The floor of the cells 1, 3 and 4 stands on top.
-fn go_up(alloc: Global, store: &mut SessionStore) -> Result<(), AllocError> {
-    let floor = of(alloc, &[1, 3, 4])?;
-    take(alloc, store, Reply::Augmented { floor })
+// What happens to a store: the floor of the cells 1, 3 and 4 stands on top; the scenario of these cells is shown; the second
+// scenario is the last, by a proof of so many imported steps; the top floor is left.
+#[derive(Clone, Copy)]
+enum Event {
+    Up,
+    Shown,
+    End(u32),
+    Back,
 }
 
-// The number of scenarios shown at the top floor, and of the cells of the last one.
-fn counts(alloc: Global, store: &SessionStore) -> Result<(usize, usize), AllocError> {
+fn reply_of(alloc: Global, event: Event) -> Result<Reply, AllocError> {
+    Ok(match event {
+        Event::Up => Reply::Augmented {
+            floor: of(alloc, &[1, 3, 4])?,
+        },
+        Event::Shown => shown(alloc, 1, &[1, 3, 4])?,
+        Event::End(imported) => end(alloc, 2, imported),
+        Event::Back => Reply::Back,
+    })
+}
+
+// The store of two scenarios, after these events.
+fn after(alloc: Global, events: &[Event]) -> Result<SessionStore, AllocError> {
+    let mut store = with_two(alloc)?;
+    for event in events {
+        take(alloc, &mut store, reply_of(alloc, *event)?)?;
+    }
+    Ok(store)
+}
+
+// After these events, the number of scenarios shown at the top floor, and of the cells of the last one.
+fn counts(alloc: Global, events: &[Event]) -> Result<(usize, usize), AllocError> {
+    let store = after(alloc, events)?;
     let here = store.shown_here(alloc)?;
     let last = store.current().map_or(0, |s| s.len());
     Ok((here.len(), last))
 }
 
+// After these events, how many steps the proof of the top floor's end imports.
+fn imported(alloc: Global, events: &[Event]) -> Result<Option<u32>, AllocError> {
+    let store = after(alloc, events)?;
+    Ok(store.proof().map(|proof| proof.imported()))
+}
+
+// After these events, how many floors there are above the bottom, and whether the top floor has no cells.
+fn height(alloc: Global, events: &[Event]) -> Result<(usize, bool), AllocError> {
+    let store = after(alloc, events)?;
+    Ok((store.height(), store.floor().is_empty()))
+}
+
 #[test]
 fn the_last_one_shown_is_current(rt: HostRuntime) -> Result<(), Fail> {
     let alloc = rt.alloc();
-    let store = with_two(alloc)?;
-    assert_eq!(rt; counts(alloc, &store)?, (2, 2));
-    assert_eq!(rt; store.budget(), 7);
+    assert_eq!(rt; counts(alloc, &[])?, (2, 2));
+    assert_eq!(rt; with_two(alloc)?.budget(), 7);
     Ok(())
 }
 
@@ -77,12 +113,9 @@ fn the_last_one_shown_is_current(rt: HostRuntime) -> Result<(), Fail> {
 #[test]
 fn the_first_end_is_kept(rt: HostRuntime) -> Result<(), Fail> {
     let alloc = rt.alloc();
-    let mut store = with_two(alloc)?;
-    take(alloc, &mut store, end(alloc, 2, 5))?;
-    take(alloc, &mut store, end(alloc, 2, 6))?;
-    assert_eq!(rt; store.proof().map_or(0, |p| p.imported()), 5);
-    go_up(alloc, &mut store)?;
-    assert!(rt; store.proof().is_none());
+    let events = [Event::End(5), Event::End(6), Event::Up];
+    assert_eq!(rt; imported(alloc, &events[..2])?, Some(5));
+    assert_eq!(rt; imported(alloc, &events)?, None);
     Ok(())
 }
 
@@ -90,27 +123,43 @@ fn the_first_end_is_kept(rt: HostRuntime) -> Result<(), Fail> {
 #[test]
 fn a_floor_keeps_its_list(rt: HostRuntime) -> Result<(), Fail> {
     let alloc = rt.alloc();
-    let mut store = with_two(alloc)?;
-    go_up(alloc, &mut store)?;
-    assert_eq!(rt; counts(alloc, &store)?, (0, 0));
-    take(alloc, &mut store, shown(alloc, 1, &[1, 3, 4])?)?;
-    take(alloc, &mut store, Reply::Back)?;
-    assert_eq!(rt; counts(alloc, &store)?, (2, 2));
-    go_up(alloc, &mut store)?;
-    assert_eq!(rt; counts(alloc, &store)?, (1, 3));
+    let events = [Event::Up, Event::Shown, Event::Back, Event::Up];
+    assert_eq!(rt; counts(alloc, &events[..1])?, (0, 0));
+    assert_eq!(rt; counts(alloc, &events[..3])?, (2, 2));
+    assert_eq!(rt; counts(alloc, &events)?, (1, 3));
     Ok(())
 }
 
 #[test]
 fn the_bottom_is_not_left(rt: HostRuntime) -> Result<(), Fail> {
     let alloc = rt.alloc();
-    let mut store = with_two(alloc)?;
-    go_up(alloc, &mut store)?;
-    assert_eq!(rt; store.height(), 1);
-    take(alloc, &mut store, Reply::Back)?;
-    take(alloc, &mut store, Reply::Back)?;
-    assert_eq!(rt; store.height(), 0);
-    assert!(rt; store.floor().is_empty());
+    let events = [Event::Up, Event::Back, Event::Back];
+    assert_eq!(rt; height(alloc, &events[..1])?, (1, false));
+    assert_eq!(rt; height(alloc, &events)?, (0, true));
+    Ok(())
+}
+
+// The reply is taken in, with a copy of each of these cells.
+fn take_with(
+    alloc: Global,
+    store: &mut SessionStore,
+    reply: Reply,
+    cells: &[u32],
+) -> Result<(), Fail> {
+    let mut found = Vec::new(alloc);
+    for cell in cells {
+        found.push(of(alloc, &[*cell])?)?;
+    }
+    give(store, reply, found)
+}
+
+// The reply is taken in, with these copies.
+fn give(store: &mut SessionStore, reply: Reply, found: Vec<Scenario>) -> Result<(), Fail> {
+    if found.len() > 1000 {
+        Err("too many copies")?;
+    }
+    store.reserve(found.len())?;
+    store.apply(reply, Scenarios::of(found));
     Ok(())
 }
 
@@ -119,15 +168,11 @@ fn the_bottom_is_not_left(rt: HostRuntime) -> Result<(), Fail> {
 fn copies_are_kept_with_their_floor(rt: HostRuntime) -> Result<(), Fail> {
     let alloc = rt.alloc();
     let mut store = SessionStore::new(alloc, 7)?;
-    let found = vec![in alloc; of(alloc, &[5])?, of(alloc, &[6])?]?;
-    store.reserve(2)?;
-    store.apply(shown(alloc, 1, &[2])?, Scenarios::of(found));
+    take_with(alloc, &mut store, shown(alloc, 1, &[2])?, &[5, 6])?;
     assert_eq!(rt; store.copies_here(alloc)?.len(), 2);
-    let lost = vec![in alloc; of(alloc, &[9])?]?;
-    store.reserve(1)?;
-    store.apply(Reply::Memory, Scenarios::of(lost));
+    take_with(alloc, &mut store, Reply::Memory, &[9])?;
     assert_eq!(rt; store.copies_here(alloc)?.len(), 2);
-    go_up(alloc, &mut store)?;
-    assert!(rt; store.copies_here(alloc)?.is_empty());
+    take(alloc, &mut store, reply_of(alloc, Event::Up)?)?;
+    assert_eq!(rt; store.copies_here(alloc)?.len(), 0);
     Ok(())
 }

@@ -1,41 +1,20 @@
 // The check of logs over two variables.
-ghost use Rattle.std.specs.Prelude.{◌≡◌, ◌<◌, ◌≤◌, All, IfOk, length};
+ghost use Rattle.std.specs.Prelude.{◌≡◌, ◌<◌, All, IfOk, length};
 ghost use Rattle.cnf_core.specs.Literal.{HasVarsUpTo};
 
-use cnf_core::{Clause, Cnf, Lit};
+use crate::clauses::clause;
+use cnf_core::{Cnf, Lit};
 use refutation_check::{Hints, Log, Part, Scratch, Step, Verdict, check, lift};
 use std::alloc::Global;
+use std::fmt::Write;
+use std::process::Abort;
 use std::test::Fail;
-
-// The literals of two variables by their numbers in the DIMACS format.
-fn literal(number: i8) -> Lit
-    ensures from_one { 1 ≤ result.var }
-    ensures in_range { result.var ≤ 2 }
-{
-    Lit {
-        var: if number == 1 || number == -1 { 1 } else { 2 },
-        positive: number > 0,
-    }
-}
-
-fn clause(alloc: Global, numbers: &[i8]) -> Result<Clause, Fail>
-    ensures { IfOk result (HasVarsUpTo 2) }
-{
-    let mut lits = Vec::new(alloc);
-    for number in numbers {
-        lits.push(literal(*number))?;
-    }
-    match Clause::of(alloc, lits.as_slice())? {
-        Some(clause) => Ok(clause),
-        None => Err("a tautology")?,
-    }
-}
 
 fn step(alloc: Global, numbers: &[i8], hints: &[u8]) -> Result<Step, Fail>
     ensures clause { IfOk result (λ s. HasVarsUpTo 2 s.clause) }
     ensures hints { IfOk result (λ s. All (λ hint. hint < 256) s.hints) }
 {
-    let clause = clause(alloc, numbers)?;
+    let clause = clause(alloc, 2, numbers)?;
     let mut wide = Vec::new(alloc);
     for hint in hints {
         wide.push(*hint as u32)?;
@@ -57,80 +36,158 @@ fn log(alloc: Global, steps: &[(&[i8], &[u8])]) -> Result<Log, Fail>
     Ok(log)
 }
 
-// All four clauses of two variables, which no valuation satisfies.
-fn square(alloc: Global) -> Result<Cnf, Fail>
-    ensures { IfOk result (λ f. f.vars ≡ 2) }
-{
+// Puts the clause of these literals at the end of a formula of two variables.
+fn add(alloc: Global, formula: &mut Cnf, numbers: &[i8]) -> Result<(), Fail> {
+    let clause = clause(alloc, 2, numbers)?;
+    if formula.vars() != 2 || formula.len() > 9 {
+        Err("another formula")?
+    }
+    formula.push(clause)?;
+    Ok(())
+}
+
+// A formula of these clauses of two variables.
+fn formula(alloc: Global, clauses: &[[i8; 2]]) -> Result<Cnf, Fail> {
     let mut formula = Cnf::new(alloc, 2);
-    formula.push(clause(alloc, &[1, 2])?)?;
-    formula.push(clause(alloc, &[1, -2])?)?;
-    formula.push(clause(alloc, &[-1, 2])?)?;
-    formula.push(clause(alloc, &[-1, -2])?)?;
+    for numbers in clauses {
+        add(alloc, &mut formula, numbers)?;
+    }
     Ok(formula)
 }
 
-// What the check says of these steps over the four clauses.
+// What the check says of these steps over all four clauses of two variables, which no valuation satisfies.
 fn verdict(alloc: Global, steps: &[(&[i8], &[u8])], scratch: &mut Scratch) -> Result<Verdict, Fail>
     requires steps { length steps.now < 100 }
     requires scratch { scratch.old ≡ 2 }
     ensures { scratch.new ≡ scratch.old }
 {
-    let formula = square(alloc)?;
     let log = log(alloc, steps)?;
-    Ok(check(&formula, &log, scratch))
+    let square = formula(alloc, &[[1, 2], [1, -2], [-1, 2], [-1, -2]])?;
+    if square.vars() != 2 {
+        Err("other variables")?
+    }
+    Ok(check(&square, &log, scratch))
+}
+
+// That the check says this of these steps, one row after the other in the same room.
+fn are_checked(
+    rt: &impl Abort,
+    alloc: Global,
+    rows: &[(&[(&[i8], &[u8])], Verdict)],
+) -> Result<(), Fail> {
+    let mut scratch = Scratch::for_vars(alloc, 2)?;
+    for (steps, expected) in rows {
+        assert!(rt; steps.len() < 100);
+        let found = verdict(alloc, steps, &mut scratch)?;
+        assert_eq!(rt; found, *expected);
+    }
+    Ok(())
 }
 
 #[test]
 fn a_log_is_accepted_or_refused_at_its_first_failure(rt: HostRuntime) -> Result<(), Fail> {
-    let alloc = rt.alloc();
-    let mut scratch = Scratch::for_vars(alloc, 2)?;
-    let accepted = verdict(alloc, &[(&[1], &[1, 2]), (&[], &[5, 3, 4])], &mut scratch)?;
-    assert_eq!(rt; accepted, Verdict::Accepted);
-    let two_open = verdict(alloc, &[(&[1], &[1, 2]), (&[], &[3, 4])], &mut scratch)?;
-    assert_eq!(rt; two_open, Verdict::Refused { step: 2, hint: 1 });
-    let unfinished = verdict(alloc, &[(&[1], &[1, 2])], &mut scratch)?;
-    assert_eq!(rt; unfinished, Verdict::NoEmptyClause);
-    assert_eq!(rt; verdict(alloc, &[], &mut scratch)?, Verdict::NoEmptyClause);
-    let no_hints = verdict(alloc, &[(&[1], &[1, 2]), (&[], &[])], &mut scratch)?;
-    assert_eq!(rt; no_hints, Verdict::Refused { step: 2, hint: 0 });
-    let later_step = verdict(alloc, &[(&[2], &[1, 6]), (&[1], &[1, 2])], &mut scratch)?;
-    assert_eq!(rt; later_step, Verdict::Refused { step: 1, hint: 2 });
+    are_checked(
+        &rt,
+        rt.alloc(),
+        &[
+            (&[(&[1], &[1, 2]), (&[], &[5, 3, 4])], Verdict::Accepted),
+            // a clause with two literals that are open
+            (
+                &[(&[1], &[1, 2]), (&[], &[3, 4])],
+                Verdict::Refused { step: 2, hint: 1 },
+            ),
+            // unfinished
+            (&[(&[1], &[1, 2])], Verdict::NoEmptyClause),
+            (&[], Verdict::NoEmptyClause),
+            // no hints
+            (
+                &[(&[1], &[1, 2]), (&[], &[])],
+                Verdict::Refused { step: 2, hint: 0 },
+            ),
+            // a later step
+            (
+                &[(&[2], &[1, 6]), (&[1], &[1, 2])],
+                Verdict::Refused { step: 1, hint: 2 },
+            ),
+        ],
+    )
+}
+
+fn push_literals(out: &mut String, lits: &[Lit]) -> Result<(), Fail> {
+    for lit in lits {
+        let sign = if lit.positive { "" } else { "-" };
+        write!(out, "{sign}{} ", lit.var)?;
+    }
     Ok(())
+}
+
+fn push_hints(out: &mut String, hints: &[u32]) -> Result<(), Fail> {
+    for hint in hints {
+        write!(out, "{hint} ")?;
+    }
+    Ok(())
+}
+
+// Each step's literals by their numbers, the word "by", and its hints.
+fn told(alloc: Global, steps: &[Step]) -> Result<String, Fail> {
+    let mut out = String::new(alloc);
+    for step in steps {
+        push_literals(&mut out, step.clause.lits())?;
+        out.push_str("by ")?;
+        push_hints(&mut out, step.hints.numbers())?;
+    }
+    Ok(out)
+}
+
+// The steps of a log whose hints above 4 are raised by 10.
+fn lifted(alloc: Global) -> Result<String, Fail> {
+    let derived = log(alloc, &[(&[1], &[1, 4]), (&[], &[5, 3, 4])])?;
+    let raised = lift(alloc, &derived, 4, 10)?;
+    told(alloc, raised.steps())
 }
 
 #[test]
 fn lifting_raises_the_hints_above_the_base(rt: HostRuntime) -> Result<(), Fail> {
-    let alloc = rt.alloc();
-    let derived = log(alloc, &[(&[1], &[1, 4]), (&[], &[5, 3, 4])])?;
-    let raised = lift(alloc, &derived, 4, 10)?;
-    assert_eq!(rt; raised.steps().len(), 2);
-    assert_eq!(rt; raised.steps()[0].hints.numbers(), [1, 4].as_slice());
-    assert_eq!(rt; raised.steps()[1].hints.numbers(), [15, 3, 4].as_slice());
-    assert_eq!(rt; raised.steps()[0].clause.lits(), [literal(1)].as_slice());
+    let raised = lifted(rt.alloc())?;
+    assert_eq!(rt; raised.as_str(), "1 by 1 4 by 15 3 4 ");
     Ok(())
+}
+
+// A part of one local clause and one step.
+fn part(alloc: Global) -> Result<Part, Fail> {
+    let log = log(alloc, &[(&[1], &[1, 2])])?;
+    let clause = clause(alloc, 2, &[-2, 1])?;
+    let mut local = Vec::new(alloc);
+    local.push(clause)?;
+    Ok(Part::of(local, log))
+}
+
+// The word "and" before each of the local clauses.
+fn told_local(alloc: Global, part: &Part) -> Result<String, Fail> {
+    let mut out = String::new(alloc);
+    for clause in part.local() {
+        out.push_str("and ")?;
+        push_literals(&mut out, clause.lits())?;
+    }
+    Ok(out)
+}
+
+// The hints of the first step, by way of copies of the log, of the step and of the hints.
+fn copied_hints(alloc: Global, part: Part) -> Result<Vec<u32>, Fail> {
+    let (_, log) = part.into_parts();
+    let copy = log.copy(alloc)?;
+    match copy.steps().first() {
+        Some(step) => Ok(step.copy(alloc)?.hints.copy(alloc)?.into_numbers()),
+        None => Err("no step")?,
+    }
 }
 
 #[test]
 fn copies_are_equal(rt: HostRuntime) -> Result<(), Fail> {
-    let alloc = rt.alloc();
-    let mut local = Vec::new(alloc);
-    local.push(clause(alloc, &[-2, 1])?)?;
-    let part = Part::of(local, log(alloc, &[(&[1], &[1, 2])])?);
-    let copy = part.copy(alloc)?;
-    assert_eq!(rt; (copy.local().len(), copy.log().steps().len()), (1, 1));
-    assert_eq!(rt;
-        copy.local()[0].lits(),
-        [literal(1), literal(-2)].as_slice()
-    );
-    assert_eq!(rt;
-        copy.log().steps()[0].clause.lits(),
-        [literal(1)].as_slice()
-    );
-    let (_, log) = copy.into_parts();
-    let step = log.copy(alloc)?.steps()[0].copy(alloc)?;
-    assert_eq!(rt;
-        step.hints.copy(alloc)?.into_numbers().as_slice(),
-        [1, 2].as_slice()
-    );
+    let copy = part(rt.alloc())?.copy(rt.alloc())?;
+    assert_eq!(rt; told_local(rt.alloc(), &copy)?.as_str(), "and 1 -2 ");
+    assert_eq!(rt; told(rt.alloc(), copy.log().steps())?.as_str(), "1 by 1 2 ");
+    let hints = copied_hints(rt.alloc(), copy)?;
+    assert_eq!(rt; hints.as_slice(), [1, 2].as_slice());
     Ok(())
 }

@@ -4,8 +4,9 @@ ghost use Rattle.rel_formula.specs.Kernel.{rel, var, join};
 ghost use Rattle.rel_formula.specs.Shape.{IsProper};
 ghost use Rattle.rel_formula.specs.View.{expression_tree, formula_tree};
 
-use rel_formula::{Expression, Formula};
+use rel_formula::{Comparison, Expression, Formula, Quantifier};
 use std::alloc::{AllocError, Global};
+use tuple_core::{Operator, UnaryOperator};
 
 /// There are fewer arrows than so many: `#next < count`.
 pub fn fewer_arrows(alloc: Global, count: u32) -> Result<Formula, AllocError>
@@ -20,7 +21,7 @@ pub fn each_leads_on(alloc: Global) -> Result<Formula, AllocError>
     ensures { IfOk result (λ f. IsProper (1 ∷ 2 ∷ []) 0 (formula_tree f)) }
 {
     let body = Box::new(alloc, Formula::AtLeast(1, after(alloc)?))?;
-    Ok(Formula::All(Expression::Rel(0), body))
+    Ok(Formula::Quantified(Quantifier::All, Expression::Rel(0), body))
 }
 
 /// Arrows lead on from at most one atom of the set, and there is one: `lone x: A | some x.next`, `some next`.
@@ -28,7 +29,10 @@ pub fn one_leads_on(alloc: Global) -> Result<Formula, AllocError>
     ensures { IfOk result (λ f. IsProper (1 ∷ 2 ∷ []) 0 (formula_tree f)) }
 {
     let body = Box::new(alloc, Formula::AtLeast(1, after(alloc)?))?;
-    with_some(alloc, Formula::Lone(Expression::Rel(0), body))
+    with_some(
+        alloc,
+        Formula::Quantified(Quantifier::Lone, Expression::Rel(0), body),
+    )
 }
 
 /// There are arrows, and all are among the atoms of the set: `next in A -> A`, `some next`.
@@ -39,7 +43,11 @@ pub fn arrows_of_the_set(alloc: Global) -> Result<Formula, AllocError>
     let second = Box::new(alloc, Expression::Rel(0))?;
     with_some(
         alloc,
-        Formula::In(Expression::Rel(1), Expression::Product(first, second)),
+        Formula::Compared(
+            Comparison::In,
+            Expression::Rel(1),
+            Expression::Binary(Operator::Product, first, second),
+        ),
     )
 }
 
@@ -50,11 +58,15 @@ pub fn no_cycle(alloc: Global) -> Result<Formula, AllocError>
     let relation = Box::new(alloc, Expression::Rel(1))?;
     let first = Box::new(alloc, Expression::Univ)?;
     let second = Box::new(alloc, Expression::Univ)?;
-    let all = Box::new(alloc, Expression::Product(first, second))?;
+    let all = Box::new(alloc, Expression::Binary(Operator::Product, first, second))?;
     let same = Box::new(alloc, Expression::Iden)?;
     with_some(
         alloc,
-        Formula::In(Expression::Closure(relation), Expression::Minus(all, same)),
+        Formula::Compared(
+            Comparison::In,
+            Expression::Unary(UnaryOperator::Closure, relation),
+            Expression::Binary(Operator::Minus, all, same),
+        ),
     )
 }
 
@@ -65,7 +77,11 @@ pub fn all_turned(alloc: Global) -> Result<Formula, AllocError>
     let relation = Box::new(alloc, Expression::Rel(1))?;
     with_some(
         alloc,
-        Formula::Equal(Expression::Rel(1), Expression::Transpose(relation)),
+        Formula::Compared(
+            Comparison::Equal,
+            Expression::Rel(1),
+            Expression::Unary(UnaryOperator::Transpose, relation),
+        ),
     )
 }
 
@@ -75,7 +91,7 @@ fn after(alloc: Global) -> Result<Expression, AllocError>
 {
     let atom = Box::new(alloc, Expression::Var(0))?;
     let relation = Box::new(alloc, Expression::Rel(1))?;
-    Ok(Expression::Join(atom, relation))
+    Ok(Expression::Binary(Operator::Join, atom, relation))
 }
 
 // The formula, and that there is an arrow.

@@ -1,5 +1,5 @@
 use Rattle.std.proofs.Common.{◌≡◌, Ok, rules, sym, ap, ◌∙◌}
-use Rattle.alloy_syntax.specs.Seen.{seen_all}
+use Rattle.alloy_syntax.specs.ParserTokens.{seen_all}
 use Rattle.alloy_syntax.specs.Paragraphs.{model_of}
 use Rattle.alloy_syntax.specs.View.{model_view}
 use Rattle.bench_models.proofs.BroughtModels.{of_tree}

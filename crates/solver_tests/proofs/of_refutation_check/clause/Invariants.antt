@@ -1,5 +1,0 @@
-use Rattle.std.proofs.Common.{◌≤◌, All}
-use Rattle.solver_tests.proofs.of_refutation_check.clause.Given as goal
-
-abbrev pub invariant-loop-number : goal.invariant-loop-number
-invariant-loop-number l = All (λ x. (1 ≤ x.var) × (x.var ≤ 2)) l.lits.items
