@@ -1,6 +1,6 @@
 """What the gate looks at beside `rt ci`: that the examples are the ones that are run, that no edit is dead, that the documents show
 what the program prints, that DEFINITIONS has what the promises lead to, that the program in prebuilt/ is the one that was built
-here, and that the script ./explore and the shell tools/scenes do what they say.
+here, that the script ./explore and the shell tools/scenes do what they say, and how the program ends where memory is refused.
 
 Called with the log of `rt ci` and its status. Prints a line for each check that fails, and last `N passed, M failed`, in
 which what `rt ci` counted is added to these checks.
@@ -14,7 +14,8 @@ sys.dont_write_bytecode = True
 
 from definitions import definitions, wrong_bodies  # noqa: E402
 from documents import documents  # noqa: E402
-from prebuilt import prebuilt, script  # noqa: E402
+from prebuilt import prebuilt, program, script  # noqa: E402
+from refusals import refusals  # noqa: E402
 from scenes import scenes  # noqa: E402
 
 RUNNER = Path("crates/run_examples")
@@ -91,6 +92,16 @@ def edits(log):
     yield f"no edit is a bad one {bad or ''}".strip(), not bad
 
 
+def memory():
+    """A run in which one request for memory is refused ends as it may, whichever request that is."""
+    if not program().is_file():
+        return
+    for name in ("first", "added"):
+        requests, ends, others = refusals(program().resolve(), Path(f"examples/{name}.explore").read_bytes())
+        yield f"the example {name} ends as it may where memory is refused {others or ''}".strip(), not others and ends.total() == requests
+        yield f"the example {name} is answered by `memory`, or not at all", len(ends) == 3
+
+
 def main():
     log = Path(sys.argv[1]).read_text(encoding="utf-8", errors="replace")
     passed, failed = 0, 0
@@ -101,7 +112,7 @@ def main():
     if sys.argv[2] != "0":
         failed = max(failed, 1)
     checks = [*examples(), *edits(log), *documents(), *definitions(), *wrong_bodies()]
-    checks += [*prebuilt(sys.argv[2]), *script(), *scenes()]
+    checks += [*prebuilt(sys.argv[2]), *script(), *memory(), *scenes()]
     own = 0
     for what, holds in checks:
         if holds:
