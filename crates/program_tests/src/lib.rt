@@ -6,6 +6,8 @@ mod of_command_words;
 #[cfg(test)]
 mod of_explorer_cli;
 #[cfg(test)]
+mod of_hostile_use;
+#[cfg(test)]
 mod of_models;
 #[cfg(test)]
 mod of_outside_io;

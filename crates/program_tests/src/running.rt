@@ -14,22 +14,43 @@ fn owned(alloc: Global, words: &[&str]) -> Result<Vec<String>, AllocError> {
     Ok(owned)
 }
 
-// A source of these bytes, where the calls of these numbers fail.
-fn source(alloc: Global, script: &[u8], failing: &[u32]) -> Result<MemSource, AllocError> {
+/// How many bytes a call takes at most, and the numbers of the calls that fail.
+pub type Calls<'a> = (usize, &'a [u32]);
+
+// A source of these bytes.
+fn source(
+    alloc: Global,
+    script: &[u8],
+    (size, failing): Calls<'_>,
+) -> Result<MemSource, AllocError> {
     let script = Vec::from_slice(alloc, script)?;
     let failing = Vec::from_slice(alloc, failing)?;
-    Ok(MemSource::new(script, 4, failing))
+    Ok(MemSource::new(script, size, failing))
 }
 
-// A sink where the calls of these numbers fail.
-fn sink(alloc: Global, failing: &[u32]) -> Result<MemSink, AllocError> {
+fn sink(alloc: Global, (size, failing): Calls<'_>) -> Result<MemSink, AllocError> {
     let failing = Vec::from_slice(alloc, failing)?;
-    MemSink::new(alloc, 50000, 10, failing)
+    MemSink::new(alloc, 50000, size, failing)
 }
 
 // The program's status.
 fn status(alloc: Global, words: &[String], source: &mut MemSource, sink: &mut MemSink) -> u8 {
     explore(alloc, words, source, sink)
+}
+
+/// The status and the output for these words and this script, with such calls for reading and for writing.
+pub fn explored_by(
+    alloc: Global,
+    words: &[&str],
+    script: &[u8],
+    reads: Calls<'_>,
+    writes: Calls<'_>,
+) -> Result<(u8, String), AllocError> {
+    let owned = owned(alloc, words)?;
+    let mut source = source(alloc, script, reads)?;
+    let mut sink = sink(alloc, writes)?;
+    let status = status(alloc, &owned, &mut source, &mut sink);
+    Ok((status, String::from_utf8_lossy(alloc, sink.bytes())?))
 }
 
 /// The status and the output for these words and this script, where the calls of these numbers fail.
@@ -40,11 +61,13 @@ pub fn explored(
     failing_reads: &[u32],
     failing_writes: &[u32],
 ) -> Result<(u8, String), AllocError> {
-    let owned = owned(alloc, words)?;
-    let mut source = source(alloc, script, failing_reads)?;
-    let mut sink = sink(alloc, failing_writes)?;
-    let status = status(alloc, &owned, &mut source, &mut sink);
-    Ok((status, String::from_utf8_lossy(alloc, sink.bytes())?))
+    explored_by(
+        alloc,
+        words,
+        script,
+        (4, failing_reads),
+        (10, failing_writes),
+    )
 }
 
 /// The status and the output for the word `run` and this script.

@@ -1,5 +1,6 @@
 //! Tests of `rel_lower` through texts: what signatures, fields, facts, commands and the forms of bodies mean is shown by counting
-//! the instances of small models. The numbers were worked out by hand.
+//! the instances of small models. The numbers were worked out by hand. Tests of `renaming_classes`: how many classes the graphs of
+//! some kinds have is known.
 #![tactic(auto)]
 
 #[cfg(test)]
@@ -20,6 +21,8 @@ mod of_formulas;
 mod of_levels;
 #[cfg(test)]
 mod of_relations;
+#[cfg(test)]
+mod of_renaming_classes;
 #[cfg(test)]
 mod of_signatures;
 #[cfg(test)]
