@@ -197,7 +197,7 @@ fn is_run(alloc: Global, count: usize) -> Result<bool, AllocError> {
 
 #[test]
 fn parameters_are_levels(rt: HostRuntime) -> Result<(), Fail> {
-    for (count, expected) in [(1, true), (2_000, true), (2_049, false), (14_000, false)] {
+    for (count, expected) in [(1, true), (2_048, true), (2_049, false), (14_000, false)] {
         assert_eq!(rt; is_run(rt.alloc(), count)?, expected);
     }
     Ok(())

@@ -1,5 +1,11 @@
 // That relations are made where they and their cells are few.
-ghost use Rattle.std.specs.Prelude.{◌≡◌, length, IfOk};
+ghost use Rattle.std.specs.Prelude.{◌≡◌, List, length, map, All, IfOk};
+ghost use Rattle.named_model.specs.declared.named.Signature.{Signature};
+ghost use Rattle.named_model.specs.declared.phrase.Referent.TheVariants as referent;
+ghost use Rattle.named_model.specs.Phrase.{refers};
+ghost use Rattle.named_model.specs.Model.{FieldTree};
+ghost use Rattle.named_model.specs.View.{phrase_view, field_view, named_view};
+ghost use Rattle.rel_lower.specs.Bounding.Typed.{HasLists};
 
 use alloy_lex::{Place, Text};
 use lowering_rules::LowerFault;
@@ -39,8 +45,18 @@ fn signature(alloc: Global, name: &str) -> Result<Signature, AllocError> {
     })
 }
 
+// `B`
+fn second(place: Place) -> Phrase
+    ensures { phrase_view result ≡ refers place (referent.Signature 1) }
+{
+    Phrase::Refers(place, Referent::Signature(1))
+}
+
 // `f: B`, of the first signature
-fn field(alloc: Global) -> Result<Field, AllocError> {
+fn field(alloc: Global) -> Result<Field, AllocError>
+    ensures { IfOk result (λ f. (xs : List Signature) → HasLists xs (field_view f).bound) }
+{
+    let bound = second(PLACE);
     Ok(Field {
         name: Text::of(alloc, "f")?,
         place: PLACE,
@@ -48,7 +64,7 @@ fn field(alloc: Global) -> Result<Field, AllocError> {
         mark: None,
         left: None,
         right: None,
-        bound: Phrase::Refers(PLACE, Referent::Signature(1)),
+        bound,
     })
 }
 
@@ -61,15 +77,17 @@ fn two_signatures(alloc: Global) -> Result<Vec<Signature>, AllocError>
     Ok(vec![in alloc; first, second]?)
 }
 
-fn fields(alloc: Global) -> Result<Vec<Field>, AllocError> {
-    let mut fields = Vec::new(alloc);
-    fields.push(field(alloc)?)?;
-    Ok(fields)
+fn fields(alloc: Global) -> Result<Vec<Field>, AllocError>
+    ensures { IfOk result (λ fs. (xs : List Signature) → All (λ (f : FieldTree). HasLists xs f.bound) (map field_view fs.items)) }
+{
+    let field = field(alloc)?;
+    Ok(vec![in alloc; field]?)
 }
 
 // `sig A { f: B } sig B {}`
 fn model(alloc: Global) -> Result<Named, AllocError>
-    ensures { IfOk result (λ n. length n.signatures.items ≡ 2) }
+    ensures signatures { IfOk result (λ n. length n.signatures.items ≡ 2) }
+    ensures typed { IfOk result (λ n. All (λ (f : FieldTree). HasLists (named_view n).signatures f.bound) (named_view n).fields) }
 {
     Ok(Named {
         signatures: two_signatures(alloc)?,

@@ -3,3 +3,5 @@ pub mod Lists
 pub mod Outlines
 pub mod PlacedProducts
 pub mod Sizes
+pub mod TypedBounds
+pub mod EvenLists

@@ -1,3 +1,4 @@
+pub mod NamesApart
 pub mod Numbers
 pub mod Problems
 pub mod Signatures

@@ -1,5 +1,5 @@
 // The relations of a problem: that their names differ, and which are top-level signatures.
-ghost use Rattle.std.specs.Prelude.{◌≡◌, ◌≢◌, All, AllPairs, IfOk, IsFalse, IsTrue};
+ghost use Rattle.std.specs.Prelude.{◌≡◌, ◌≢◌, All, AllPairs, IfOk, OnErr, IsFalse, IsTrue};
 ghost use Rattle.named_model.specs.Signatures.{tops};
 
 use model_types::part_sorts::tables::top_signatures;
@@ -11,7 +11,8 @@ use tuple_core::Name;
 /// These relations. Where two of them have one name, it answers want of memory: no model that was read has such names, since a
 /// name has no dot.
 pub fn differing(relations: Vec<Relation>) -> Result<Vec<Relation>, AllocError>
-    ensures { IfOk result (λ same. (same.items ≡ relations.items) × AllPairs (λ r s. r.name ≢ s.name) same.items) }
+    ensures ok { IfOk result (λ same. (same.items ≡ relations.items) × AllPairs (λ r s. r.name ≢ s.name) same.items) }
+    ensures err { OnErr result (¬ AllPairs (λ r s. r.name ≢ s.name) relations.items) }
 {
     if names_differ(&relations) {
         Ok(relations)
@@ -22,7 +23,8 @@ pub fn differing(relations: Vec<Relation>) -> Result<Vec<Relation>, AllocError>
 
 // Whether no two relations have one name.
 fn names_differ(relations: &[Relation]) -> bool
-    ensures { IsTrue result → AllPairs (λ r s. r.name ≢ s.name) relations.now }
+    ensures differ { IsTrue result → AllPairs (λ r s. r.name ≢ s.name) relations.now }
+    ensures same { IsFalse result → ¬ AllPairs (λ r s. r.name ≢ s.name) relations.now }
 {
     for later in 0..relations.len() {
         if has_name(&relations[..later], &relations[later].name) {
@@ -34,7 +36,8 @@ fn names_differ(relations: &[Relation]) -> bool
 
 // Whether a relation has the name.
 fn has_name(relations: &[Relation], name: &Name) -> bool
-    ensures { IsFalse result → All (λ r. r.name ≢ name.now) relations.now }
+    ensures none { IsFalse result → All (λ r. r.name ≢ name.now) relations.now }
+    ensures some { IsTrue result → ¬ All (λ r. r.name ≢ name.now) relations.now }
 {
     relations.iter().any(|relation| relation.name == *name)
 }

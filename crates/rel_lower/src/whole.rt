@@ -9,7 +9,7 @@ ghost use Rattle.rel_lower.specs.Bounding.Bounds.{IsTooMany};
 ghost use Rattle.rel_lower.specs.Lowered.{IsTyped, IsLowered};
 
 use crate::commands::{command_at, numbers, of_sizes};
-use crate::field_bounds::laws::sizes_are_few;
+use crate::field_bounds::laws::{sizes_are_few, typed_fields_have_lists};
 use crate::field_bounds::relations::relations;
 use crate::laws::typed_problems_are_formed;
 use crate::problem_formula::formula_of;
@@ -89,6 +89,7 @@ fn bounded(
     ensures { MatchResult result (λ p. IsProblem p × ProblemOf (named_view model.now) number facts.now p) (IsTooMany (named_view model.now) sizes.now) }
 {
     sizes_are_few();
+    typed_fields_have_lists();
     typed_problems_are_formed();
     let all = relations(alloc, model, sizes)?;
     let relations = differing(all)?;

@@ -7,6 +7,7 @@ ghost use Rattle.model_types.specs.Bounding.{products};
 ghost use Rattle.model_types.specs.Models.{bound_arity};
 ghost use Rattle.lowering_rules.specs.Relations.{InProducts, MayHave, IsOutlined, field_outline};
 ghost use Rattle.rel_lower.specs.Bounding.Bounds.{IsTooLarge, bound_type};
+ghost use Rattle.rel_lower.specs.Bounding.Typed.{HasLists};
 
 use crate::field_bounds::products::products_of;
 use crate::field_bounds::types::field_type;
@@ -21,12 +22,9 @@ use rel_formula::Relation;
 use std::alloc::Global;
 use tuple_core::TupleSet;
 
-// The most columns of a bound.
-const MOST_COLUMNS: usize = 2;
-
-/// The relation of a field, which may have what its bounding type allows, and need have nothing. More tuples than `room` are
-/// too many cells. A field without types is want of memory: one whose bound is no bound of a field, has more than two columns,
-/// or is a union of different arities. There are at most 65,536 sizes.
+/// The relation of a field, which may have what its bounding type allows, and need have nothing. The lists of its bound are as
+/// long as it has columns, of which there are at most two. More tuples than `room` are too many cells. There are at most 65,536
+/// sizes.
 pub fn field_relation(
     alloc: Global,
     work: &mut Work,
@@ -35,7 +33,8 @@ pub fn field_relation(
     field: &Field,
     room: usize,
 ) -> Result<Relation, LowerFault>
-    requires { length sizes.now ≤ 2 ^ 16 }
+    requires few { length sizes.now ≤ 2 ^ 16 }
+    requires typed { HasLists (named_view named.now).signatures (field_view field.now).bound }
     ensures { MatchResult result (λ r. IsOutlined sizes.now (field_outline (named_view named.now) (field_view field.now)) r × (length r.upper.rows ≤ room)) (IsTooLarge room (MayHave sizes.now (field_outline (named_view named.now) (field_view field.now)))) }
 {
     let name = field_name(alloc, named, field)?;
@@ -53,13 +52,11 @@ fn field_places(
     field: &Field,
     room: usize,
 ) -> Result<TupleSet, LowerFault>
-    requires { length sizes.now ≤ 2 ^ 16 }
+    requires few { length sizes.now ≤ 2 ^ 16 }
+    requires typed { HasLists signatures.now (phrase_view field.now.bound) }
     ensures { MatchResult result (λ v. IsSetOf v (bound_arity (phrase_view field.now.bound) + 1) (InProducts sizes.now (products ((top_of signatures.now field.now.owner ∷ []) ∷ []) (bound_type signatures.now (phrase_view field.now.bound)))) × (length v.rows ≤ room)) (IsTooLarge room (InProducts sizes.now (products ((top_of signatures.now field.now.owner ∷ []) ∷ []) (bound_type signatures.now (phrase_view field.now.bound))))) }
 {
     let columns = bound_arity(&field.bound)?;
-    if columns > MOST_COLUMNS {
-        return Err(LowerFault::Memory);
-    }
     let lists = field_type(alloc, work, signatures, field)?;
     products_of(alloc, sizes, lists.as_slice(), columns as u8 + 1, room)
 }

@@ -12,8 +12,8 @@ use model_sizes::Size;
 use std::alloc::{AllocError, Global};
 use tuple_core::{Tuple, TupleSet};
 
-/// The tuples of the places of one signature of a list after the other, for each of the lists. A list whose length isn't the
-/// arity, which is 1 to 3, is want of memory. More tuples than `room` are too many cells. There are at most 65,536 sizes.
+/// The tuples of the places of one signature of a list after the other, for each of the lists, which are all as long as the
+/// arity, 1 to 3. More tuples than `room` are too many cells. There are at most 65,536 sizes.
 pub fn products_of(
     alloc: Global,
     sizes: &[Size],
@@ -24,13 +24,11 @@ pub fn products_of(
     requires few { length sizes.now ≤ 2 ^ 16 }
     requires low { 1 ≤ arity }
     requires high { arity ≤ 3 }
+    requires long { All (λ l. length l ≡ arity) (lists_of lists.now) }
     ensures { MatchResult result (λ v. IsSetOf v arity (InProducts sizes.now (lists_of lists.now)) × (length v.rows ≤ room)) (IsTooLarge room (InProducts sizes.now (lists_of lists.now))) }
 {
     let mut tuples = TupleSet::new(alloc, arity);
     for list in lists {
-        if list.len() != usize::from(arity) {
-            return Err(LowerFault::Memory);
-        }
         add_product(alloc, &mut tuples, sizes, list, room)?;
     }
     Ok(tuples)

@@ -3,8 +3,10 @@ ghost use Rattle.std.specs.Prelude.{◌≡◌, ◌≤◌, ◌-◌, ◌^◌, leng
 ghost use Rattle.tuple_core.specs.Rows.{IsRows};
 ghost use Rattle.rel_formula.specs.Bounds.{cells_from, open_tuples};
 ghost use Rattle.rel_formula.specs.declared.problem.Relation.{Relation as RelationRecord};
+ghost use Rattle.named_model.specs.Model.{FieldTree};
 ghost use Rattle.named_model.specs.View.{named_view};
 ghost use Rattle.rel_lower.specs.Bounding.Bounds.{AreRelations, IsTooMany};
+ghost use Rattle.rel_lower.specs.Bounding.Typed.{HasLists};
 
 use crate::field_bounds::fields::field_relation;
 use crate::relation_bounds::signatures::signature_relations;
@@ -22,11 +24,12 @@ const MOST_RELATIONS: usize = 128;
 const MOST_CELLS: usize = 4_096;
 
 /// The relations of a model's problem, those of signatures first; or the first of these faults: there are more than 128, or
-/// they have more than 4,096 cells. No set is built of more tuples than these cells and one product of places. A field without
-/// types is want of memory, as `field_relation` says, and so are more lists than bounding types may have. There are at most as
-/// many sizes as signatures.
+/// they have more than 4,096 cells. No set is built of more tuples than these cells and one product of places. The lists of each
+/// bound are as long as it has columns, of which there are at most two; more of them than bounding types may have are want of
+/// memory. There are at most as many sizes as signatures.
 pub fn relations(alloc: Global, named: &Named, sizes: &[Size]) -> Result<Vec<Relation>, LowerFault>
-    requires { length sizes.now ≤ length named.now.signatures.items }
+    requires few { length sizes.now ≤ length named.now.signatures.items }
+    requires typed { All (λ (f : FieldTree). HasLists (named_view named.now).signatures f.bound) (named_view named.now).fields }
     ensures { MatchResult result (λ rs. AreRelations (named_view named.now) sizes.now rs.items) (IsTooMany (named_view named.now) sizes.now) }
 {
     if named.signatures.len().saturating_add(named.fields.len()) > MOST_RELATIONS {

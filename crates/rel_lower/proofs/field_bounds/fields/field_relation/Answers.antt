@@ -1,4 +1,4 @@
-use Rattle.std.proofs.Common.{◌∷◌, [], ◌+◌, List, subst, ◌∙◌}
+use Rattle.std.proofs.Common.{◌∷◌, [], ◌+◌, List, sym, subst, ◌∙◌}
 use Rattle.std.proofs.lemmas.Result.{err_from_is_err_and}
 use Rattle.tuple_core.specs.Rows.{IsSetOf}
 use Rattle.named_model.specs.declared.named.Signature.{Signature}
@@ -8,8 +8,12 @@ use Rattle.model_types.specs.Bounding.{products}
 use Rattle.model_types.specs.Models.{bound_arity}
 use Rattle.lowering_rules.specs.Relations.{InProducts, field_outline}
 use Rattle.rel_lower.specs.Bounding.Bounds.{IsTooLarge, bound_type}
+use Rattle.rel_lower.specs.Bounding.Typed.{HasLists}
 use Rattle.rel_lower.proofs.Bounding.Cells.{no_lower}
 use Rattle.rel_lower.proofs.field_bounds.fields.field_relation.Goals as goal
+
+pub field_places-requires-clause-typed : goal.field_places-requires-clause-typed
+field_places-requires-clause-typed c = subst (λ (xs : List Signature). HasLists xs (phrase_view c.args.field.now.bound)) (sym c.deref.ensures.value) c.requires.typed
 
 pub returns-in_err-upper : goal.returns-in_err-upper
 returns-in_err-upper c =

@@ -1,4 +1,4 @@
-use Rattle.std.proofs.Common.{Contains, subst, arith}
+use Rattle.std.proofs.Common.{Contains, length, ap, sym, ◌∙◌, subst, arith}
 use Rattle.std.proofs.lemmas.Result.{err_from_is_err_and}
 use Rattle.tuple_core.specs.Operators.{United}
 use Rattle.tuple_core.specs.Gains.{SomeGives}
@@ -6,8 +6,29 @@ use Rattle.tuple_core.specs.Rows.{SetGains}
 use Rattle.tuple_core.proofs.Steps.{set_more, set_all, set_from_gains}
 use Rattle.lowering_rules.specs.Relations.{InProduct, InProducts}
 use Rattle.model_types.specs.Bounds.Same.{lists_of}
+use Rattle.rel_lower.proofs.Bounding.EvenLists.{long_at}
 use Rattle.rel_lower.proofs.Bounding.PlacedProducts.{InProductOf, some_products, comes_from, weaker_too_large}
 use Rattle.rel_lower.proofs.field_bounds.products.products_of.Goals as goal
+
+pub add_product-requires-clause-low : goal.add_product-requires-clause-low
+add_product-requires-clause-low c =
+    let long = long_at c.args.arity c.args.lists.now c.loop-list.list-index c.list-item.result c.requires.long c.loop-list-test.true c.list-item.is in
+    let same = ap length c.deref.ensures.value in
+    let low = c.requires.low in
+    omega (arith, long, same, low)
+
+pub add_product-requires-clause-high : goal.add_product-requires-clause-high
+add_product-requires-clause-high c =
+    let long = long_at c.args.arity c.args.lists.now c.loop-list.list-index c.list-item.result c.requires.long c.loop-list-test.true c.list-item.is in
+    let same = ap length c.deref.ensures.value in
+    let high = c.requires.high in
+    omega (arith, long, same, high)
+
+pub add_product-requires-clause-arity : goal.add_product-requires-clause-arity
+add_product-requires-clause-arity c =
+    let long = long_at c.args.arity c.args.lists.now c.loop-list.list-index c.list-item.result c.requires.long c.loop-list-test.true c.list-item.is in
+    let same = ap length c.deref.ensures.value in
+    c.loop-list.invariant.gains.arity ∙ c.new-tuples.ensures.arity ∙ sym (same ∙ long)
 
 pub returns-in_err-add_product : goal.returns-in_err-add_product
 returns-in_err-add_product c =

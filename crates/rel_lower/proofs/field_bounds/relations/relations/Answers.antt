@@ -1,10 +1,12 @@
-use Rattle.std.proofs.Common.{◌-◌, All, List, length, ap, subst, arith}
+use Rattle.std.proofs.Common.{◌-◌, All, List, length, sym, ap, subst, arith}
 use Rattle.std.proofs.lemmas.List.{length-map}
 use Rattle.std.proofs.lemmas.Result.{err_from_is_err_and}
 use Rattle.rel_formula.specs.declared.problem.Relation.{Relation}
 use Rattle.rel_formula.specs.Bounds.{cells_from}
+use Rattle.named_model.specs.Model.{FieldTree}
 use Rattle.named_model.specs.View.{field_view, named_view}
 use Rattle.lowering_rules.specs.Relations.{field_outline}
+use Rattle.rel_lower.specs.Bounding.Typed.{HasLists}
 use Rattle.rel_lower.proofs.Bounding.Cells.{AreSets, few_open, cells_pushed, sets_pushed}
 use Rattle.rel_lower.proofs.Bounding.Outlines.{how_many, one_outlined, field_many, signatures_many, many_told, field_at, are_few}
 use Rattle.rel_lower.proofs.field_bounds.relations.relations.Goals as goal
@@ -53,6 +55,12 @@ returns-in_err-relation c =
     rw (p.1, p.2) (many_told m sizes (field_outline m (field_view c.field-item.result)) (4096 - c.loop-field.cells) c.in_err-relation.field-0.0 (omega (arith, h, k, few, s, a, b))
     (λ large. field_many m sizes c.loop-field.field-index (field_view c.field-item.result) at.0 at.1 c.loop-field.relations.items c.loop-field.cells (4096 - c.loop-field.cells) c.loop-field.invariant.outlined c.loop-field.invariant.sets c.loop-field.invariant.count (omega (arith, low)) large)
     c.in_err-relation.ensures)
+
+pub field_relation-requires-clause-typed : goal.field_relation-requires-clause-typed
+field_relation-requires-clause-typed c =
+    let m = named_view c.args.named.now in
+    let at = field_at c.args.named.now.fields.items c.deref-field-items.result.now c.loop-field.field-index c.field-item.result c.deref-field-items.ensures.value c.loop-field-test.true c.field-item.is in
+    subst (λ (f : FieldTree). HasLists m.signatures f.bound) (sym at.1) (c.requires.typed c.loop-field.field-index (field_view c.field-item.result) at.0)
 
 pub overflow_add-cells : goal.overflow_add-cells
 overflow_add-cells c =
