@@ -1,0 +1,5 @@
+pub mod OwnEntries
+pub mod BackedRuns
+pub mod Grouping
+pub mod Going
+pub mod Onward

@@ -1,0 +1,4 @@
+pub mod Backed
+pub mod Groups
+pub mod Interleaved
+pub mod Turned
