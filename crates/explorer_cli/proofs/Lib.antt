@@ -1,6 +1,10 @@
+pub mod BackedReplies
 pub mod Commands
+pub mod FloorsBehind
 pub mod Fronts
+pub mod OneOutput
 pub mod Problems
+pub mod ProperReplies
 pub mod Replied
 pub mod ServedOutputs
 pub mod ShowingReplies

@@ -6,7 +6,7 @@ use Rattle.named_model.specs.Model.{NamedTree}
 use Rattle.script_format.specs.declared.entries.SessionEntry.{SessionEntry}
 use Rattle.script_text.specs.Replies.{PrintedSession}
 use Rattle.served_models.specs.Served.{IsProblemOf}
-use Rattle.explorer_cli.specs.Runs.{IsProblemAt, IsRunAmong}
+use Rattle.explorer_cli.specs.Runs.{IsProblemAt, Translations, IsRunAmong}
 
 -- what the law of models says, as it is used here
 abbrev pub OneProblem : Type 0
@@ -21,5 +21,5 @@ module _ (one_problem : OneProblem) (models : List NamedTree) (x : SessionEntry)
       let same : b.0 ≡ a.0 = same_model b.0 a.0 (sym b.1 ∙ a.1) in
       one_problem a.0 x.number p q a.2 (subst (λ (m : NamedTree). IsProblemOf m x.number q) same b.2)
 
-  pub one_run_at : (budget : ℕ) (s : PrintedSession) (p : Bounded) → IsRunAmong budget models x s → IsProblemAt models x p → s.problem ≡ p
-  one_run_at budget s p run is = ap (λ (t : PrintedSession). t.problem) run.2.is ∙ one_problem_at run.0 p run.1 is
+  pub one_run_at : (budget : ℕ) (over : Translations) (s : PrintedSession) (p : Bounded) → IsRunAmong budget models over x s → IsProblemAt models x p → s.problem ≡ p
+  one_run_at budget over s p run is = ap (λ (t : PrintedSession). t.problem) run.3.is ∙ one_problem_at run.0.problem p run.2 is

@@ -2,12 +2,13 @@
 use Rattle.std.proofs.Common.{◌≡◌, ◌≢◌, ◌⊎◌, inl, inr, ℕ, suc, ◌+◌, Bool, true, false, cond, if◌then◌else◌, List, [], ◌∷◌, ◌++◌, map, filter, length, AllPairs, Contains, refl, sym, ◌∙◌, ap, subst, arith, append_assoc}
 use Rattle.std.specs.Prelude.{bytes_eq}
 use Rattle.std.proofs.lemmas.List.{append-nil, map-append}
-use Rattle.std.proofs.lemmas.List.Elements.{filter-append, All-contains, Contains-append_left, Contains-append_right, Contains-push}
+use Rattle.std.proofs.lemmas.List.Elements.{filter-append, All-contains, Contains-append_left, Contains-append_right, Contains-push, Contains-push_cases}
 use Rattle.std.proofs.lemmas.Slice.Eq.{bytes_eq-Decides}
 use Rattle.rel_formula.specs.Bounds.{Bounded}
 use Rattle.rel_formula.proofs.OpenCells.{cons_cases}
 use Rattle.swap_symmetry.specs.Due.{IsDue}
 use Rattle.swap_symmetry.specs.Order.{IsEarlier}
+use Rattle.session_words.specs.declared.atom_names.AtomName.{AtomName}
 use Rattle.session_words.specs.declared.steps.Step.{Step}
 use Rattle.session_words.specs.declared.steps.Step.TheVariants as step
 use Rattle.session_words.specs.declared.commands.Command.{Command}
@@ -15,13 +16,14 @@ use Rattle.session_words.specs.declared.commands.Command.TheVariants as command
 use Rattle.session_rules.specs.ProofOfEnd.{ProofOfEnd}
 use Rattle.translation_rules.proofs.Tests.{has_any}
 use Rattle.session_rules.specs.States.{State, Start, ShownAt, EndedAt, top_floor, shown_at, shown_here, has_ended, HasEndedWith, after}
-use Rattle.session_rules.specs.Steps.{ShowsNext, EndsNow, OffersCells, MayAnswer, Exchange, MachineRun, IsReached, state_after}
+use Rattle.session_rules.specs.Steps.{ShowsNext, EndsNow, OffersCells, Augments, AsksImpossible, MayAnswer, Exchange, MachineRun, IsReached, state_after}
 use Rattle.session_rules.specs.Sound.{IsSound}
 use Rattle.session_rules.specs.Transcripts.{showings, ComesToEnd, Serves}
+use Rattle.session_rules.specs.declared.answers.Refusal.TheVariants.{NoInstance}
 use Rattle.session_rules.specs.declared.answers.Reply.{Reply}
-use Rattle.session_rules.proofs.Runs.{states_join, runs_joined}
+use Rattle.session_rules.proofs.Runs.{states_join, runs_joined, runs_apart, shown_more}
 use Rattle.session_rules.specs.declared.answers.Reply.TheVariants as reply
-use Rattle.explorer_cli.specs.Runs.{Shows, ShowsNew}
+use Rattle.explorer_cli.specs.Shown.{Shows, ShowsNew, IsFailure}
 
 -- ---- what a step's reply may be
 
@@ -118,11 +120,11 @@ one_here s number scenario =
     let same : bytes_eq (top_floor s) (top_floor s) ≡ true = (bytes_eq-Decides (top_floor s) (top_floor s)).1 refl in
     more (top_floor s) s new ∙ ap (λ (b : Bool). shown_at (top_floor s) s ++ map (λ (y : ShownAt). y.scenario) (cond b (new ∷ []) [])) same
 
-top_showings : (s : State) (n : ℕ) (ss : List (List ℕ)) → top_floor (state_after s (showings n ss)) ≡ top_floor s
+pub top_showings : (s : State) (n : ℕ) (ss : List (List ℕ)) → top_floor (state_after s (showings n ss)) ≡ top_floor s
 top_showings s n [] = refl
 top_showings s n (x ∷ ss) = top_showings (after s (reply.Shown n x)) (n + 1) ss
 
-showings_here : (s : State) (n : ℕ) (ss : List (List ℕ)) → shown_at (top_floor s) (state_after s (showings n ss)) ≡ shown_at (top_floor s) s ++ ss
+pub showings_here : (s : State) (n : ℕ) (ss : List (List ℕ)) → shown_at (top_floor s) (state_after s (showings n ss)) ≡ shown_at (top_floor s) s ++ ss
 showings_here s n [] = sym (append-nil (shown_at (top_floor s) s))
 showings_here s n (x ∷ ss) =
     showings_here (after s (reply.Shown n x)) (n + 1) ss ∙ ap (λ (zs : List (List ℕ)). zs ++ ss) (one_here s n x) ∙ append_assoc (shown_at (top_floor s) s) (x ∷ []) ss
@@ -145,6 +147,117 @@ top_comes s n xs h =
     let before = showings c.first c.scenarios in
     ap (λ (ys : List Exchange). top_floor (state_after s ys)) c.exchanges ∙ ap top_floor (states_join s before (last ∷ []))
     ∙ top_end (state_after s before) h.number h.proof ∙ top_showings s c.first c.scenarios
+
+-- ---- where what counts as shown comes from
+
+-- the reply shows nothing by itself
+abbrev ShowsNone : Reply → Type 0
+ShowsNone (reply.Shown number scenario) = ⊥
+ShowsNone r = Unit {0}
+
+still : (s : State) (r : Reply) (at x : List ℕ) → ShowsNone r → Contains (shown_at at (after s r)) x → Contains (shown_at at s) x
+still s (reply.Shown number scenario) at x none c = absurd none
+still s (reply.End number proof) at x none c =
+    elim (has_ended (top_floor s) s) as (λ b. Contains (shown_at at (if b then s else ended_by s proof)) x → Contains (shown_at at s) x) [ true ↦ λ c. c | false ↦ λ c. c ] c
+still s (reply.Offers cells) at x none c = c
+still s (reply.Augmented floor) at x none c = c
+still s reply.Back at x none c = c
+still s (reply.BudgetSet budget) at x none c = c
+still s (reply.All scenarios) at x none c = c
+still s (reply.Partly first scenarios) at x none c = c
+still s (reply.Proof proof) at x none c = c
+still s (reply.Refused refusal) at x none c = c
+still s reply.Memory at x none c = c
+
+-- it was there before, or is one of these at the top floor
+abbrev WasOr : State → List ℕ → List ℕ → Type 0 → Type 0
+WasOr s at x Now = Contains (shown_at at s) x ⊎ ((at ≡ top_floor s) × Now)
+
+from_one : (s : State) (number : ℕ) (scenario at x : List ℕ) → Contains (shown_at at (after s (reply.Shown number scenario))) x → WasOr s at x (x ≡ scenario)
+from_one s number scenario at x c =
+    let new : ShownAt = record { floor = top_floor s; scenario = scenario } in
+    elim (shown_more at s new) [
+      | inl one ↦ elim (Contains-push_cases (shown_at at s) scenario x (subst (λ (zs : List (List ℕ)). Contains zs x) one.1 c)) [
+        | inl old ↦ inl old
+        | inr now ↦ inr (sym one.0, sym now)
+      ]
+      | inr same ↦ inl (subst (λ (zs : List (List ℕ)). Contains zs x) same c)
+    ]
+
+from_showings : (s : State) (n : ℕ) (ss : List (List ℕ)) (at x : List ℕ) → Contains (shown_at at (state_after s (showings n ss))) x → WasOr s at x (Contains ss x)
+from_showings s n [] at x c = inl c
+from_showings s n (y ∷ ss) at x c = elim (from_showings (after s (reply.Shown n y)) (n + 1) ss at x c) [
+  | inl before ↦ elim (from_one s n y at x before) [
+    | inl old ↦ inl old
+    | inr now ↦ inr (now.0, subst (Contains (y ∷ ss)) (sym now.1) (Contains-append_left (y ∷ []) ss y (0, omega arith, refl)))
+  ]
+  | inr later ↦ inr (later.0, Contains-append_right (y ∷ []) ss x later.1)
+]
+
+-- scenarios, and then a reply that shows none
+from_last : (s : State) (n : ℕ) (ss : List (List ℕ)) (xs : List Exchange) (r : Reply) (at x : List ℕ) → ShowsNone r → xs ≡ showings n ss ++ record { step = step.Next; reply = r } ∷ [] → Contains (shown_at at (state_after s xs)) x → WasOr s at x (Contains ss x)
+from_last s n ss xs r at x none is c =
+    let last : Exchange = record { step = step.Next; reply = r } in
+    let joined : state_after s xs ≡ after (state_after s (showings n ss)) r = ap (state_after s) is ∙ states_join s (showings n ss) (last ∷ []) in
+    from_showings s n ss at x (still (state_after s (showings n ss)) r at x none (subst (λ (t : State). Contains (shown_at at t) x) joined c))
+
+-- the command is an `all` that failed
+abbrev pub HidesAll : Command → Reply → Type 0
+HidesAll c r = (n : ℕ) × (c ≡ command.All n) × IsFailure r
+
+-- what counts as shown afterwards did before, or is shown by the reply, or was found by an `all` that failed
+abbrev pub CameFrom : State → Command → Reply → List ℕ → List ℕ → Type 0
+CameFrom s c r at x = WasOr s at x (Shows r x ⊎ HidesAll c r)
+
+alone : (s : State) (st : Step) (r : Reply) (xs : List Exchange) (at x : List ℕ) → ShowsNone r → xs ≡ record { step = st; reply = r } ∷ [] → Contains (shown_at at (state_after s xs)) x → CameFrom s (command.Step st) r at x
+alone s st r xs at x none is c = inl (still s r at x none (subst (λ (ys : List Exchange). Contains (shown_at at (state_after s ys)) x) is c))
+
+hidden : (s : State) (n : ℕ) (r : Reply) (at x : List ℕ) (ss : List (List ℕ)) → IsFailure r → WasOr s at x (Contains ss x) → CameFrom s (command.All n) r at x
+hidden s n r at x ss failed (inl old) = inl old
+hidden s n r at x ss failed (inr now) = inr (now.0, inr (n, refl, failed))
+
+pub came_from : (p : Bounded) (s : State) (c : Command) (r : Reply) (xs : List Exchange) (at x : List ℕ) → Serves p s c r xs → Contains (shown_at at (state_after s xs)) x → CameFrom s c r at x
+came_from p s (command.Step st) (reply.Shown number scenario) xs at x h c =
+    elim (from_one s number scenario at x (subst (λ (ys : List Exchange). Contains (shown_at at (state_after s ys)) x) h.read c)) [
+      | inl old ↦ inl old
+      | inr now ↦ inr (now.0, inl now.1)
+    ]
+came_from p s (command.Step st) (reply.End number proof) xs at x h c = alone s st (reply.End number proof) xs at x tt h.read c
+came_from p s (command.Step st) (reply.Offers cells) xs at x h c = alone s st (reply.Offers cells) xs at x tt h.read c
+came_from p s (command.Step st) (reply.Augmented floor) xs at x h c = alone s st (reply.Augmented floor) xs at x tt h.read c
+came_from p s (command.Step st) reply.Back xs at x h c = alone s st reply.Back xs at x tt h.read c
+came_from p s (command.Step st) (reply.BudgetSet budget) xs at x h c = alone s st (reply.BudgetSet budget) xs at x tt h.read c
+came_from p s (command.Step st) (reply.All scenarios) xs at x h c = alone s st (reply.All scenarios) xs at x tt h.read c
+came_from p s (command.Step st) (reply.Partly first scenarios) xs at x h c = alone s st (reply.Partly first scenarios) xs at x tt h.read c
+came_from p s (command.Step st) (reply.Proof proof) xs at x h c = alone s st (reply.Proof proof) xs at x tt h.read c
+came_from p s (command.Step st) (reply.Refused refusal) xs at x h c = alone s st (reply.Refused refusal) xs at x tt h.read c
+came_from p s (command.Step st) reply.Memory xs at x h c = alone s st reply.Memory xs at x tt h.read c
+came_from p s (command.All n) (reply.All scenarios) xs at x h c =
+    let comes = h.read.0.comes in
+    elim (from_last s comes.first comes.scenarios xs (reply.End h.read.0.number h.read.0.proof) at x tt comes.exchanges c) [
+      | inl old ↦ inl old
+      | inr now ↦
+          let here = subst (λ (f : List ℕ). Contains (shown_at f (state_after s xs)) x) (now.0 ∙ sym (top_comes s n xs h.read.0)) c in
+          inr (now.0, inl ((h.read.1.same x).1 here))
+    ]
+came_from p s (command.All n) (reply.Partly first scenarios) xs at x h c =
+    elim (from_showings s first scenarios at x (subst (λ (ys : List Exchange). Contains (shown_at at (state_after s ys)) x) h.read.1 c)) [
+      | inl old ↦ inl old
+      | inr now ↦ inr (now.0, inl now.1)
+    ]
+came_from p s (command.All n) (reply.Refused refusal) xs at x h c =
+    hidden s n (reply.Refused refusal) at x h.read.scenarios tt (from_last s h.read.first h.read.scenarios xs (reply.Refused refusal) at x tt h.read.exchanges c)
+came_from p s (command.All n) reply.Memory xs at x h c = elim h.read [
+  | inl comes ↦ hidden s n reply.Memory at x comes.scenarios tt (from_last s comes.first comes.scenarios xs reply.Memory at x tt comes.exchanges c)
+  | inr ends ↦ hidden s n reply.Memory at x ends.comes.scenarios tt (from_last s ends.comes.first ends.comes.scenarios xs (reply.End ends.number ends.proof) at x tt ends.comes.exchanges c)
+]
+came_from p s (command.All n) (reply.Shown number scenario) xs at x h c = absurd h.read
+came_from p s (command.All n) (reply.End number proof) xs at x h c = absurd h.read
+came_from p s (command.All n) (reply.Offers cells) xs at x h c = absurd h.read
+came_from p s (command.All n) (reply.Augmented floor) xs at x h c = absurd h.read
+came_from p s (command.All n) reply.Back xs at x h c = absurd h.read
+came_from p s (command.All n) (reply.BudgetSet budget) xs at x h c = absurd h.read
+came_from p s (command.All n) (reply.Proof proof) xs at x h c = absurd h.read
 
 -- ---- what a reply shows
 
@@ -230,3 +343,54 @@ listed_in_order p s (command.All n) scenarios xs h = h.read.1.sorted
 
 pub list_ends : (p : Bounded) (s : State) (n : ℕ) (scenarios : List (List ℕ)) (xs : List Exchange) → Serves p s (command.All n) (reply.All scenarios) xs → top_floor (state_after s xs) ≡ top_floor s
 list_ends p s n scenarios xs h = top_comes s n xs h.read.0
+
+-- how many scenarios a part has
+pub part_count : (p : Bounded) (s : State) (c : Command) (first n : ℕ) (scenarios : List (List ℕ)) (xs : List Exchange) → c ≡ command.All n → Serves p s c (reply.Partly first scenarios) xs → length scenarios ≡ n
+part_count p s c first n scenarios xs is h =
+    let serves : Serves p s (command.All n) (reply.Partly first scenarios) xs = subst (λ (d : Command). Serves p s d (reply.Partly first scenarios) xs) is h in
+    serves.read.0
+
+-- an augmentation that succeeds, and one that no instance allows
+pub record IsAugmentBy (p : Bounded) (s : State) (c : Command) (above : List ℕ) : Type 0 where
+  pub name : List ℕ
+  pub names : List AtomName
+  pub command_is : c ≡ command.Step (step.Augment name names)
+  pub augments : Augments p s name names above
+
+augment_next : (p : Bounded) (s : State) (x : Step) (above : List ℕ) → MayAnswer p s x (reply.Augmented above) → IsAugmentBy p s (command.Step x) above
+augment_next p s step.Next above may = absurd may
+augment_next p s step.Offers above may = absurd may
+augment_next p s (step.Augment name names) above may = record { name = name; names = names; command_is = refl; augments = may }
+augment_next p s step.Back above may = absurd may
+augment_next p s (step.Budget budget) above may = absurd may
+augment_next p s step.Proof above may = absurd may
+
+pub augments_by : (p : Bounded) (s : State) (c : Command) (above : List ℕ) (xs : List Exchange) → Serves p s c (reply.Augmented above) xs → IsAugmentBy p s c above
+augments_by p s (command.Step st) above xs h = augment_next p s st above (answered p s st (reply.Augmented above) xs h)
+augments_by p s (command.All n) above xs h = absurd h.read
+
+pub record IsImpossibleBy (p : Bounded) (s : State) (c : Command) : Type 0 where
+  pub name : List ℕ
+  pub names : List AtomName
+  pub command_is : c ≡ command.Step (step.Augment name names)
+  pub asks : AsksImpossible p s name names
+
+impossible_next : (p : Bounded) (s : State) (x : Step) (proof : ProofOfEnd) → MayAnswer p s x (reply.Refused (NoInstance proof)) → IsImpossibleBy p s (command.Step x)
+impossible_next p s step.Next proof may = absurd may
+impossible_next p s step.Offers proof may = absurd may
+impossible_next p s (step.Augment name names) proof may = record { name = name; names = names; command_is = refl; asks = may }
+impossible_next p s step.Back proof may = absurd may
+impossible_next p s (step.Budget budget) proof may = absurd may
+impossible_next p s step.Proof proof may = absurd may
+
+pub impossible_by : (p : Bounded) (s : State) (c : Command) (proof : ProofOfEnd) (xs : List Exchange) → Serves p s c (reply.Refused (NoInstance proof)) xs → IsImpossibleBy p s c
+impossible_by p s (command.Step st) proof xs h = impossible_next p s st proof (answered p s st (reply.Refused (NoInstance proof)) xs h)
+impossible_by p s (command.All n) proof xs h =
+    let last : Exchange = record { step = step.Next; reply = reply.Refused (NoInstance proof) } in
+    let apart = runs_apart p s (showings h.read.first h.read.scenarios) (last ∷ []) (subst (MachineRun p s) h.read.exchanges h.run) in
+    absurd apart.1.0
+
+-- the floor that an augmentation leads to
+pub augmented_top : (p : Bounded) (s : State) (c : Command) (above : List ℕ) (xs : List Exchange) → Serves p s c (reply.Augmented above) xs → top_floor (state_after s xs) ≡ above
+augmented_top p s (command.Step st) above xs h = ap (λ (ys : List Exchange). top_floor (state_after s ys)) h.read
+augmented_top p s (command.All n) above xs h = absurd h.read

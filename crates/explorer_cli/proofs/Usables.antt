@@ -1,8 +1,9 @@
 -- What is served to sessions: each has the translation of its command's problem.
-use Rattle.std.proofs.Common.{◌≡◌, ℕ, zero, suc, ◌+◌, ◌≤◌, ◌<◌, Bool, true, false, List, [], ◌∷◌, length, get_or, Contains, All, Option, None, Some, inl, inr, refl, sym, ap, subst, ◌∙◌, arith}
+use Rattle.std.proofs.Common.{◌≡◌, ℕ, zero, suc, ◌+◌, ◌≤◌, ◌<◌, Bool, true, false, List, [], ◌∷◌, length, get_or, Contains, All, AllPairs, Option, None, Some, inl, inr, refl, sym, ap, subst, ◌∙◌, arith}
 use Rattle.std.specs.Prelude.{slice_get, slice_index_or, find, cond, ◌==◌}
 use Rattle.std.specs.Global.{Vec}
 use Rattle.std.proofs.lemmas.Bool.{eqb-true, eq-eqb}
+use Rattle.std.proofs.lemmas.Bool.Decides.{nat_tests}
 use Rattle.std.proofs.lemmas.Option.{get_or_from_slice_get}
 use Rattle.std.proofs.lemmas.List.Elements.{Contains-get_or, Contains-append_left, Contains-append_right, All-contains}
 use Rattle.rel_formula.specs.Bounds.{Bounded}
@@ -70,6 +71,43 @@ all_served sessions entries xs (ms, usable, are) named k d l =
     let same : x.model ≡ 0 + x.model = omega arith in
     let asked : IsAsked sessions (0 + x.model) x.number = (x, Contains-get_or sessions k d l, same, refl) in
     served_to xs x made.0 made.1 (h.2.all x.number asked)
+
+-- ---- the translation of each command
+
+abbrev translation_in : Option ServedCommand → Option Translated
+translation_in None = None
+translation_in (Some c) = Some c.translation
+
+abbrev translation_at : ℕ → Option (Vec ServedCommand) → Option Translated
+translation_at number None = None
+translation_at number (Some made) = translation_in (find (λ (c : ServedCommand). c.number == number) made.items)
+
+-- that of a command of the model at a place
+abbrev pub translation_of : List (Vec ServedCommand) → ℕ → ℕ → Option Translated
+translation_of xs model number = translation_at number (slice_get xs model)
+
+-- numbers that rise are found at their first place
+found_first : (cs : List ServedCommand) (c : ServedCommand) (number : ℕ) → AllPairs (λ (x y : ServedCommand). x.number < y.number) cs → Contains cs c → c.number ≡ number
+    → find (λ (d : ServedCommand). d.number == number) cs ≡ Some c
+found_first [] c number rising in' is = absurd (let l = in'.1 in omega arith)
+found_first (x ∷ xs) c number rising in' is = elim (cons_cases x xs c in') [
+  | inl same ↦
+      let passes : (x.number == number) ≡ true = eq-eqb x.number number (ap (λ (d : ServedCommand). d.number) same ∙ is) in
+      ap (λ (b : Bool). cond b (Some x) (find (λ (d : ServedCommand). d.number == number) xs)) passes ∙ ap (λ (d : ServedCommand). Some d) same
+  | inr later ↦
+      let below : x.number < (get_or xs later.0 c).number = rising 0 (suc later.0) c (omega arith) (let l = later.1 in omega arith) in
+      let less : x.number < number = let e = ap (λ (d : ServedCommand). d.number) later.2 in omega (arith, below, e, is) in
+      let fails : (x.number == number) ≡ false = grind (arith, nat_tests) in
+      ap (λ (b : Bool). cond b (Some x) (find (λ (d : ServedCommand). d.number == number) xs)) fails
+      ∙ found_first xs c number (λ i j d l m. rising (suc i) (suc j) d (omega arith) (omega arith)) later is
+]
+
+-- what is served to a session is the one translation of its command
+pub translation_there : (sessions : List SessionEntry) (ms : List NamedTree) (xs : List (Vec ServedCommand)) (x : SessionEntry) (t : Translated) → AreAllMade sessions 0 ms xs → IsServedAt xs x t
+    → translation_of xs x.model x.number ≡ Some t
+translation_there sessions ms xs x t are (made, at, (c, in', number, translation)) =
+    let h = made_at sessions 0 ms xs x.model made are at in
+    ap (translation_at x.number) at ∙ ap translation_in (found_first made.items c x.number h.2.rising in' number) ∙ ap (λ (u : Translated). Some u) (sym translation)
 
 -- ---- a command that is looked up by its number
 

@@ -1,18 +1,17 @@
--- Runs of sessions: what is printed of them, and what their replies show.
-use Rattle.std.specs.Prelude.{◌≡◌, ◌≢◌, ◌<◌, ℕ, List, [], ◌∷◌, ◌++◌, length, Some, slice_get, All, AllPairs, Contains}
+-- Runs of the sessions of a script, and what is printed of them.
+use Rattle.std.specs.Prelude.{◌≡◌, ◌≤◌, ℕ, List, [], length, Option, Some, slice_get, Contains}
 use Rattle.std.specs.Global.{Vec}
 use Rattle.std.specs.List.{AllZip}
 use Rattle.rel_formula.specs.Bounds.{Bounded}
-use Rattle.swap_symmetry.specs.Due.{IsDue}
-use Rattle.translation_rules.specs.Translation.{Translated, StandsFor}
-use Rattle.translation_rules.specs.Offers.{AreOffers}
+use Rattle.translation_rules.specs.Translation.{Translated}
+use Rattle.translation.specs.Kept.{IsTranslation}
 use Rattle.session_words.specs.declared.commands.Command.{Command}
 use Rattle.session_rules.specs.declared.answers.Reply.{Reply}
-use Rattle.session_rules.specs.declared.answers.Reply.TheVariants.{Shown, All as AllShown, Partly}
 use Rattle.session_rules.specs.States.{Start}
 use Rattle.session_rules.specs.Steps.{Exchange}
 use Rattle.session_rules.specs.Transcripts.{IsTranscript}
 use Rattle.explorer_run.specs.Serving.{AreBacked}
+use Rattle.script_text.specs.Limits.{most_output}
 use Rattle.script_text.specs.Printed.{all_printed}
 use Rattle.script_text.specs.Replies.{PrintedSession, PrintsCheckableProof, IsOutput}
 use Rattle.script_format.specs.declared.entries.SessionEntry.{SessionEntry}
@@ -25,67 +24,38 @@ use Rattle.served_models.specs.Served.{IsProblemOf}
 abbrev pub AreRepliesOn : Bounded → ℕ → List Command → List Reply → List (List ℕ) → Type 0
 AreRepliesOn p budget commands replies floors = (xs : List Exchange) × IsTranscript p (Start budget) commands replies floors xs
 
--- what is printed of the session is its transcript on the problem, over a translation that stands for it, with nothing
--- imported: each proof that a reply makes, and each spent budget, has its evidence there, and `check` accepts the proofs that
--- are printed
-pub record IsRunOn (p : Bounded) (budget : ℕ) (x : SessionEntry) (s : PrintedSession) : Type 0 where
-  pub translation : Translated
-  pub stands : StandsFor p translation
+-- what is printed of the session is its transcript on the problem of this translation, which has clauses as a translation
+-- has them. Nothing is imported: each proof that a reply makes, and each spent budget, has its evidence over the
+-- translation, and `check` accepts the proofs that are printed
+pub record IsRunOn (t : Translated) (budget : ℕ) (x : SessionEntry) (s : PrintedSession) : Type 0 where
+  pub made : IsTranslation t
   pub replies : List Reply
   pub floors : List (List ℕ)
   pub exchanges : List Exchange
-  pub transcript : IsTranscript p (Start budget) x.commands replies floors exchanges
-  pub backed : AreBacked translation [] (Start budget) exchanges
-  pub checkable : AllZip (PrintsCheckableProof translation) floors replies
-  pub is : s ≡ record { problem = p; name = x.name; replies = all_printed translation floors replies }
+  pub transcript : IsTranscript t.problem (Start budget) x.commands replies floors exchanges
+  pub backed : AreBacked t [] (Start budget) exchanges
+  pub checkable : AllZip (PrintsCheckableProof t) floors replies
+  pub is : s ≡ record { problem = t.problem; name = x.name; replies = all_printed t floors replies }
 
--- the session is on a command of one of the models, and this is the command's problem
+-- a session is on a command of one of the models, and this is the command's problem
 abbrev pub IsProblemAt : List NamedTree → SessionEntry → Bounded → Type 0
 IsProblemAt models x p = (m : NamedTree) × (slice_get models x.model ≡ Some m) × IsProblemOf m x.number p
 
--- the session runs on the problem of the command on which it is
-abbrev pub IsRunAmong : ℕ → List NamedTree → SessionEntry → PrintedSession → Type 0
-IsRunAmong budget models x s = (p : Bounded) × IsProblemAt models x p × IsRunOn p budget x s
+-- which translation sessions run over: one for each command, by the place of its model and its number
+abbrev pub Translations : Type 0
+Translations = ℕ → ℕ → Option Translated
 
--- the text is the output of runs of the sessions, in order
+-- the session runs on the problem of the command on which it is, over the command's translation
+abbrev pub IsRunAmong : ℕ → List NamedTree → Translations → SessionEntry → PrintedSession → Type 0
+IsRunAmong budget models over x s = (t : Translated) × (over x.model x.number ≡ Some t) × IsProblemAt models x t.problem × IsRunOn t budget x s
+
+-- these are runs of the sessions, in order; those on one command are over one translation
+abbrev pub AreRuns : ℕ → List SessionEntry → List NamedTree → List PrintedSession → Type 0
+AreRuns budget sessions models runs = (over : Translations) × AllZip (IsRunAmong budget models over) sessions runs
+
+-- the text is the output of runs of the sessions, in order, and no longer than an output may be
 abbrev pub AreRunsOf : ℕ → List SessionEntry → List NamedTree → List ℕ → Type 0
-AreRunsOf budget sessions models text = (runs : List PrintedSession) × AllZip (IsRunAmong budget models) sessions runs × IsOutput runs text
-
--- the reply at a place, and the top floor before it
-abbrev pub IsReplyAt : List Reply → List (List ℕ) → ℕ → Reply → List ℕ → Type 0
-IsReplyAt replies floors place reply floor = (slice_get replies place ≡ Some reply) × (slice_get floors place ≡ Some floor)
-
--- the reply shows the scenario, maybe again
-abbrev pub Shows : Reply → List ℕ → Type 0
-Shows (Shown number scenario) x = x ≡ scenario
-Shows (AllShown scenarios) x = Contains scenarios x
-Shows (Partly first scenarios) x = Contains scenarios x
-Shows reply x = ⊥
-
--- the reply shows the scenario for the first time
-abbrev pub ShowsNew : Reply → List ℕ → Type 0
-ShowsNew (AllShown scenarios) x = ⊥
-ShowsNew reply x = Shows reply x
-
--- what was shown at a floor before this place: all of it is due, none twice; what the replies before show there is among it
-pub record IsShownBefore (p : Bounded) (replies : List Reply) (floors : List (List ℕ)) (place : ℕ) (floor : List ℕ) (shown : List (List ℕ)) : Type 0 where
-  pub due : All (IsDue p floor) shown
-  pub once : AllPairs (λ x y. x ≢ y) shown
-  pub told : (earlier : ℕ) (reply : Reply) (x : List ℕ) → earlier < place → IsReplyAt replies floors earlier reply floor → Shows reply x → Contains shown x
-
--- the floor has ended at this place: all that is due counts as shown, and that is so many
-pub record EndsAt (p : Bounded) (replies : List Reply) (floors : List (List ℕ)) (place : ℕ) (floor : List ℕ) (number : ℕ) : Type 0 where
-  pub shown : List (List ℕ)
-  pub before : IsShownBefore p replies floors place floor shown
-  pub all : (x : List ℕ) → IsDue p floor x → Contains shown x
-  pub number_is : number ≡ length shown
-
--- the cells are all that some instance adds to a scenario that is due at the floor, in order
-pub record OffersAt (p : Bounded) (replies : List Reply) (floors : List (List ℕ)) (place : ℕ) (floor cells : List ℕ) : Type 0 where
-  pub earlier : List (List ℕ)
-  pub current : List ℕ
-  pub before : IsShownBefore p replies floors place floor (earlier ++ current ∷ [])
-  pub offers : AreOffers p current cells
+AreRunsOf budget sessions models text = (runs : List PrintedSession) × AreRuns budget sessions models runs × IsOutput runs text × (length text ≤ most_output)
 
 -- ---- what the code has served
 
@@ -98,10 +68,10 @@ IsServedAt models x t =
 abbrev pub IsServed : List (Vec ServedCommand) → SessionEntry → Type 0
 IsServed models x = (t : Translated) × IsServedAt models x t
 
--- the session runs on the problem of that translation
+-- the session runs over that translation
 abbrev pub IsRunOver : ℕ → List (Vec ServedCommand) → SessionEntry → PrintedSession → Type 0
-IsRunOver budget models x s = (t : Translated) × IsServedAt models x t × IsRunOn t.problem budget x s
+IsRunOver budget models x s = (t : Translated) × IsServedAt models x t × IsRunOn t budget x s
 
--- the text is the output of runs of the sessions over these translations, in order
+-- the text is the output of runs of the sessions over these translations, in order, and no longer than an output may be
 abbrev pub AreRunsOver : ℕ → List SessionEntry → List (Vec ServedCommand) → List ℕ → Type 0
-AreRunsOver budget sessions models text = (runs : List PrintedSession) × AllZip (IsRunOver budget models) sessions runs × IsOutput runs text
+AreRunsOver budget sessions models text = (runs : List PrintedSession) × AllZip (IsRunOver budget models) sessions runs × IsOutput runs text × (length text ≤ most_output)

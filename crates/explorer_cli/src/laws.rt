@@ -1,26 +1,50 @@
 // Laws of the definitions: each is the contract of a function that does nothing.
-ghost use Rattle.std.specs.Prelude.{◌≡◌, ◌≢◌, ◌↔◌, ℕ, List, AllPairs, Contains};
+ghost use Rattle.std.specs.Prelude.{◌≡◌, ◌≢◌, ◌↔◌, ◌<◌, ◌≤◌, ◌+◌, ◌++◌, ◌∷◌, [], ℕ, Bool, List, Some, codes, length, slice_get, All, AllPairs, Contains};
+ghost use Rattle.cnf_core.specs.declared.literal.Lit.{Lit as LitData};
+ghost use Rattle.cnf_core.specs.Valuation.{Satisfies};
+ghost use Rattle.refutation_check.specs.declared.log.Step.{Step as LogStep};
+ghost use Rattle.refutation_check.specs.Chain.{IsRefutation};
+ghost use Rattle.refutation_check.specs.WrittenProof.{proof_text};
 ghost use Rattle.rel_formula.specs.Bounds.{Bounded};
 ghost use Rattle.rel_formula.specs.Instance.{IsMinimalAbove};
+ghost use Rattle.rel_terms.specs.Terms.{HasTerms};
 ghost use Rattle.swap_symmetry.specs.Due.{IsDue};
 ghost use Rattle.swap_symmetry.specs.Order.{IsEarlier};
+ghost use Rattle.translation_rules.specs.Offers.{IsPossible};
+ghost use Rattle.translation_rules.specs.Translation.{Translated, StandsFor};
+ghost use Rattle.translation.specs.Kept.{IsSmall};
 ghost use Rattle.session_words.specs.declared.commands.Command.{Command as CommandData};
+ghost use Rattle.session_words.specs.declared.commands.Command.TheVariants.{All as AskedAll};
+ghost use Rattle.session_words.specs.declared.steps.Step.{Step as StepData};
 ghost use Rattle.session_rules.specs.ProofOfEnd.{ProofOfEnd};
 ghost use Rattle.session_rules.specs.Proofs.{HasRenamingAmong};
+ghost use Rattle.session_rules.specs.States.{State, top_floor};
+ghost use Rattle.session_rules.specs.Evidence.{IsSpentOn};
+ghost use Rattle.session_rules.specs.declared.answers.WorkDone.{WorkDone};
+ghost use Rattle.session_rules.specs.declared.answers.Refusal.TheVariants.{NoInstance, Spent};
 ghost use Rattle.session_rules.specs.declared.answers.Reply.{Reply};
-ghost use Rattle.session_rules.specs.declared.answers.Reply.TheVariants.{End, Offers, All as AllShown, Partly};
+ghost use Rattle.session_rules.specs.declared.answers.Reply.TheVariants.{End, Offers, Augmented, Back, All as AllShown, Partly, Refused};
 ghost use Rattle.script_format.specs.declared.entries.Script.{Script as ScriptData};
 ghost use Rattle.script_format.specs.declared.entries.SessionEntry.{SessionEntry as SessionData};
 ghost use Rattle.script_format.specs.declared.fault.ScriptFault.{ScriptFault as ScriptFaultData};
 ghost use Rattle.script_format.specs.Script.{IsScript, HasFault};
 ghost use Rattle.script_text.specs.Faults.{script_line, fault_words};
-ghost use Rattle.script_text.specs.Replies.{PrintedSession};
+ghost use Rattle.script_text.specs.Printable.{IsWritable};
+ghost use Rattle.script_text.specs.Printed.{proved};
+ghost use Rattle.script_text.specs.Proofs.Printed.{IsAcceptedText};
+ghost use Rattle.script_text.specs.Replies.{PrintedSession, IsOutput};
 ghost use Rattle.named_model.specs.Model.{NamedTree};
 ghost use Rattle.served_models.specs.Served.{IsProblemOf, AreUsable, IsFirstRefused, model_line};
 ghost use Rattle.explorer_cli.specs.Outcome.{IsAnswerTo};
-ghost use Rattle.explorer_cli.specs.Runs.{AreRepliesOn, IsProblemAt, IsRunAmong, AreRunsOf, IsReplyAt, Shows, ShowsNew, EndsAt, OffersAt};
+ghost use Rattle.explorer_cli.specs.Runs.{AreRepliesOn, IsRunOn, IsProblemAt, Translations, IsRunAmong, AreRuns, AreRunsOf};
+ghost use Rattle.explorer_cli.specs.Shown.{AllKeepFloors, IsReplyAt, Shows, ShowsNew, EndsAt, OffersAt, AsksAt, AsksForList, IsListed};
 
 use lowering_rules::laws::problems_are_symmetric;
+use refutation_check::accepted_is_entailed;
+use script_format::laws::scripts_keep_to_limits;
+use script_text::laws::{
+    equal_outputs_agree, transcripts_may_be_printed, what_is_printed_has_one_text,
+};
 use served_models::laws::models_are_used_one_way;
 use session_rules::laws::{a_run_is_sound, an_all_lists_what_is_due};
 use swap_symmetry::laws::each_minimal_has_a_due_renaming_beside;
@@ -45,7 +69,7 @@ pub fn a_session_has_one_problem()
     ensures models { (bytes : List ℕ) (s t : ScriptData) (ms ns : List NamedTree) → IsScript bytes s → IsScript bytes t
         → AreUsable s.sessions 0 s.models ms → AreUsable t.sessions 0 t.models ns → ms ≡ ns }
     ensures problem { (models : List NamedTree) (x : SessionData) (p q : Bounded) → IsProblemAt models x p → IsProblemAt models x q → p ≡ q }
-    ensures run { (budget : ℕ) (models : List NamedTree) (x : SessionData) (s : PrintedSession) (p : Bounded) → IsRunAmong budget models x s → IsProblemAt models x p → s.problem ≡ p }
+    ensures run { (budget : ℕ) (models : List NamedTree) (over : Translations) (x : SessionData) (s : PrintedSession) (p : Bounded) → IsRunAmong budget models over x s → IsProblemAt models x p → s.problem ≡ p }
 {
     models_are_used_one_way();
 }
@@ -71,11 +95,11 @@ pub fn none_is_shown_twice()
     a_run_is_sound();
 }
 
-/// At an end all that is due at the floor counts as shown there, what replies showed before is among it, and the end's number is
-/// how many scenarios these are.
+/// At an end all that is due at the floor counts as shown there, and the end's number is how many scenarios these are. What
+/// replies showed before is among it, and nothing else is, but for what an `all` had found that was refused or wanted memory.
 pub fn an_end_shows_all()
     ensures { (p : Bounded) (budget : ℕ) (commands : List CommandData) (replies : List Reply) (floors : List (List ℕ)) → AreRepliesOn p budget commands replies floors
-        → (place number : ℕ) (proof : ProofOfEnd) (floor : List ℕ) → IsReplyAt replies floors place (End number proof) floor → EndsAt p replies floors place floor number }
+        → (place number : ℕ) (proof : ProofOfEnd) (floor : List ℕ) → IsReplyAt replies floors place (End number proof) floor → EndsAt p commands replies floors place floor number }
 {
     a_run_is_sound();
 }
@@ -89,11 +113,33 @@ pub fn a_list_has_all()
     an_all_lists_what_is_due();
 }
 
-/// Offers are exactly the cells that some instance adds to a scenario that is due at the floor: the machine says that it is the
-/// current one.
+/// Offers are exactly the cells that some instance adds to the current scenario, which is due at the floor; none of them is in it.
 pub fn offers_are_possible()
+    ensures exactly { (p : Bounded) (budget : ℕ) (commands : List CommandData) (replies : List Reply) (floors : List (List ℕ)) → AreRepliesOn p budget commands replies floors
+        → (place : ℕ) (cells floor : List ℕ) → IsReplyAt replies floors place (Offers cells) floor → OffersAt p commands replies floors place floor cells }
+    ensures outside { (p : Bounded) (commands : List CommandData) (replies : List Reply) (floors : List (List ℕ)) (place : ℕ) (floor cells : List ℕ)
+        → (x : OffersAt p commands replies floors place floor cells) → (cell : ℕ) → Contains cells cell → ¬ Contains x.current cell }
+{
+    a_run_is_sound();
+}
+
+/// An `all` that is answered by a part of what is due shows just as many scenarios as it asks for.
+pub fn parts_are_as_many_as_were_asked()
     ensures { (p : Bounded) (budget : ℕ) (commands : List CommandData) (replies : List Reply) (floors : List (List ℕ)) → AreRepliesOn p budget commands replies floors
-        → (place : ℕ) (cells floor : List ℕ) → IsReplyAt replies floors place (Offers cells) floor → OffersAt p replies floors place floor cells }
+        → (place number asked : ℕ) (scenarios : List (List ℕ)) (floor : List ℕ) → IsReplyAt replies floors place (Partly number scenarios) floor → slice_get commands place ≡ Some (AskedAll asked)
+        → length scenarios ≡ asked }
+{}
+
+/// An augmentation that succeeds leads to the floor that it asks for, the current scenario with one cell more, which some
+/// instance has; one that is refused as `no_instance` asks for a floor that no instance has.
+pub fn augmentations_are_exact()
+    ensures augmented { (p : Bounded) (budget : ℕ) (commands : List CommandData) (replies : List Reply) (floors : List (List ℕ)) → AreRepliesOn p budget commands replies floors
+        → (place : ℕ) (floor above : List ℕ) → IsReplyAt replies floors place (Augmented above) floor → AsksAt p commands replies floors place floor above × IsPossible p above }
+    ensures next { (p : Bounded) (budget : ℕ) (commands : List CommandData) (replies : List Reply) (floors : List (List ℕ)) → AreRepliesOn p budget commands replies floors
+        → (place : ℕ) (floor above later : List ℕ) → IsReplyAt replies floors place (Augmented above) floor → slice_get floors (place + 1) ≡ Some later → later ≡ above }
+    ensures no_instance { (p : Bounded) (budget : ℕ) (commands : List CommandData) (replies : List Reply) (floors : List (List ℕ)) → AreRepliesOn p budget commands replies floors
+        → (place : ℕ) (floor : List ℕ) (proof : ProofOfEnd) → IsReplyAt replies floors place (Refused (NoInstance proof)) floor
+        → (above : List ℕ) × AsksAt p commands replies floors place floor above × (¬ IsPossible p above) }
 {
     a_run_is_sound();
 }
@@ -108,4 +154,70 @@ pub fn nothing_is_left()
     a_run_is_sound();
     problems_are_symmetric();
     each_minimal_has_a_due_renaming_beside();
+}
+
+/// `back` undoes an augmentation: it leads to the floor at which that was asked for, where no reply between the two adds a floor
+/// or leaves one.
+pub fn back_leads_to_the_floor_below()
+    ensures { (p : Bounded) (budget : ℕ) (commands : List CommandData) (replies : List Reply) (floors : List (List ℕ)) → AreRepliesOn p budget commands replies floors
+        → (first second : ℕ) (floor above top later : List ℕ) → IsReplyAt replies floors first (Augmented above) floor → IsReplyAt replies floors second Back top → first < second
+        → AllKeepFloors replies first second → slice_get floors (second + 1) ≡ Some later → later ≡ floor }
+{}
+
+/// Sessions on one command run over one translation. It stands for the command's problem, and is no larger than that asks for.
+pub fn a_command_has_one_translation()
+    ensures stands { (t : Translated) (budget : ℕ) (x : SessionData) (s : PrintedSession) → IsRunOn t budget x s → StandsFor s.problem t }
+    ensures small { (t : Translated) (budget : ℕ) (x : SessionData) (s : PrintedSession) → IsRunOn t budget x s → (terms : ℕ) → HasTerms s.problem terms → IsSmall t terms }
+    ensures one { (budget : ℕ) (models : List NamedTree) (over : Translations) (x y : SessionData) (s r : PrintedSession) → (run : IsRunAmong budget models over x s) → (other : IsRunAmong budget models over y r)
+        → x.model ≡ y.model → x.number ≡ y.number → run.0 ≡ other.0 }
+{}
+
+/// A proof that is printed refutes the clauses that are printed with it, the first of which are the translation's: no valuation
+/// satisfies them all. Where its lines are no longer than a proof text may be, `check` accepts them.
+pub fn printed_proofs_are_right()
+    ensures { (t : Translated) (budget : ℕ) (x : SessionData) (s : PrintedSession) → IsRunOn t budget x s
+        → (place : ℕ) (clauses : List (List LitData)) (log : List LogStep) → slice_get s.replies place ≡ Some (proved clauses log)
+        → IsRefutation clauses log × ((v : ℕ → Bool) → ¬ Satisfies v clauses) × ((local : List (List LitData)) × (clauses ≡ t.cnf.clauses ++ local))
+        × (length (proof_text clauses log) ≤ 268435456 → IsAcceptedText (proof_text clauses log)) }
+{
+    accepted_is_entailed();
+}
+
+/// A budget that is told as spent was spent: the work of a step at that floor, over the translation, has exactly so many units.
+pub fn spent_budgets_were_spent()
+    ensures { (t : Translated) (budget : ℕ) (x : SessionData) (s : PrintedSession) → (run : IsRunOn t budget x s) → (place : ℕ) (done : WorkDone) (floor : List ℕ)
+        → IsReplyAt run.replies run.floors place (Refused (Spent done)) floor → (old : State) × (step : StepData) × (top_floor old ≡ floor) × IsSpentOn t [] old step done }
+{}
+
+/// The output begins with the line of the first session's name.
+pub fn outputs_begin_with_a_name()
+    ensures { (budget : ℕ) (x : SessionData) (sessions : List SessionData) (models : List NamedTree) (text : List ℕ) → AreRunsOf budget (x ∷ sessions) models text
+        → (rest : List ℕ) × (text ≡ codes "== " ++ x.name ++ codes "\n" ++ rest) }
+{}
+
+/// Bytes fix what is printed: where the names of the problems' relations are such as a text can tell apart, two lists of runs of
+/// one script with one text print the same.
+pub fn bytes_fix_what_is_printed()
+    ensures { (bytes : List ℕ) (s : ScriptData) (models : List NamedTree) → IsScript bytes s → ((x : SessionData) (p : Bounded) → Contains s.sessions x → IsProblemAt models x p → IsWritable p)
+        → (budget other : ℕ) → budget ≤ 100000 → other ≤ 100000 → (runs more : List PrintedSession) → AreRuns budget s.sessions models runs → AreRuns other s.sessions models more
+        → (text : List ℕ) → IsOutput runs text → IsOutput more text → runs ≡ more }
+{
+    a_run_is_sound();
+    equal_outputs_agree();
+    models_are_used_one_way();
+    scripts_keep_to_limits();
+    transcripts_may_be_printed();
+}
+
+/// A script of `all` and `budget` alone has one output, where each `all` reaches the end of its floor: whatever was searched
+/// first, over whichever translations, and from whichever budget.
+pub fn lists_are_one_text()
+    ensures { (budget other : ℕ) (sessions : List SessionData) (models : List NamedTree) (runs more : List PrintedSession) → AreRuns budget sessions models runs → AreRuns other sessions models more
+        → All (λ x. All AsksForList x.commands) sessions → All (λ s. All IsListed s.replies) runs → All (λ s. All IsListed s.replies) more
+        → (text words : List ℕ) → IsOutput runs text → IsOutput more words → text ≡ words }
+{
+    a_run_is_sound();
+    what_is_printed_has_one_text();
+    an_all_lists_what_is_due();
+    models_are_used_one_way();
 }

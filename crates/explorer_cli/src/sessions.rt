@@ -8,14 +8,15 @@ use explorer_run::serve;
 use refutation_check::Log;
 use script_format::SessionEntry;
 use script_text::laws::texts_go_on;
-use script_text::session_text;
+use script_text::{fits_output, session_text};
 use served_models::ServedCommand;
 use std::alloc::{AllocError, Global};
 use translation::Translation;
 
 /// The texts of sessions, one after the other, each served from the start with this budget over the translation of
 /// its command's problem, among those of the model of its place. The budgets are at most 100,000, and each session asks for at
-/// most 20,000 scenarios.
+/// most 20,000 scenarios. The error comes only for want of memory, which is told too where the texts would be longer than an output
+/// may be.
 pub fn text_of_sessions(
     alloc: Global,
     budget: u32,
@@ -33,6 +34,7 @@ pub fn text_of_sessions(
     for session in sessions {
         let translation = translation_of(models, session);
         let lines = run(alloc, budget, session, translation)?;
+        fits_output(text.len(), lines.len())?;
         text.extend_from_slice(&lines)?;
     }
     Ok(text)
@@ -66,7 +68,7 @@ fn run(
     requires budget { budget ≤ 100000 }
     requires allowed { All IsAllowed session.now.commands }
     requires asked { asked_by session.now.commands ≤ 20000 }
-    ensures { IfOk result (λ text. (s : PrintedSession) × IsRunOn translation.now.problem budget session.now s × IsSessionText s.problem s.name s.replies text.items) }
+    ensures { IfOk result (λ text. (s : PrintedSession) × IsRunOn translation.now budget session.now s × IsSessionText s.problem s.name s.replies text.items) }
 {
     let _ = translation.problem(); // for the proof
     let pool = Log::new(alloc);

@@ -28,6 +28,10 @@ same_front P (z ∷ xs) (w ∷ ys) a b x y px py na nb e =
 own : IsNumeralModel (AllByRecursion IsDigit) (number_after 0)
 own = numerals_by_fold _ (search rules) number_after (search rules)
 
+-- what a number is written with
+pub digits_written : (n : ℕ) → n < 2 ^ 64 → AllByRecursion IsDigit (decimal n)
+digits_written n l = digits_decimal own n l
+
 -- a number, up to the first byte that is no digit
 pub same_number : (m n a b : ℕ) (x y : List ℕ) → m < 2 ^ 64 → n < 2 ^ 64 → ¬ IsDigit a → ¬ IsDigit b → decimal m ++ a ∷ x ≡ decimal n ++ b ∷ y → (m ≡ n) × (a ∷ x ≡ b ∷ y)
 same_number m n a b x y l k na nb e =

@@ -1,5 +1,6 @@
 pub mod AnsweredTranscripts
 pub mod Cuts
+pub mod OneText
 pub mod ProofLineTexts
 pub mod ReplyLemmas
 pub mod SameOutputs

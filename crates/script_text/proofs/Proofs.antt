@@ -1,4 +1,3 @@
-pub mod Accepted
 pub mod Hints
 pub mod Sizes
 pub mod Vars

@@ -1,5 +1,6 @@
 pub mod Asked
 pub mod Faults
+pub mod Limits
 pub mod Lines
 pub mod Printable
 pub mod Printed

@@ -95,7 +95,8 @@ abbrev pub PrintsRightProof : Translated → List ℕ → Reply → Type 0
 PrintsRightProof t floor (reply.Proof proof) = Proves t floor End proof
 PrintsRightProof t floor r = Unit {0}
 
--- the lines of a proof that the reply prints are accepted by `check`, where they are no longer than a proof text may be
+-- the lines of a proof that the reply prints can be read, and are accepted by `check` where they are no longer than a proof
+-- text may be
 abbrev pub PrintsCheckableProof : Translated → List ℕ → Reply → Type 0
 PrintsCheckableProof t floor (reply.Proof proof) = IsCheckable t floor End proof
 PrintsCheckableProof t floor r = Unit {0}

@@ -29,6 +29,12 @@ pub fn texts_go_on()
         → IsOutput (ss ++ next ∷ []) (text ++ lines) }
 {}
 
+/// What is printed has one text: a reply its lines, and sessions their output.
+pub fn what_is_printed_has_one_text()
+    ensures reply { (p : Bounded) (r : Printed) (text words : List ℕ) → IsReplyText p r text → IsReplyText p r words → text ≡ words }
+    ensures output { (ss : List PrintedSession) (text words : List ℕ) → IsOutput ss text → IsOutput ss words → text ≡ words }
+{}
+
 /// What is printed of a transcript may be printed for its commands, where each that asks for several scenarios asks for one at
 /// least.
 pub fn transcripts_may_be_printed()

@@ -8,7 +8,8 @@ use crate::scenario_lines::push_scenario;
 use rel_formula::{Problem, Scenario};
 use std::alloc::{AllocError, Global};
 
-/// Adds the lines of all scenarios of a floor, and how many there are. They are the problem's.
+/// Adds the lines of all scenarios of a floor, and how many there are. They are the problem's. The error comes only for want of
+/// memory.
 pub fn push_all(
     alloc: Global,
     out: &mut Vec<u8>,
@@ -40,8 +41,9 @@ pub fn push_partly(
     Ok(())
 }
 
-// Adds the lines of scenarios, each under a word and its number.
-fn push_numbered(
+/// Adds the lines of scenarios, each under a line of a word, with the space behind it, and its number, from the first one on.
+/// They are the problem's. The error comes only for want of memory.
+pub fn push_numbered(
     alloc: Global,
     out: &mut Vec<u8>,
     problem: &Problem,

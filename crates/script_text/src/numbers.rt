@@ -13,7 +13,7 @@ pub fn push_number(out: &mut Vec<u8>, number: u64) -> Result<(), AllocError>
     Ok(())
 }
 
-/// Adds the line of a word, with the space behind it, and a number.
+/// Adds the line of a word, with the space behind it, and a number. The error comes only for want of memory.
 pub fn push_number_line(out: &mut Vec<u8>, word: &[u8], number: u64) -> Result<(), AllocError>
     ensures { IfOk result (λ _. out.new.items ≡ out.old.items ++ (word.now ++ decimal number ++ codes "\n")) }
 {

@@ -27,7 +27,8 @@ pub fn push_shown(
     Ok(())
 }
 
-/// Adds a line for each relation, with its value in the scenario, which is one of the problem's.
+/// Adds a line for each relation, with its value in the scenario, which is one of the problem's. The error comes only for want
+/// of memory.
 pub fn push_scenario(
     alloc: Global,
     out: &mut Vec<u8>,

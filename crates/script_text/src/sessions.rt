@@ -1,13 +1,15 @@
 // The text of a session whose replies may print proofs.
-ghost use Rattle.std.specs.Prelude.{◌≡◌, ◌+◌, ◌++◌, ℕ, List, length, codes, decimal, All, IfOk};
+ghost use Rattle.std.specs.Prelude.{◌≡◌, ◌≤◌, ◌+◌, ◌++◌, ℕ, List, length, codes, decimal, All, IfOk};
 ghost use Rattle.std.specs.List.{AllZip};
 ghost use Rattle.rel_formula.specs.Instance.{AreCells};
 ghost use Rattle.session_rules.specs.Proofs.{Proves};
+ghost use Rattle.script_text.specs.Limits.{most_output};
 ghost use Rattle.script_text.specs.Proofs.Printed as spec;
 ghost use Rattle.script_text.specs.Printed.{printed, all_printed};
 ghost use Rattle.script_text.specs.Replies.{NamesCellsOf, PrintsRightProof, PrintsCheckableProof, IsReplyText, IsSessionText};
 
 use crate::answer_lines::push_answer;
+use crate::limits::fits_output;
 use crate::numbers::push_number_line;
 use crate::proof_lines::text_of_proof;
 use rel_formula::Scenario;
@@ -17,7 +19,8 @@ use translation::Translation;
 
 /// The text of a session: its name and the lines of its replies, each at its floor. Floors, and the cells that replies name,
 /// are the problem's. Each proof that is asked for is one of the end of its floor over the translation; `check` accepts the
-/// lines of each that is no longer than a proof text may be. The error comes only for want of memory.
+/// lines of each that is no longer than a proof text may be. The error comes only for want of memory, which is told too where
+/// the text would be longer than an output may be.
 pub fn session_text(
     alloc: Global,
     name: &str,
@@ -29,10 +32,13 @@ pub fn session_text(
     requires proofs { AllZip (PrintsRightProof translation.now) transcript.now.floors transcript.now.replies }
     ensures text { IfOk result (λ text. IsSessionText translation.now.problem name.now (all_printed translation.now transcript.now.floors transcript.now.replies) text.items) }
     ensures checkable { IfOk result (λ _. AllZip (PrintsCheckableProof translation.now) transcript.now.floors transcript.now.replies) }
+    ensures fits { IfOk result (λ text. length text.items ≤ most_output) }
 {
     let floors = transcript.floors.scenarios();
     let replies = transcript.replies.replies();
-    Ok(text_at(alloc, name, translation, floors, replies)?)
+    let text = text_at(alloc, name, translation, floors, replies)?;
+    fits_output(text.len(), 0)?;
+    Ok(text)
 }
 
 // The text of a session with these replies, each at the floor of its place.
@@ -53,6 +59,7 @@ fn text_at(
     push_name(&mut out, name)?;
     for (place, reply) in replies.iter().enumerate() {
         push_reply_at(alloc, &mut out, translation, &floors[place], reply)?;
+        fits_output(out.len(), 0)?;
     }
     Ok(out)
 }
@@ -107,6 +114,7 @@ fn push_proof(
 {
     let lines = text_of_proof(alloc, translation, floor, ProofKind::End, proof)?;
     push_number_line(out, b"proof ", lines.lines)?;
+    fits_output(out.len(), lines.text.len())?;
     out.extend_from_slice(&lines.text)?;
     Ok(())
 }

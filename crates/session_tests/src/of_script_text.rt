@@ -4,7 +4,10 @@ ghost use Rattle.std.specs.Prelude.{◌≡◌, IfOk};
 use crate::large_sets::translated;
 use rel_formula::Scenario;
 use sample_problems::scenario_of;
-use script_text::{push_reply_at, session_text};
+use script_text::{
+    MOST_OUTPUT, fits_output, push_all, push_number_line, push_numbered, push_reply_at,
+    push_scenario, session_text,
+};
 use session_rules::{CellNumbers, Refusal, Replies, Reply, Scenarios, Transcript};
 use std::alloc::{AllocError, Global};
 use std::test::Fail;
@@ -105,5 +108,38 @@ fn replies_without_cells(rt: HostRuntime) -> Result<(), Fail> {
     let text = plain_replies(alloc, &made)?;
     let told: &[u8] = b"budget 7\nrefused deep\n";
     assert!(rt; text.as_slice() == told);
+    Ok(())
+}
+
+// A scenario's lines under a number; numbered, under a word; and as all of a floor.
+fn scenario_told(alloc: Global, made: &Translation) -> Result<Vec<u8>, AllocError> {
+    let problem = made.problem();
+    let second = scenario_of(alloc, problem, 0b10)?;
+    let mut out = Vec::new(alloc);
+    push_number_line(&mut out, b"class ", 12)?;
+    push_scenario(alloc, &mut out, problem, &second)?;
+    let scenarios = vec![in alloc; second]?;
+    push_numbered(alloc, &mut out, problem, b"member ", 4, &scenarios)?;
+    push_all(alloc, &mut out, problem, &scenarios)?;
+    Ok(out)
+}
+
+#[test]
+fn lines_for_other_texts(rt: HostRuntime) -> Result<(), Fail> {
+    let alloc = rt.alloc();
+    let made = translated(alloc, &[0, 1])?;
+    let text = scenario_told(alloc, &made)?;
+    let told: &[u8] = b"class 12\nA = {A$1}\nmember 4\nA = {A$1}\nlisted 1\nA = {A$1}\nend 1\n";
+    assert!(rt; text.as_slice() == told);
+    Ok(())
+}
+
+#[test]
+fn an_output_has_a_limit(rt: HostRuntime) -> Result<(), Fail> {
+    assert!(rt; fits_output(0, MOST_OUTPUT).is_ok());
+    assert!(rt; fits_output(MOST_OUTPUT - 1, 1).is_ok());
+    assert!(rt; fits_output(MOST_OUTPUT, 1).is_err());
+    assert!(rt; fits_output(1, usize::MAX).is_err());
+    assert!(rt; fits_output(MOST_OUTPUT + 1, 0).is_err());
     Ok(())
 }

@@ -1,9 +1,10 @@
 -- The formula and the log that are printed of a proof, and what `check` answers to them.
-use Rattle.std.specs.Prelude.{◌≡◌, ◌≤◌, ◌++◌, ℕ, List, [], ◌∷◌, max, length, codes}
+use Rattle.std.specs.Prelude.{◌≤◌, ◌++◌, ℕ, List, [], ◌∷◌, max, length, codes}
 use Rattle.cnf_core.specs.declared.literal.Lit.{Lit}
-use Rattle.cnf_core.specs.Formula.{Formula}
+use Rattle.cnf_core.specs.Formula.{Formula, IsFormula}
 use Rattle.refutation_check.specs.declared.log.Step.{Step}
-use Rattle.refutation_check.specs.WrittenProof.{proof_text}
+use Rattle.refutation_check.specs.Log.{IsLog}
+use Rattle.refutation_check.specs.WrittenProof.{proof_text, HasHintsInRange}
 use Rattle.proof_command.specs.Answer.{IsAnswerTo}
 use Rattle.translation_rules.specs.Translation.{SwapClauses, Translated}
 use Rattle.session_rules.specs.ProofOfEnd.{ProofOfEnd}
@@ -31,10 +32,14 @@ log_of_proof t floor kind proof = whole_log t (locals_for t floor kind proof.blo
 abbrev pub text_of_proof : Translated → List ℕ → ProofKind → ProofOfEnd → List ℕ
 text_of_proof t floor kind proof = proof_text (clauses_of_proof t floor kind proof) (log_of_proof t floor kind proof)
 
--- whatever `check` answers to these bytes, it is that they are accepted
+-- the bytes are a proof text, and `check` accepts it
 abbrev pub IsAcceptedText : List ℕ → Type 0
-IsAcceptedText bytes = (status : ℕ) (answer : List ℕ) → IsAnswerTo bytes status answer → (status ≡ 0) × (answer ≡ codes "accepted\n")
+IsAcceptedText bytes = IsAnswerTo bytes 0 (codes "accepted\n")
 
--- so are the lines of the proof, where they are no longer than a proof text may be
-abbrev pub IsCheckable : Translated → List ℕ → ProofKind → ProofOfEnd → Type 0
-IsCheckable t floor kind proof = let text = text_of_proof t floor kind proof in length text ≤ 268435456 → IsAcceptedText text
+-- what is printed of the proof is a formula, and a log whose hints are numbers of a proof text; where the lines are no longer
+-- than a proof text may be, they are accepted
+pub record IsCheckable (t : Translated) (floor : List ℕ) (kind : ProofKind) (proof : ProofOfEnd) : Type 0 where
+  pub formula : IsFormula (formula_of_proof t floor kind proof)
+  pub log : IsLog (log_of_proof t floor kind proof)
+  pub hints : HasHintsInRange (log_of_proof t floor kind proof)
+  pub accepted : length (text_of_proof t floor kind proof) ≤ 268435456 → IsAcceptedText (text_of_proof t floor kind proof)

@@ -10,14 +10,10 @@ ghost use Rattle.swap_symmetry.specs.Due.{IsDue};
 ghost use Rattle.session_rules.specs.Proofs.{IsCovered};
 ghost use Rattle.script_text.specs.Proofs.Printed.{IsAcceptedText};
 
-use refutation_check::bytes_say_one_proof;
-
 /// A proof text that says a formula and a refutation of it is accepted.
 pub fn refutations_are_accepted()
     ensures { (bytes : List ℕ) (f : Formula) (log : List LogStep) → IsProofText bytes f log → IsRefutation f.clauses log → IsAcceptedText bytes }
-{
-    bytes_say_one_proof();
-}
+{}
 
 /// What the proof of an end may block is of the problem's cells.
 pub fn covered_scenarios_are_cells()

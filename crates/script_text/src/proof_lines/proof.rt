@@ -76,6 +76,7 @@ pub fn text_of_proof(
 {
     refutations_are_accepted();
     let (formula, log) = proof_of(alloc, translation, floor, kind, proof)?;
+    let _ = formula.vars(); // for the proof
     let lines = u64::from(formula.len()) + log.steps().len() as u64;
     let text = write_proof(alloc, &formula, &log)?;
     Ok(ProofText { lines, text })

@@ -8,5 +8,5 @@ returns c =
     record {
       models = one_list_of law.models;
       problem = one_problem_at law.problem;
-      run = λ budget models x s p. one_run_at law.problem models x budget s p;
+      run = λ budget models over x s p. one_run_at law.problem models x budget over s p;
     }

@@ -1,4 +1,4 @@
-use Rattle.std.proofs.Common.{◌≤◌, ◌∙◌, ◌++◌, All, List, ℕ, ap}
+use Rattle.std.proofs.Common.{◌≤◌, ◌∙◌, ◌++◌, All, List, ℕ, length-append, ap, arith}
 use Rattle.tuple_core.proofs.Steps.{all_at}
 use Rattle.script_format.specs.declared.entries.SessionEntry.{SessionEntry}
 use Rattle.script_format.specs.Limits.{IsAllowed, asked_by}
@@ -21,3 +21,4 @@ loop-session-preserved c =
     c.loop-session.text.items c.extend_from_slice.new.self.items c.in_ok-lines.lines.items
     c.loop-session-test.true c.session-item.is c.translation_of-translation.ensures
     (c.in_ok-extend_from_slice.ensures.items ∙ ap (λ (xs : List ℕ). c.loop-session.text.items ++ xs) c.deref.ensures.value) c.loop-session.invariant c.in_ok-lines.ensures
+    (let joined = length-append c.loop-session.text.items c.in_ok-lines.lines.items in omega (arith, joined, c.in_ok-fits_output.ensures.ok))
