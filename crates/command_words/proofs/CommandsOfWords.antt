@@ -18,7 +18,7 @@ use Rattle.command_words.specs.declared.reading.Command.TheVariants.{Run, Check}
 use Rattle.command_words.proofs.LongWords.{dashes}
 use Rattle.command_words.proofs.Numbers.{accepted_number, minus_off, number_in_range, number_plain}
 use Rattle.command_words.proofs.Options.{AllPlain, Pass, Use, all_written, has_dashes, name_of, spelled, use_kinds, use_rows, used_all, written}
-use Rattle.command_words.proofs.Program.{IsRun, accepted, check_passes, check_rows, rows_of_run, run_passes}
+use Rattle.command_words.proofs.Program.{HasUses, accepted, check_passes, check_rows, rows_of_options, run_passes}
 
 -- ---- one use
 
@@ -52,7 +52,7 @@ use_passes true v rows is = ap₂ kinds_by is.fresh is.takes
 use_passes false v rows is = ap₂ kinds_by is.fresh is.takes
 
 abbrev matched : List Use → List Row
-matched uses = rows_of_run (used_all [] uses)
+matched uses = rows_of_options (used_all [] uses)
 
 -- ---- what is read of the matches
 
@@ -300,7 +300,7 @@ run_is_no_check options e = absurd (cc)
 same_rows : (name : Text) (xs ys : List Row) → ◌≡◌ {A = Found} (Some (name, xs)) (Some (name, ys)) → xs ≡ ys
 same_rows name xs ys e = let both : ◌≡◌ {A = Text × List Row} (name, xs) (name, ys) = cc in ap (λ (p : Text × List Row). p.1) both
 
-said_run : (words : List Text) (said : Option Command) (is : IsRun words) → ReadsRun (matched is.uses) said → IsSaid words said
+said_run : (words : List Text) (said : Option Command) (is : HasUses (codes "run") words) → ReadsRun (matched is.uses) said → IsSaid words said
 said_run words None is reads = record { none = refuses; some = tt }
   where
     unread : (options : List Text) → words ≡ codes "run" ∷ options → IsGood options → ⊥
@@ -320,7 +320,7 @@ said_run words None is reads = record { none = refuses; some = tt }
     refuses Check says = run_is_no_check (all_written is.uses) (sym is.are ∙ says)
 said_run words (Some c) is reads = record {
   none = tt;
-  some = subst (Says words) (sym reads.4) (all_written is.uses, is.are, read_options is.uses is.pass reads.0 reads.1 reads.2 reads.3);
+  some = subst (Says words) (sym reads.2) (all_written is.uses, is.are, read_options is.uses is.pass reads.0.workers reads.0.budget reads.1.0 reads.1.1);
 }
 
 pub is_said : (words : List Text) (found : Found) (said : Option Command) → has_dashes words ≡ false → fault_of program words ≡ [] → found ≡ subcommand_of program words

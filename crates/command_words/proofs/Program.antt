@@ -12,7 +12,7 @@ use Rattle.clap.proofs.OnLiterals.{clap_on_literals}
 use Rattle.clap.proofs.WalkLemmas.{walk_stopped}
 use Rattle.command_words.specs.Program.{program}
 use Rattle.command_words.proofs.LongWords.{HasLongAlone, IsLong, both_none, idle_turn, none_of_both, walk_at}
-use Rattle.command_words.proofs.Options.{AllPlain, Pass, Use, all_written, check_shape, end_of, first_safe, has_dashes, option_of, others_safe, read_words, rest_kinds, rules, run_shape, settle_kinds, settled_end, used_all, write_uses}
+use Rattle.command_words.proofs.Options.{AllPlain, Pass, Use, all_written, check_shape, end_of, first_safe, has_dashes, option_of, others_safe, read_words, rest_kinds, rules, settle_kinds, shape_of, settled_end, used_all, write_uses}
 
 abbrev whole : App
 whole = built program
@@ -66,7 +66,7 @@ check_kinds rest = no_fault_behind whole.top names (codes "check") [] rest
 abbrev below : Shape → List Text → Kinds
 below s rest = level_fault s [] nothing_held rest false []
 
-run_faults : (rest : List Text) → fault_of program (codes "run" ∷ rest) ≡ or_else (below run_shape rest) []
+run_faults : (rest : List Text) → fault_of program (codes "run" ∷ rest) ≡ or_else (below (shape_of (codes "run")) rest) []
 unfolding defaults_fault
 run_faults rest = ap₂ faults_by (run_walk rest) (run_kinds rest)
 
@@ -74,11 +74,10 @@ check_faults : (rest : List Text) → fault_of program (codes "check" ∷ rest) 
 unfolding defaults_fault
 check_faults rest = ap₂ faults_by (check_walk rest) (check_kinds rest)
 
--- ---- the level of `run`
+-- ---- the options' matches
 
--- the matches of `run`
-abbrev pub rows_of_run : List Row → List Row
-rows_of_run rows = fold with_default rows rules
+abbrev pub rows_of_options : List Row → List Row
+rows_of_options rows = fold with_default rows rules
 
 no_default : (a : Bool) (rows : List Row) → default_fault rows (option_of a) ≡ []
 no_default true rows = go (has_row (codes "workers") rows)
@@ -96,21 +95,24 @@ no_defaults : (rows : List Row) → defaults_fault rows rules ≡ []
 unfolding defaults_fault
 no_defaults rows = none_of_both _ _ (no_default true rows) (none_of_both _ _ (no_default false (with_default rows (option_of true))) refl)
 
-run_below : (rest : List Text) → rest_kinds start rest ≡ [] → below run_shape rest ≡ []
-run_below rest e =
-    let parts = both_none _ _ e in
-    none_of_both _ _ parts.0 (none_of_both _ _ parts.1 (none_of_both _ _ (no_defaults (settled_end (end_of start rest))) refl))
+-- ---- the level of a command with options, whatever its name is
 
-below_run : (rest : List Text) → below run_shape rest ≡ [] → rest_kinds start rest ≡ []
-below_run rest e =
-    let end = end_of start rest in
-    let walks = walk_fault run_shape [] start rest in
-    let settles = settle_kinds end.rows end.pending in
-    let after = or_else (defaults_fault (settled_end end) rules) (check_fault run_shape (rows_of_run (settled_end end)) false) in
-    let parts = both_none walks (or_else settles after) e in
-    none_of_both walks settles parts.0 (both_none settles after parts.1).0
+module _ (command : Text) where
+  below_passes : (rest : List Text) → rest_kinds command start rest ≡ [] → below (shape_of command) rest ≡ []
+  below_passes rest e =
+      let parts = both_none _ _ e in
+      none_of_both _ _ parts.0 (none_of_both _ _ parts.1 (none_of_both _ _ (no_defaults (settled_end (end_of start rest))) refl))
 
-run_rows : (rest : List Text) → subcommand_of program (codes "run" ∷ rest) ≡ Some (codes "run", rows_of_run (settled_end (end_of start rest)))
+  passes_below : (rest : List Text) → below (shape_of command) rest ≡ [] → rest_kinds command start rest ≡ []
+  passes_below rest e =
+      let end = end_of start rest in
+      let walks = walk_fault (shape_of command) [] start rest in
+      let settles = settle_kinds end.rows end.pending in
+      let after = or_else (defaults_fault (settled_end end) rules) (check_fault (shape_of command) (rows_of_options (settled_end end)) false) in
+      let parts = both_none walks (or_else settles after) e in
+      none_of_both walks settles parts.0 (both_none settles after parts.1).0
+
+run_rows : (rest : List Text) → subcommand_of program (codes "run" ∷ rest) ≡ Some (codes "run", rows_of_options (settled_end (end_of start rest)))
 run_rows rest = ap (λ (w : Walk). entered whole w.stopped) (run_walk rest)
 
 -- ---- words that pass
@@ -126,26 +128,44 @@ no_rule s word none is =
     let bad : None ≡ Some is.rule = ap (λ rs. arg_by_long rs is.name) (sym none) ∙ is.found in
     absurd (cc)
 
--- the words are `check`, or `run` and uses of its options
-pub record IsRun (words : List Text) : Type 0 where
+-- the words are a command and uses of its options
+pub record HasUses (command : Text) (words : List Text) : Type 0 where
   pub uses : List Use
-  pub are : words ≡ codes "run" ∷ all_written uses
+  pub are : words ≡ command ∷ all_written uses
   pub pass : Pass [] uses
-  pub rows : subcommand_of program words ≡ Some (codes "run", rows_of_run (used_all [] uses))
+  pub rows : subcommand_of program words ≡ Some (command, rows_of_options (used_all [] uses))
 
+-- words that pass, with the matches of these uses
+pub record Passes (command : Text) (words : List Text) (uses : List Use) : Type 0 where
+  pub no_fault : fault_of program words ≡ []
+  pub rows : subcommand_of program words ≡ Some (command, rows_of_options (used_all [] uses))
+
+-- of a command whose faults and matches are those of the level below
+module _ (command : Text) (faults : (rest : List Text) → fault_of program (command ∷ rest) ≡ or_else (below (shape_of command) rest) [])
+    (rows : (rest : List Text) → subcommand_of program (command ∷ rest) ≡ Some (command, rows_of_options (settled_end (end_of start rest)))) where
+  accepted_uses : (rest : List Text) → has_dashes rest ≡ false → fault_of program (command ∷ rest) ≡ [] → HasUses command (command ∷ rest)
+  accepted_uses rest safe e =
+      let passes = passes_below command rest (both_none _ _ (sym (faults rest) ∙ e)).0 in
+      let r = read_words command rest [] None safe passes in
+      record {
+        uses = r.uses;
+        are = ap (λ ws. command ∷ ws) r.are;
+        pass = r.pass;
+        rows = rows rest ∙ ap (λ (xs : List Row). Some (command, rows_of_options xs)) r.ends;
+      }
+
+  uses_pass : (uses : List Use) → AllPlain uses → Pass [] uses → Passes command (command ∷ all_written uses) uses
+  uses_pass uses plain pass =
+      let rest = all_written uses in
+      let w = write_uses command uses plain [] None refl pass in
+      record {
+        no_fault = faults rest ∙ none_of_both _ [] (below_passes command rest w.passes) refl;
+        rows = rows rest ∙ ap (λ (xs : List Row). Some (command, rows_of_options xs)) w.ends;
+      }
+
+-- the words are `check`, or `run` and uses of its options
 abbrev pub Accepted : List Text → Type 0
-Accepted words = (words ≡ codes "check" ∷ []) ⊎ IsRun words
-
-accepted_run : (rest : List Text) → has_dashes rest ≡ false → fault_of program (codes "run" ∷ rest) ≡ [] → IsRun (codes "run" ∷ rest)
-accepted_run rest safe e =
-    let passes = below_run rest (both_none _ _ (sym (run_faults rest) ∙ e)).0 in
-    let r = read_words rest [] None safe passes in
-    record {
-      uses = r.uses;
-      are = ap (λ ws. codes "run" ∷ ws) r.are;
-      pass = r.pass;
-      rows = run_rows rest ∙ ap (λ (rows : List Row). Some (codes "run", rows_of_run rows)) r.ends;
-    }
+Accepted words = (words ≡ codes "check" ∷ []) ⊎ HasUses (codes "run") words
 
 accepted_check : (rest : List Text) → has_dashes rest ≡ false → fault_of program (codes "check" ∷ rest) ≡ [] → rest ≡ []
 unfolding walk_fault
@@ -171,7 +191,7 @@ accepted (word ∷ rest) safe e = go (bytes_eq (codes "run") word) (bytes_eq (co
     go : (x y : Bool) → bytes_eq (codes "run") word ≡ x → bytes_eq (codes "check") word ≡ y → Accepted (word ∷ rest)
     go true y is is' =
         let same = (bytes_eq-Decides (codes "run") word).0 is in
-        inr (subst (λ (w : Text). IsRun (w ∷ rest)) same (accepted_run rest (others_safe word rest safe) (subst (λ (w : Text). fault_of program (w ∷ rest) ≡ []) (sym same) e)))
+        inr (subst (λ (w : Text). HasUses (codes "run") (w ∷ rest)) same (accepted_uses (codes "run") run_faults run_rows rest (others_safe word rest safe) (subst (λ (w : Text). fault_of program (w ∷ rest) ≡ []) (sym same) e)))
     go false true is is' =
         let same = (bytes_eq-Decides (codes "check") word).0 is' in
         let none = accepted_check rest (others_safe word rest safe) (subst (λ (w : Text). fault_of program (w ∷ rest) ≡ []) (sym same) e) in
@@ -182,18 +202,8 @@ accepted (word ∷ rest) safe e = go (bytes_eq (codes "run") word) (bytes_eq (co
 
 -- ---- and only they do
 
-pub record Passes (words : List Text) (uses : List Use) : Type 0 where
-  pub no_fault : fault_of program words ≡ []
-  pub rows : subcommand_of program words ≡ Some (codes "run", rows_of_run (used_all [] uses))
-
-pub run_passes : (uses : List Use) → AllPlain uses → Pass [] uses → Passes (codes "run" ∷ all_written uses) uses
-run_passes uses plain pass =
-    let rest = all_written uses in
-    let w = write_uses uses plain [] None refl pass in
-    record {
-      no_fault = run_faults rest ∙ none_of_both _ [] (run_below rest w.passes) refl;
-      rows = run_rows rest ∙ ap (λ (rows : List Row). Some (codes "run", rows_of_run rows)) w.ends;
-    }
+pub run_passes : (uses : List Use) → AllPlain uses → Pass [] uses → Passes (codes "run") (codes "run" ∷ all_written uses) uses
+run_passes = uses_pass (codes "run") run_faults run_rows
 
 pub check_passes : fault_of program (codes "check" ∷ []) ≡ []
 unfolding clap_on_literals

@@ -6,6 +6,7 @@ use Rattle.clap.specs.declared.builder.value_parser.ValueParser.{ValueParser}
 use Rattle.clap.specs.declared.builder.value_parser.ValueParser.TheVariants.{Signed}
 use Rattle.command_words.specs.Words.{IsNumber, number_after}
 use Rattle.command_words.specs.declared.reading.Command.{Command}
+use Rattle.command_words.specs.declared.reading.Options.{Options}
 use Rattle.command_words.specs.declared.reading.Command.TheVariants.{Run}
 
 -- an option by its long name, with a number
@@ -18,8 +19,9 @@ workers = number_option (codes "workers") (Signed (pos 1) (pos 16))
 abbrev pub budget : Rule
 budget = number_option (codes "budget") (Signed (pos 0) (pos 100000))
 
-abbrev pub run_command : App
-run_command = with_rule (with_rule (new_app (codes "run")) workers) budget
+-- a command with both options
+abbrev pub command_with_options : Text → App
+command_with_options name = with_rule (with_rule (new_app name) workers) budget
 
 abbrev pub check_command : App
 check_command = new_app (codes "check")
@@ -29,7 +31,7 @@ abbrev pub top_shape : Shape
 top_shape = record (new_shape (codes "explore")) { no_binary_name = true; disable_help_flag = true; disable_help_subcommand = true; subcommand_required = true }
 
 abbrev pub program : App
-program = with_subcommand (with_subcommand (record (new_app (codes "explore")) { top = top_shape }) run_command.top) check_command.top
+program = with_subcommand (with_subcommand (record (new_app (codes "explore")) { top = top_shape }) (command_with_options (codes "run")).top) check_command.top
 
 -- what is read of an option: its default, or the number that its text is
 abbrev pub ReadsNumber : ℕ → Text → List Row → Option ℕ → Type 0
@@ -38,7 +40,11 @@ ReadsNumber default name rows read = MatchOption read
     (λ n. ((first_of name rows ≡ None) × (n ≡ default)) ⊎ ((text : Text) × (first_of name rows ≡ Some text) × IsNumber text × (one_of name rows ≡ Some text → n ≡ number_after 0 text)))
 
 -- both options' numbers are read, or one isn't
-abbrev pub ReadsRun : List Row → Option Command → Type 0
-ReadsRun rows said = MatchOption said
+abbrev pub ReadsOptions : List Row → Option Options → Type 0
+ReadsOptions rows read = MatchOption read
     (ReadsNumber 4 (codes "workers") rows None ⊎ ReadsNumber 20000 (codes "budget") rows None)
-    (λ c. (workers : ℕ) × (budget : ℕ) × ReadsNumber 4 (codes "workers") rows (Some workers) × ReadsNumber 20000 (codes "budget") rows (Some budget) × (c ≡ Run workers budget))
+    (λ o. ReadsNumber 4 (codes "workers") rows (Some o.workers) × ReadsNumber 20000 (codes "budget") rows (Some o.budget))
+
+-- the command with these options, where they are read
+abbrev pub ReadsRun : List Row → Option Command → Type 0
+ReadsRun rows said = MatchOption said (ReadsOptions rows None) (λ c. (o : Options) × ReadsOptions rows (Some o) × (c ≡ Run o.workers o.budget))

@@ -3,7 +3,7 @@ ghost use Rattle.std.specs.Prelude.{◌≡◌, ◌↔◌, IfOk, IfSome, IfNone, 
 ghost use Rattle.clap.specs.Words.{Row, app_of, found_of, rows_of, rule_of, subcommand_rows_of};
 ghost use Rattle.clap.specs.declared.builder.command.Command.TheViews.{out-Command as fields_of};
 ghost use Rattle.command_words.specs.Words.{IsNumber, Says, SaysNone};
-ghost use Rattle.command_words.specs.Program.{number_option, program, run_command, ReadsNumber, ReadsRun};
+ghost use Rattle.command_words.specs.Program.{command_with_options, number_option, program, ReadsNumber, ReadsOptions, ReadsRun};
 ghost use Rattle.command_words.specs.Read.{texts, has_escape};
 ghost use Rattle.command_words.specs.declared.reading.Command.{Command as Said};
 ghost use Rattle.command_words.specs.declared.reading.Command.TheVariants.{Check};
@@ -22,6 +22,13 @@ pub enum Command {
     Check,
 }
 
+/// What the options of a command say; where one isn't given, its default.
+#[derive(Clone, Copy)]
+struct Options {
+    workers: u32,
+    budget: u32,
+}
+
 /// How many workers run a script where no number is given.
 pub const DEFAULT_WORKERS: u32 = 4;
 
@@ -36,13 +43,13 @@ fn number_option<'a>(alloc: Global, name: &'a str, numbers: ValueParser<'a>) -> 
     Arg::new(alloc, name).long(name).value_parser(numbers)
 }
 
-// The command `run` and its options.
-fn run_command<'a>(alloc: Global) -> Result<clap::Command<'a>, AllocError>
-    ensures { IfOk result (λ c. (app_of c ≡ run_command) × ((fields_of c).has_globals ≡ false)) }
+// A command of this name with both options.
+fn command_with_options<'a>(alloc: Global, name: &'a str) -> Result<clap::Command<'a>, AllocError>
+    ensures { IfOk result (λ c. (app_of c ≡ command_with_options name.entry.now) × ((fields_of c).has_globals ≡ false)) }
 {
     let workers = value_parser!(u32).range(1..=16);
     let budget = value_parser!(u32).range(0..=100_000);
-    let command = clap::Command::new(alloc, "run")
+    let command = clap::Command::new(alloc, name)
         .arg(number_option(alloc, "workers", workers))?
         .arg(number_option(alloc, "budget", budget))?;
     Ok(command)
@@ -57,7 +64,7 @@ fn program<'a>(alloc: Global) -> Result<clap::Command<'a>, AllocError>
         .disable_help_flag(true)
         .disable_help_subcommand(true)
         .subcommand_required(true)
-        .subcommand(run_command(alloc)?)?
+        .subcommand(command_with_options(alloc, "run")?)?
         .subcommand(clap::Command::new(alloc, "check"))?;
     Ok(program)
 }
@@ -84,12 +91,20 @@ fn number_in(options: &ArgMatches<'_>, name: &str, default: u32) -> Option<u32>
     }
 }
 
-// The command `run` with its options.
-fn run_with(options: &ArgMatches<'_>) -> Option<Command>
-    ensures { ReadsRun (rows_of (found_of options.now)) result }
+// The options of a command that has both.
+fn options_in(matches: &ArgMatches<'_>) -> Option<Options>
+    ensures { ReadsOptions (rows_of (found_of matches.now)) result }
 {
-    let workers = number_in(options, "workers", DEFAULT_WORKERS)?;
-    let budget = number_in(options, "budget", DEFAULT_BUDGET)?;
+    let workers = number_in(matches, "workers", DEFAULT_WORKERS)?;
+    let budget = number_in(matches, "budget", DEFAULT_BUDGET)?;
+    Some(Options { workers, budget })
+}
+
+// The command `run` with its options.
+fn run_with(matches: &ArgMatches<'_>) -> Option<Command>
+    ensures { ReadsRun (rows_of (found_of matches.now)) result }
+{
+    let Options { workers, budget } = options_in(matches)?;
     Some(Command::Run { workers, budget })
 }
 

@@ -44,7 +44,7 @@ fn right_words_say_a_command(rt: HostRuntime) -> Result<(), Fail> {
 
 #[test]
 fn other_commands_are_none(rt: HostRuntime) -> Result<(), Fail> {
-    let rows: [&[&str]; 20] = [
+    let rows: [&[&str]; 24] = [
         &[],
         &[""],
         &["-"],
@@ -59,6 +59,10 @@ fn other_commands_are_none(rt: HostRuntime) -> Result<(), Fail> {
         &["Run"],
         &["ru"],
         &["load", "1"],
+        &["assert"],
+        &["facts", "--budget", "5"],
+        &["distinct", "--workers=2"],
+        &["crew", "--workers", "2", "--budget", "5"],
         &["--", "run"],
         &["check", "check"],
         &["check", "--workers", "4"],
