@@ -4,7 +4,10 @@ use Rattle.std.proofs.lemmas.Bool.{cases_lt}
 use Rattle.std.proofs.lemmas.List.{take_all, length-take-le}
 use Rattle.script_format.specs.declared.fault.ScriptFault.{ScriptFault}
 use Rattle.script_format.specs.Script.{HasFault}
-use Rattle.explorer_cli.specs.Outcome.{IsAnswerTo, IsPartOfAnswer}
+use Rattle.command_words.specs.declared.reading.Command.{Command}
+use Rattle.command_words.specs.declared.reading.Command.TheVariants.{Run, Check}
+use Rattle.proof_command.proofs.WholeTexts.{answers_whole as proof_whole}
+use Rattle.explorer_cli.specs.Outcome.{IsAnswerTo, limit_of}
 
 -- bytes of which more than a script may have are at the front have the front's fault
 long_fault : (bytes : List ℕ) (f : ScriptFault) → 1048577 ≤ length bytes → HasFault (take 1048577 bytes) f → HasFault bytes f
@@ -17,9 +20,9 @@ long_fault bytes f more fault =
     ]
 
 -- a shorter front is the whole
-pub answers_whole : (budget : ℕ) (bytes : List ℕ) (status : ℕ) (text : List ℕ) → IsAnswerTo budget (take 1048577 bytes) status text → IsAnswerTo budget bytes status text
-answers_whole budget bytes status text answer = elim (cases_lt (length bytes) 1048577) [
-  | inl less ↦ subst (λ (xs : List ℕ). IsAnswerTo budget xs status text) (take_all 1048577 bytes (omega arith)) answer
+script_whole : (workers budget : ℕ) (bytes : List ℕ) (status : ℕ) (text : List ℕ) → IsAnswerTo (Run workers budget) (take 1048577 bytes) status text → IsAnswerTo (Run workers budget) bytes status text
+script_whole workers budget bytes status text answer = elim (cases_lt (length bytes) 1048577) [
+  | inl less ↦ subst (λ (xs : List ℕ). IsAnswerTo (Run workers budget) xs status text) (take_all 1048577 bytes (omega arith)) answer
   | inr more ↦
       let front = length-take-le 1048577 bytes (omega arith) in
       elim answer [
@@ -28,5 +31,7 @@ answers_whole budget bytes status text answer = elim (cases_lt (length bytes) 10
       ]
 ]
 
-pub part_of_whole : (budget : ℕ) (bytes old new : List ℕ) → IsPartOfAnswer budget (take 1048577 bytes) old new → IsPartOfAnswer budget bytes old new
-part_of_whole budget bytes old new part = (part.0, part.1, answers_whole budget bytes part.0 part.1 part.2, part.3)
+-- what answers the bytes that a command reads answers all of them
+pub answers_whole : (command : Command) (bytes : List ℕ) (status : ℕ) (text : List ℕ) → IsAnswerTo command (take (limit_of command) bytes) status text → IsAnswerTo command bytes status text
+answers_whole (Run workers budget) bytes status text answer = script_whole workers budget bytes status text answer
+answers_whole Check bytes status text answer = proof_whole bytes status text answer

@@ -1,8 +1,8 @@
 -- What the program answers: its words, its texts and its statuses.
-use Rattle.std.specs.Prelude.{◌≡◌, ◌⊎◌, ℕ, List, ◌++◌, codes}
-use Rattle.command_words.specs.declared.reading.Command.TheVariants.{Run}
-use Rattle.command_words.specs.Words.{Says}
-use Rattle.outside_io.specs.Front.{AppendsPart}
+use Rattle.std.specs.Prelude.{◌≡◌, ◌≤◌, ◌⊎◌, ℕ, List, codes}
+use Rattle.command_words.specs.declared.reading.Command.{Command}
+use Rattle.command_words.specs.declared.reading.Command.TheVariants.{Run, Check}
+use Rattle.proof_command.specs.Answer as check
 use Rattle.script_format.specs.declared.entries.Script.{Script}
 use Rattle.script_format.specs.declared.fault.ScriptFault.{ScriptFault}
 use Rattle.script_format.specs.Script.{IsScript, HasFault}
@@ -15,6 +15,14 @@ use Rattle.explorer_cli.specs.Runs.{AreRunsOf}
 abbrev pub words_line : List ℕ
 words_line = codes "fault words\n"
 
+-- ---- what a command answers
+
+-- the text that a command writes for a script: of `run` that of runs of its sessions on its models, which can all be used, in
+-- order, from the budget of the words; `check` reads no script
+abbrev pub Writes : Command → Script → List ℕ → Type 0
+Writes (Run workers budget) s text = (models : List NamedTree) × AreUsable s.sessions 0 s.models models × AreRunsOf budget s.sessions models text
+Writes Check s text = ⊥
+
 -- the bytes are no script, and under 3 the text is the line that tells their fault
 abbrev pub IsFaultAnswer : List ℕ → ℕ → List ℕ → Type 0
 IsFaultAnswer bytes status text = (f : ScriptFault) × HasFault bytes f × (status ≡ 3) × (text ≡ script_line (fault_words f))
@@ -24,44 +32,39 @@ abbrev pub IsModelAnswer : Script → ℕ → List ℕ → Type 0
 IsModelAnswer s status text =
     (status ≡ 4) × ((name : List ℕ) × (words : List ℕ) × IsFirstRefused s.sessions s.models name words × (text ≡ model_line name words))
 
--- the models can be used, and under 0 the text is that of runs of the sessions on them, in order, from this budget
-abbrev pub IsRunAnswer : ℕ → Script → ℕ → List ℕ → Type 0
-IsRunAnswer budget s status text =
-    (status ≡ 0) × ((models : List NamedTree) × AreUsable s.sessions 0 s.models models × AreRunsOf budget s.sessions models text)
+-- a status and a text answer a script: its first model that can't be used is told, or under 0 stands what the command writes
+abbrev pub IsAnswerToScript : Command → Script → ℕ → List ℕ → Type 0
+IsAnswerToScript command s status text = IsModelAnswer s status text ⊎ ((status ≡ 0) × Writes command s text)
 
--- a status and a text answer a script whose sessions begin with this budget
-abbrev pub IsAnswerToScript : ℕ → Script → ℕ → List ℕ → Type 0
-IsAnswerToScript budget s status text = IsModelAnswer s status text ⊎ IsRunAnswer budget s status text
+-- a status and a text answer the bytes of the input: `check` reads a proof text, the others a script
+abbrev pub IsAnswerTo : Command → List ℕ → ℕ → List ℕ → Type 0
+IsAnswerTo Check bytes status text = check.IsAnswerTo bytes status text
+IsAnswerTo command bytes status text = IsFaultAnswer bytes status text ⊎ ((s : Script) × IsScript bytes s × IsAnswerToScript command s status text)
 
--- a status and a text answer the bytes of the input: those of a script as it says, and others with the line of their fault
-abbrev pub IsAnswerTo : ℕ → List ℕ → ℕ → List ℕ → Type 0
-IsAnswerTo budget bytes status text = IsFaultAnswer bytes status text ⊎ ((s : Script) × IsScript bytes s × IsAnswerToScript budget s status text)
+-- how many bytes a command reads at most: one more than a proof text, or a script, may have
+abbrev pub limit_of : Command → ℕ
+limit_of Check = 268435457
+limit_of command = 1048577
 
--- the answer to these bytes has this status
-abbrev pub IsStatusOf : ℕ → List ℕ → ℕ → Type 0
-IsStatusOf budget bytes status = (text : List ℕ) × IsAnswerTo budget bytes status text
+-- ---- statuses
 
--- the answer to these bytes has this status, and its text was appended
-abbrev pub Wrote : ℕ → List ℕ → ℕ → List ℕ → List ℕ → Type 0
-Wrote budget bytes status old new = (text : List ℕ) × IsAnswerTo budget bytes status text × (new ≡ old ++ text)
+-- the source failed, the sink failed, or memory was wanting
+abbrev pub HasFailed : ℕ → Type 0
+HasFailed n = (n ≡ 5) ⊎ (n ≡ 6) ⊎ (n ≡ 7)
 
--- some bytes of an answer to these bytes were appended, and not all of it
-abbrev pub IsPartOfAnswer : ℕ → List ℕ → List ℕ → List ℕ → Type 0
-IsPartOfAnswer budget bytes old new = (status : ℕ) × (text : List ℕ) × IsAnswerTo budget bytes status text × AppendsPart old new text
-
--- the words say `run` with this budget, and some number of workers
-abbrev pub SaysRun : List (List ℕ) → ℕ → Type 0
-SaysRun words budget = (workers : ℕ) × Says words (Run workers budget)
-
--- of `run`: done, a refused script, a refused model, a source that failed, a sink that failed, want of memory
-abbrev pub IsRunStatus : ℕ → Type 0
-IsRunStatus n = (n ≡ 0) ⊎ (n ≡ 3) ⊎ (n ≡ 4) ⊎ (n ≡ 5) ⊎ (n ≡ 6) ⊎ (n ≡ 7)
+-- the statuses of a command's answers: of `check` accepted, not accepted, no proof text; of the others done, no script, a refused model
+abbrev pub IsStatusOf : Command → ℕ → Type 0
+IsStatusOf Check n = (n ≡ 0) ⊎ (n ≡ 1) ⊎ (n ≡ 3)
+IsStatusOf command n = (n ≡ 0) ⊎ (n ≡ 3) ⊎ (n ≡ 4)
 
 -- done, a proof that isn't accepted, refused words, a refused script or proof text, a refused model, a source that failed,
 -- a sink that failed, want of memory
 abbrev pub IsStatus : ℕ → Type 0
 IsStatus n = (n ≡ 0) ⊎ (n ≡ 1) ⊎ (n ≡ 2) ⊎ (n ≡ 3) ⊎ (n ≡ 4) ⊎ (n ≡ 5) ⊎ (n ≡ 6) ⊎ (n ≡ 7)
 
--- the source failed, the sink failed, or memory was wanting
-abbrev pub HasFailed : ℕ → Type 0
-HasFailed n = (n ≡ 5) ⊎ (n ≡ 6) ⊎ (n ≡ 7)
+-- ---- what the code requires
+
+-- the budget is one that the words can say
+abbrev pub HasBudgetInRange : Command → Type 0
+HasBudgetInRange (Run workers budget) = budget ≤ 100000
+HasBudgetInRange Check = Unit {0}

@@ -1,26 +1,36 @@
 // What the program answers to what it read.
-ghost use Rattle.std.specs.Prelude.{◌≡◌, ◌≤◌, ◌<◌, length, All, IfOk};
+ghost use Rattle.std.specs.Prelude.{◌≡◌, ◌≤◌, ◌<◌, ◌⊎◌, ℕ, length, All, IfOk};
+ghost use Rattle.command_words.specs.declared.reading.Command.TheVariants.{Run};
 ghost use Rattle.script_format.specs.Limits.{IsAllowed, asked_in};
-ghost use Rattle.explorer_cli.specs.Outcome.{IsAnswerTo, IsAnswerToScript};
+ghost use Rattle.explorer_cli.specs.Outcome.{HasBudgetInRange, IsStatusOf, IsAnswerTo, IsAnswerToScript};
 
 use crate::sessions::text_of_sessions;
+use command_words::Command;
+use proof_command::Answer;
 use script_format::laws::scripts_keep_to_limits;
 use script_format::{Script, read_script};
 use script_text::fault_line;
 use served_models::{Models, read_models};
 use std::alloc::{AllocError, Global};
 
-/// A status, and the text that is written under it.
-#[derive(Drop)]
-pub struct Answer {
-    pub status: u8,
-    pub text: Vec<u8>,
+/// The answer of a command to the bytes of its input.
+pub fn answer_to(alloc: Global, command: Command, bytes: &[u8]) -> Result<Answer, AllocError>
+    requires { HasBudgetInRange command }
+    ensures answer { IfOk result (λ a. IsAnswerTo command bytes.now a.status a.text.items) }
+    ensures status { IfOk result (λ a. IsStatusOf command a.status) }
+    ensures low { IfOk result (λ a. a.status ≤ 4) }
+{
+    match command {
+        Command::Run { budget, .. } => answer_of_run(alloc, budget, bytes),
+        Command::Check => proof_command::answer_to(alloc, bytes),
+    }
 }
 
-/// The answer to the bytes of the input, where sessions begin with this budget, of at most 100,000.
-pub fn answer_to(alloc: Global, budget: u32, bytes: &[u8]) -> Result<Answer, AllocError>
+// The answer of `run` to the bytes of its input, where sessions begin with this budget.
+fn answer_of_run(alloc: Global, budget: u32, bytes: &[u8]) -> Result<Answer, AllocError>
     requires { budget ≤ 100000 }
-    ensures { IfOk result (λ a. IsAnswerTo budget bytes.now a.status a.text.items) }
+    ensures answer { (workers : ℕ) → IfOk result (λ a. IsAnswerTo (Run workers budget) bytes.now a.status a.text.items) }
+    ensures status { IfOk result (λ a. (a.status ≡ 0) ⊎ (a.status ≡ 3) ⊎ (a.status ≡ 4)) }
 {
     scripts_keep_to_limits();
     match read_script(alloc, bytes) {
@@ -32,14 +42,15 @@ pub fn answer_to(alloc: Global, budget: u32, bytes: &[u8]) -> Result<Answer, All
     }
 }
 
-// The answer to a script.
+// The answer of `run` to a script.
 fn answer_script(alloc: Global, budget: u32, script: &Script) -> Result<Answer, AllocError>
     requires budget { budget ≤ 100000 }
     requires named { All (λ x. x.model < length script.now.models) script.now.sessions }
     requires small { All (λ m. length m.text ≤ 1048576) script.now.models }
     requires allowed { All (λ x. All IsAllowed x.commands) script.now.sessions }
     requires asked { asked_in script.now.sessions ≤ 20000 }
-    ensures { IfOk result (λ a. IsAnswerToScript budget script.now a.status a.text.items) }
+    ensures answer { (workers : ℕ) → IfOk result (λ a. IsAnswerToScript (Run workers budget) script.now a.status a.text.items) }
+    ensures status { IfOk result (λ a. (a.status ≡ 0) ⊎ (a.status ≡ 3) ⊎ (a.status ≡ 4)) }
 {
     let sessions = script.sessions.entries();
     match read_models(alloc, script.models.entries(), sessions)? {

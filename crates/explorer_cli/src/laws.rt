@@ -5,6 +5,7 @@ ghost use Rattle.cnf_core.specs.Valuation.{Satisfies};
 ghost use Rattle.refutation_check.specs.declared.log.Step.{Step as LogStep};
 ghost use Rattle.refutation_check.specs.Chain.{IsRefutation};
 ghost use Rattle.refutation_check.specs.WrittenProof.{proof_text};
+ghost use Rattle.command_words.specs.declared.reading.Command.TheVariants.{Run};
 ghost use Rattle.rel_formula.specs.Bounds.{Bounded};
 ghost use Rattle.rel_formula.specs.Instance.{IsMinimalAbove};
 ghost use Rattle.rel_terms.specs.Terms.{HasTerms};
@@ -53,12 +54,12 @@ use swap_symmetry::laws::each_minimal_has_a_due_renaming_beside;
 /// script under 4 with its first model that can't be used, or, where all its models can be, under 0 with runs of its sessions
 /// on these.
 pub fn each_answer_has_its_cause()
-    ensures fault { (budget : ℕ) (bytes : List ℕ) (f : ScriptFaultData) (status : ℕ) (text : List ℕ)
-        → HasFault bytes f → IsAnswerTo budget bytes status text → (status ≡ 3) × (text ≡ script_line (fault_words f)) }
-    ensures model { (budget : ℕ) (bytes : List ℕ) (s : ScriptData) (name words : List ℕ) (status : ℕ) (text : List ℕ)
-        → IsScript bytes s → IsFirstRefused s.sessions s.models name words → IsAnswerTo budget bytes status text → (status ≡ 4) × (text ≡ model_line name words) }
-    ensures run { (budget : ℕ) (bytes : List ℕ) (s : ScriptData) (models : List NamedTree) (status : ℕ) (text : List ℕ)
-        → IsScript bytes s → AreUsable s.sessions 0 s.models models → IsAnswerTo budget bytes status text → (status ≡ 0) × AreRunsOf budget s.sessions models text }
+    ensures fault { (workers budget : ℕ) (bytes : List ℕ) (f : ScriptFaultData) (status : ℕ) (text : List ℕ)
+        → HasFault bytes f → IsAnswerTo (Run workers budget) bytes status text → (status ≡ 3) × (text ≡ script_line (fault_words f)) }
+    ensures model { (workers budget : ℕ) (bytes : List ℕ) (s : ScriptData) (name words : List ℕ) (status : ℕ) (text : List ℕ)
+        → IsScript bytes s → IsFirstRefused s.sessions s.models name words → IsAnswerTo (Run workers budget) bytes status text → (status ≡ 4) × (text ≡ model_line name words) }
+    ensures run { (workers budget : ℕ) (bytes : List ℕ) (s : ScriptData) (models : List NamedTree) (status : ℕ) (text : List ℕ)
+        → IsScript bytes s → AreUsable s.sessions 0 s.models models → IsAnswerTo (Run workers budget) bytes status text → (status ≡ 0) × AreRunsOf budget s.sessions models text }
 {
     models_are_used_one_way();
 }

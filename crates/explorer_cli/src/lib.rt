@@ -3,8 +3,8 @@
 #![tactic(auto)]
 
 mod answer;
+mod command;
 pub mod laws;
-mod run_command;
 mod sessions;
 mod top_call;
 

@@ -1,11 +1,11 @@
 -- The bytes that are read, where more than a proof text may have is left unread.
-use Rattle.std.proofs.Common.{◌≡◌, ◌<◌, ◌≤◌, ℕ, inl, inr, List, take, length, sym, subst, arith}
+use Rattle.std.proofs.Common.{◌≡◌, ◌≤◌, ℕ, inl, inr, List, take, length, subst, arith}
 use Rattle.std.proofs.lemmas.Bool.{cases_lt}
 use Rattle.std.proofs.lemmas.List.{take_all, length-take-le}
 use Rattle.refutation_check.specs.declared.proof_text.fault.ProofFault.{ProofFault}
 use Rattle.refutation_check.specs.declared.proof_text.fault.ProofFault.TheVariants.{BadLine, NumberTooLarge, Tautology, TooLong, Memory}
 use Rattle.refutation_check.specs.ProofFault.{HasFault}
-use Rattle.proof_command.specs.Answer.{IsAnswerTo, IsPartOfAnswer}
+use Rattle.proof_command.specs.Answer.{IsAnswerTo}
 
 -- a front of too many bytes has the fault that the whole has
 fault_whole : (bytes : List ℕ) (fault : ProofFault) → length (take 268435457 bytes) ≡ 268435457 → 268435457 ≤ length bytes → HasFault (take 268435457 bytes) fault → HasFault bytes fault
@@ -26,6 +26,3 @@ answers_whole bytes status text answer = elim (cases_lt (length bytes) 268435457
         | inr fault ↦ inr (record { fault = fault.fault; first = fault_whole bytes fault.fault front (omega arith) fault.first; told = fault.told; under = fault.under; line = fault.line })
       ]
 ]
-
-pub part_of_whole : (bytes old new : List ℕ) → IsPartOfAnswer (take 268435457 bytes) old new → IsPartOfAnswer bytes old new
-part_of_whole bytes old new part = (part.0, part.1, answers_whole bytes part.0 part.1 part.2, part.3)

@@ -1,7 +1,6 @@
 -- What the command `check` answers: its lines and its statuses.
 use Rattle.std.specs.Prelude.{◌≡◌, ◌≢◌, ◌⊎◌, ◌++◌, [], ℕ, List, codes, decimal}
 use Rattle.cnf_core.specs.Formula.{Formula}
-use Rattle.outside_io.specs.Front.{AppendsPart}
 use Rattle.refutation_check.specs.declared.log.Step.{Step}
 use Rattle.refutation_check.specs.declared.refutation.Verdict.{Verdict}
 use Rattle.refutation_check.specs.declared.refutation.Verdict.TheVariants.{Accepted, Refused, NoEmptyClause}
@@ -63,22 +62,6 @@ pub record IsFaultAnswer (bytes : List ℕ) (status : ℕ) (text : List ℕ) : T
 abbrev pub IsAnswerTo : List ℕ → ℕ → List ℕ → Type 0
 IsAnswerTo bytes status text = IsVerdictAnswer bytes status text ⊎ IsFaultAnswer bytes status text
 
--- the answer to these bytes has this status
-abbrev pub IsStatusOf : List ℕ → ℕ → Type 0
-IsStatusOf bytes status = (text : List ℕ) × IsAnswerTo bytes status text
-
--- the answer to these bytes has this status, and its text was appended
-abbrev pub Wrote : List ℕ → ℕ → List ℕ → List ℕ → Type 0
-Wrote bytes status old new = (text : List ℕ) × IsAnswerTo bytes status text × (new ≡ old ++ text)
-
--- some bytes of an answer to these bytes were appended, and not all of it
-abbrev pub IsPartOfAnswer : List ℕ → List ℕ → List ℕ → Type 0
-IsPartOfAnswer bytes old new = (status : ℕ) × (text : List ℕ) × IsAnswerTo bytes status text × AppendsPart old new text
-
 -- accepted, not accepted, no proof text, a source that failed, a sink that failed, want of memory
 abbrev pub IsCheckStatus : ℕ → Type 0
 IsCheckStatus n = (n ≡ 0) ⊎ (n ≡ 1) ⊎ (n ≡ 3) ⊎ (n ≡ 5) ⊎ (n ≡ 6) ⊎ (n ≡ 7)
-
--- the source failed, the sink failed, or memory was wanting
-abbrev pub HasFailed : ℕ → Type 0
-HasFailed n = (n ≡ 5) ⊎ (n ≡ 6) ⊎ (n ≡ 7)

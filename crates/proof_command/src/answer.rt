@@ -1,5 +1,5 @@
 // What is answered to the bytes of a proof text.
-ghost use Rattle.std.specs.Prelude.{◌≡◌, ◌≢◌, ◌++◌, codes, decimal, IfOk};
+ghost use Rattle.std.specs.Prelude.{◌≡◌, ◌≢◌, ◌⊎◌, ◌++◌, codes, decimal, IfOk};
 ghost use Rattle.proof_command.specs.Answer.{verdict_status, verdict_line, refused_line, fault_line, line_fault, IsAnswerTo};
 
 use itoa::Buffer;
@@ -15,7 +15,8 @@ pub struct Answer {
 
 /// The answer to the bytes of a proof text.
 pub fn answer_to(alloc: Global, bytes: &[u8]) -> Result<Answer, AllocError>
-    ensures { IfOk result (λ a. IsAnswerTo bytes.now a.status a.text.items) }
+    ensures answer { IfOk result (λ a. IsAnswerTo bytes.now a.status a.text.items) }
+    ensures status { IfOk result (λ a. (a.status ≡ 0) ⊎ (a.status ≡ 1) ⊎ (a.status ≡ 3)) }
 {
     match read_proof(alloc, bytes) {
         Ok((formula, log)) => {

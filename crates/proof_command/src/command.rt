@@ -1,8 +1,8 @@
 // The command.
-ghost use Rattle.std.specs.Prelude.{◌≡◌, ◌⊎◌, ℕ, List, drop};
+ghost use Rattle.std.specs.Prelude.{◌≡◌, ◌⊎◌, ℕ, List};
 ghost use Rattle.outside_io.specs.Count.{Rose};
-ghost use Rattle.outside_io.specs.Front.{TakesFront};
-ghost use Rattle.proof_command.specs.Answer.{IsCheckStatus, HasFailed, Wrote, IsStatusOf, IsPartOfAnswer};
+ghost use Rattle.proof_command.specs.Answer.{IsCheckStatus, IsAnswerTo};
+ghost use Rattle.proof_command.specs.Inputs.{AnswersInput, IsWritten};
 
 use crate::answer::answer_to;
 use outside_io::{ReadFault, Sink, Source, finish, read_all};
@@ -11,7 +11,7 @@ use std::alloc::Global;
 
 /// Reads a proof text to the source's end, checks it, and writes the line of the verdict or of the fault. Gives the
 /// status: 0 accepted, 1 read and not accepted, 3 no proof text, 5 the source failed, 6 the sink failed, 7 want of memory.
-/// Where the source or the sink doesn't tell its bytes, the clauses about them say nothing.
+/// Where the source or the sink doesn't tell its bytes, the clauses say nothing of these.
 pub fn check_proof<S: Source, K: Sink>(alloc: Global, source: &mut S, sink: &mut K) -> u8
     ensures status { IsCheckStatus result }
 
@@ -21,22 +21,9 @@ pub fn check_proof<S: Source, K: Sink>(alloc: Global, source: &mut S, sink: &mut
     ensures no_memory { result ≡ 7 → sink.new ≡ sink.old }
 
     // All that the source had is read, and of more than a proof text may have just one byte beyond that; under 5 and 7 too no more
-    // is taken.
-    ensures read { S.tells source.old → ((result ≡ 5) ⊎ (result ≡ 7)) ⊎ (S.left source.new ≡ drop 268435457 (S.left source.old)) }
-    ensures taken { S.tells source.old → TakesFront 268435457 (S.left source.old) (S.left source.new) }
-
-    // What is written is the answer to all that the source had, and under 6 a part of it.
-    ensures answer { S.tells source.old → K.tells sink.old
-        → HasFailed result ⊎ Wrote (S.left source.old) result (K.written sink.old) (K.written sink.new) }
-    ensures part { S.tells source.old → K.tells sink.old → result ≡ 6 → IsPartOfAnswer (S.left source.old) (K.written sink.old) (K.written sink.new) }
-
-    // Also where the sink doesn't tell its bytes, the status is that of this answer.
-    ensures told { S.tells source.old → HasFailed result ⊎ IsStatusOf (S.left source.old) result }
-
-    // Also where the source doesn't tell its bytes, it is the answer to some bytes.
-    ensures untold { K.tells sink.old
-        → HasFailed result ⊎ ((bytes : List ℕ) × Wrote bytes result (K.written sink.old) (K.written sink.new)) }
-    ensures untold_part { K.tells sink.old → result ≡ 6 → (bytes : List ℕ) × IsPartOfAnswer bytes (K.written sink.old) (K.written sink.new) }
+    // is taken. What is written is the answer to it, and under 6 a part of that.
+    ensures answer { AnswersInput 268435457 IsAnswerTo (S.tells source.old) (S.left source.old) (S.left source.new)
+        (K.tells sink.old) (K.written sink.old) (K.written sink.new) result }
 {
     match read_all(alloc, source, MOST_BYTES) {
         Ok(bytes) => write_answer(alloc, &bytes, sink),
@@ -50,9 +37,8 @@ fn write_answer<K: Sink>(alloc: Global, bytes: &[u8], sink: &mut K) -> u8
     ensures status { (result ≡ 0) ⊎ (result ≡ 1) ⊎ (result ≡ 3) ⊎ (result ≡ 6) ⊎ (result ≡ 7) }
     ensures failed { result ≡ 6 → Rose (K.faults sink.old) (K.faults sink.new) }
     ensures no_memory { result ≡ 7 → sink.new ≡ sink.old }
-    ensures answer { K.tells sink.old → ((result ≡ 6) ⊎ (result ≡ 7)) ⊎ Wrote bytes.now result (K.written sink.old) (K.written sink.new) }
-    ensures told { ((result ≡ 6) ⊎ (result ≡ 7)) ⊎ IsStatusOf bytes.now result }
-    ensures part { K.tells sink.old → result ≡ 6 → IsPartOfAnswer bytes.now (K.written sink.old) (K.written sink.new) }
+    ensures answer { (result ≡ 7) ⊎ ((status : ℕ) × (text : List ℕ) × IsAnswerTo bytes.now status text
+        × IsWritten status text (K.tells sink.old) (K.written sink.old) (K.written sink.new) result) }
 {
     match answer_to(alloc, bytes) {
         Ok(answer) => finish(sink, answer.status, &answer.text),

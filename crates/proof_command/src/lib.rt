@@ -5,5 +5,6 @@ mod answer;
 mod command;
 mod laws;
 
+pub use crate::answer::{Answer, answer_to};
 pub use crate::command::check_proof;
 pub use crate::laws::one_answer;

@@ -25,8 +25,8 @@ pub text_of_sessions-requires-clause-asked : goal.text_of_sessions-requires-clau
 text_of_sessions-requires-clause-asked c =
     subst (λ (xs : List SessionEntry). All (λ (x : SessionEntry). asked_by x.commands ≤ 20000) xs) (sym c.entries-sessions.ensures) (asked_each c.args.script.now.sessions 20000 c.requires.asked)
 
-pub returns-in_ok-text_of_sessions-in-Ready : goal.returns-in_ok-text_of_sessions-in-Ready
-returns-in_ok-text_of_sessions-in-Ready c =
+pub returns-in_ok-text_of_sessions-in-Ready-clause-answer : goal.returns-in_ok-text_of_sessions-in-Ready-clause-answer
+returns-in_ok-text_of_sessions-in-Ready-clause-answer c = λ workers.
     let sessions = c.entries-sessions.result.now in
     let entries = c.entries.result.now in
     let used : AreUsed sessions entries c.in-Ready.models.items = subst (λ (m : Models). AreFound sessions entries m) c.in-Ready.is c.in_ok-models.ensures in

@@ -1,152 +1,13 @@
-use Rattle.std.proofs.Common.{◌⊎◌, inl, inr, ℕ, List, [], refl, subst, arith}
+use Rattle.std.proofs.Common.{◌⊎◌, inl, inr, [], refl, subst, arith}
 use Rattle.command_words.specs.Read.{texts}
-use Rattle.command_words.specs.declared.reading.Command.TheVariants.{Run, Check}
-use Rattle.explorer_cli.specs.Outcome.{HasFailed, IsStatusOf, Wrote, IsPartOfAnswer}
-use Rattle.explorer_cli.proofs.Commands.{none_run, none_check, run_check, check_run, says_this, said_budget, few_budget, some_said, none_said}
+use Rattle.command_words.specs.declared.reading.Command.{Command}
+use Rattle.command_words.proofs.CommandLemmas.{one_command}
+use Rattle.proof_command.specs.Inputs.{AnswersInput}
+use Rattle.explorer_cli.specs.Outcome.{HasFailed, IsStatusOf, IsAnswerTo, limit_of}
+use Rattle.explorer_cli.proofs.Commands.{some_said, none_said, budget_in_range, is_status, never_two}
 use Rattle.explorer_cli.proofs.top_call.explore.Goals as goal
 
-pub returns-in-Ok-None-clause-read : goal.returns-in-Ok-None-clause-read
-returns-in-Ok-None-clause-read g c = λ tells budget run. absurd (none_run (texts c.args.words.now) budget (none_said (texts c.args.words.now) c.in-Ok-None.field-0 c.in-Ok-None.field-0-is c.in-Ok-None.ensures.none) run)
-
-pub returns-in-Ok-None-clause-answer : goal.returns-in-Ok-None-clause-answer
-returns-in-Ok-None-clause-answer g c = λ tells_left tells_written budget run. absurd (none_run (texts c.args.words.now) budget (none_said (texts c.args.words.now) c.in-Ok-None.field-0 c.in-Ok-None.field-0-is c.in-Ok-None.ensures.none) run)
-
-pub returns-in-Ok-None-clause-part : goal.returns-in-Ok-None-clause-part
-returns-in-Ok-None-clause-part g c = λ tells_left tells_written budget run six. absurd (none_run (texts c.args.words.now) budget (none_said (texts c.args.words.now) c.in-Ok-None.field-0 c.in-Ok-None.field-0-is c.in-Ok-None.ensures.none) run)
-
-pub returns-in-Ok-None-clause-told : goal.returns-in-Ok-None-clause-told
-returns-in-Ok-None-clause-told g c = λ tells budget run. absurd (none_run (texts c.args.words.now) budget (none_said (texts c.args.words.now) c.in-Ok-None.field-0 c.in-Ok-None.field-0-is c.in-Ok-None.ensures.none) run)
-
-pub returns-in-Ok-None-clause-untold : goal.returns-in-Ok-None-clause-untold
-returns-in-Ok-None-clause-untold g c = λ tells budget run. absurd (none_run (texts c.args.words.now) budget (none_said (texts c.args.words.now) c.in-Ok-None.field-0 c.in-Ok-None.field-0-is c.in-Ok-None.ensures.none) run)
-
-pub returns-in-Ok-None-clause-untold_part : goal.returns-in-Ok-None-clause-untold_part
-returns-in-Ok-None-clause-untold_part g c = λ tells budget run six. absurd (none_run (texts c.args.words.now) budget (none_said (texts c.args.words.now) c.in-Ok-None.field-0 c.in-Ok-None.field-0-is c.in-Ok-None.ensures.none) run)
-
-pub returns-in-Ok-None-clause-check_read : goal.returns-in-Ok-None-clause-check_read
-returns-in-Ok-None-clause-check_read g c = λ tells check. absurd (none_check (texts c.args.words.now) (none_said (texts c.args.words.now) c.in-Ok-None.field-0 c.in-Ok-None.field-0-is c.in-Ok-None.ensures.none) check)
-
-pub returns-in-Ok-None-clause-check_answer : goal.returns-in-Ok-None-clause-check_answer
-returns-in-Ok-None-clause-check_answer g c = λ tells_left tells_written check. absurd (none_check (texts c.args.words.now) (none_said (texts c.args.words.now) c.in-Ok-None.field-0 c.in-Ok-None.field-0-is c.in-Ok-None.ensures.none) check)
-
-pub returns-in-Ok-None-clause-check_part : goal.returns-in-Ok-None-clause-check_part
-returns-in-Ok-None-clause-check_part g c = λ tells_left tells_written check six. absurd (none_check (texts c.args.words.now) (none_said (texts c.args.words.now) c.in-Ok-None.field-0 c.in-Ok-None.field-0-is c.in-Ok-None.ensures.none) check)
-
-pub returns-in-Ok-None-clause-check_told : goal.returns-in-Ok-None-clause-check_told
-returns-in-Ok-None-clause-check_told g c = λ tells check. absurd (none_check (texts c.args.words.now) (none_said (texts c.args.words.now) c.in-Ok-None.field-0 c.in-Ok-None.field-0-is c.in-Ok-None.ensures.none) check)
-
-pub returns-in-Ok-None-clause-check_untold : goal.returns-in-Ok-None-clause-check_untold
-returns-in-Ok-None-clause-check_untold g c = λ tells check. absurd (none_check (texts c.args.words.now) (none_said (texts c.args.words.now) c.in-Ok-None.field-0 c.in-Ok-None.field-0-is c.in-Ok-None.ensures.none) check)
-
-pub returns-in-Ok-None-clause-check_untold_part : goal.returns-in-Ok-None-clause-check_untold_part
-returns-in-Ok-None-clause-check_untold_part g c = λ tells check six. absurd (none_check (texts c.args.words.now) (none_said (texts c.args.words.now) c.in-Ok-None.field-0 c.in-Ok-None.field-0-is c.in-Ok-None.ensures.none) check)
-
-pub returns-in-Ok-Some-Run-clause-read : goal.returns-in-Ok-Some-Run-clause-read
-returns-in-Ok-Some-Run-clause-read g c = λ tells budget run. c.run_script.ensures.read tells
-
-pub returns-in-Ok-Some-Run-clause-answer : goal.returns-in-Ok-Some-Run-clause-answer
-returns-in-Ok-Some-Run-clause-answer g c = λ tells_left tells_written budget run.
-    let left = g.S.Source.left c.args.source.now in
-    let old = g.K.Sink.written c.args.sink.now in
-    let new = g.K.Sink.written c.run_script.new.sink in
-    let status = c.run_script.result in
-    let same = said_budget (texts c.args.words.now) c.in-Ok-Some-Run.field-0-0 c.in-Ok-Some-Run.field-0-0-0 c.in-Ok-Some-Run.budget budget c.in-Ok-Some-Run.field-0-0-is (some_said (texts c.args.words.now) c.in-Ok-Some-Run.field-0 c.in-Ok-Some-Run.field-0-0 c.in-Ok-Some-Run.field-0-is c.in-Ok-Some-Run.ensures.some) run in
-    subst (λ (n : ℕ). HasFailed status ⊎ Wrote n left status old new) same (c.run_script.ensures.answer tells_left tells_written)
-
-pub returns-in-Ok-Some-Run-clause-part : goal.returns-in-Ok-Some-Run-clause-part
-returns-in-Ok-Some-Run-clause-part g c = λ tells_left tells_written budget run six.
-    let left = g.S.Source.left c.args.source.now in
-    let old = g.K.Sink.written c.args.sink.now in
-    let new = g.K.Sink.written c.run_script.new.sink in
-    let status = c.run_script.result in
-    let same = said_budget (texts c.args.words.now) c.in-Ok-Some-Run.field-0-0 c.in-Ok-Some-Run.field-0-0-0 c.in-Ok-Some-Run.budget budget c.in-Ok-Some-Run.field-0-0-is (some_said (texts c.args.words.now) c.in-Ok-Some-Run.field-0 c.in-Ok-Some-Run.field-0-0 c.in-Ok-Some-Run.field-0-is c.in-Ok-Some-Run.ensures.some) run in
-    subst (λ (n : ℕ). IsPartOfAnswer n left old new) same (c.run_script.ensures.part tells_left tells_written six)
-
-pub returns-in-Ok-Some-Run-clause-told : goal.returns-in-Ok-Some-Run-clause-told
-returns-in-Ok-Some-Run-clause-told g c = λ tells budget run.
-    let left = g.S.Source.left c.args.source.now in
-    let old = g.K.Sink.written c.args.sink.now in
-    let new = g.K.Sink.written c.run_script.new.sink in
-    let status = c.run_script.result in
-    let same = said_budget (texts c.args.words.now) c.in-Ok-Some-Run.field-0-0 c.in-Ok-Some-Run.field-0-0-0 c.in-Ok-Some-Run.budget budget c.in-Ok-Some-Run.field-0-0-is (some_said (texts c.args.words.now) c.in-Ok-Some-Run.field-0 c.in-Ok-Some-Run.field-0-0 c.in-Ok-Some-Run.field-0-is c.in-Ok-Some-Run.ensures.some) run in
-    subst (λ (n : ℕ). HasFailed status ⊎ IsStatusOf n left status) same (c.run_script.ensures.told tells)
-
-pub returns-in-Ok-Some-Run-clause-untold : goal.returns-in-Ok-Some-Run-clause-untold
-returns-in-Ok-Some-Run-clause-untold g c = λ tells budget run.
-    let left = g.S.Source.left c.args.source.now in
-    let old = g.K.Sink.written c.args.sink.now in
-    let new = g.K.Sink.written c.run_script.new.sink in
-    let status = c.run_script.result in
-    let same = said_budget (texts c.args.words.now) c.in-Ok-Some-Run.field-0-0 c.in-Ok-Some-Run.field-0-0-0 c.in-Ok-Some-Run.budget budget c.in-Ok-Some-Run.field-0-0-is (some_said (texts c.args.words.now) c.in-Ok-Some-Run.field-0 c.in-Ok-Some-Run.field-0-0 c.in-Ok-Some-Run.field-0-is c.in-Ok-Some-Run.ensures.some) run in
-    subst (λ (n : ℕ). HasFailed status ⊎ ((bytes : List ℕ) × Wrote n bytes status old new)) same (c.run_script.ensures.untold tells)
-
-pub returns-in-Ok-Some-Run-clause-untold_part : goal.returns-in-Ok-Some-Run-clause-untold_part
-returns-in-Ok-Some-Run-clause-untold_part g c = λ tells budget run six.
-    let left = g.S.Source.left c.args.source.now in
-    let old = g.K.Sink.written c.args.sink.now in
-    let new = g.K.Sink.written c.run_script.new.sink in
-    let status = c.run_script.result in
-    let same = said_budget (texts c.args.words.now) c.in-Ok-Some-Run.field-0-0 c.in-Ok-Some-Run.field-0-0-0 c.in-Ok-Some-Run.budget budget c.in-Ok-Some-Run.field-0-0-is (some_said (texts c.args.words.now) c.in-Ok-Some-Run.field-0 c.in-Ok-Some-Run.field-0-0 c.in-Ok-Some-Run.field-0-is c.in-Ok-Some-Run.ensures.some) run in
-    subst (λ (n : ℕ). (bytes : List ℕ) × IsPartOfAnswer n bytes old new) same (c.run_script.ensures.untold_part tells six)
-
-pub returns-in-Ok-Some-Run-clause-check_read : goal.returns-in-Ok-Some-Run-clause-check_read
-returns-in-Ok-Some-Run-clause-check_read g c = λ tells check. absurd (run_check (texts c.args.words.now) c.in-Ok-Some-Run.field-0-0-0 c.in-Ok-Some-Run.budget (says_this (texts c.args.words.now) c.in-Ok-Some-Run.field-0-0 (Run c.in-Ok-Some-Run.field-0-0-0 c.in-Ok-Some-Run.budget) c.in-Ok-Some-Run.field-0-0-is (some_said (texts c.args.words.now) c.in-Ok-Some-Run.field-0 c.in-Ok-Some-Run.field-0-0 c.in-Ok-Some-Run.field-0-is c.in-Ok-Some-Run.ensures.some)) check)
-
-pub returns-in-Ok-Some-Run-clause-check_answer : goal.returns-in-Ok-Some-Run-clause-check_answer
-returns-in-Ok-Some-Run-clause-check_answer g c = λ tells_left tells_written check. absurd (run_check (texts c.args.words.now) c.in-Ok-Some-Run.field-0-0-0 c.in-Ok-Some-Run.budget (says_this (texts c.args.words.now) c.in-Ok-Some-Run.field-0-0 (Run c.in-Ok-Some-Run.field-0-0-0 c.in-Ok-Some-Run.budget) c.in-Ok-Some-Run.field-0-0-is (some_said (texts c.args.words.now) c.in-Ok-Some-Run.field-0 c.in-Ok-Some-Run.field-0-0 c.in-Ok-Some-Run.field-0-is c.in-Ok-Some-Run.ensures.some)) check)
-
-pub returns-in-Ok-Some-Run-clause-check_part : goal.returns-in-Ok-Some-Run-clause-check_part
-returns-in-Ok-Some-Run-clause-check_part g c = λ tells_left tells_written check six. absurd (run_check (texts c.args.words.now) c.in-Ok-Some-Run.field-0-0-0 c.in-Ok-Some-Run.budget (says_this (texts c.args.words.now) c.in-Ok-Some-Run.field-0-0 (Run c.in-Ok-Some-Run.field-0-0-0 c.in-Ok-Some-Run.budget) c.in-Ok-Some-Run.field-0-0-is (some_said (texts c.args.words.now) c.in-Ok-Some-Run.field-0 c.in-Ok-Some-Run.field-0-0 c.in-Ok-Some-Run.field-0-is c.in-Ok-Some-Run.ensures.some)) check)
-
-pub returns-in-Ok-Some-Run-clause-check_told : goal.returns-in-Ok-Some-Run-clause-check_told
-returns-in-Ok-Some-Run-clause-check_told g c = λ tells check. absurd (run_check (texts c.args.words.now) c.in-Ok-Some-Run.field-0-0-0 c.in-Ok-Some-Run.budget (says_this (texts c.args.words.now) c.in-Ok-Some-Run.field-0-0 (Run c.in-Ok-Some-Run.field-0-0-0 c.in-Ok-Some-Run.budget) c.in-Ok-Some-Run.field-0-0-is (some_said (texts c.args.words.now) c.in-Ok-Some-Run.field-0 c.in-Ok-Some-Run.field-0-0 c.in-Ok-Some-Run.field-0-is c.in-Ok-Some-Run.ensures.some)) check)
-
-pub returns-in-Ok-Some-Run-clause-check_untold : goal.returns-in-Ok-Some-Run-clause-check_untold
-returns-in-Ok-Some-Run-clause-check_untold g c = λ tells check. absurd (run_check (texts c.args.words.now) c.in-Ok-Some-Run.field-0-0-0 c.in-Ok-Some-Run.budget (says_this (texts c.args.words.now) c.in-Ok-Some-Run.field-0-0 (Run c.in-Ok-Some-Run.field-0-0-0 c.in-Ok-Some-Run.budget) c.in-Ok-Some-Run.field-0-0-is (some_said (texts c.args.words.now) c.in-Ok-Some-Run.field-0 c.in-Ok-Some-Run.field-0-0 c.in-Ok-Some-Run.field-0-is c.in-Ok-Some-Run.ensures.some)) check)
-
-pub returns-in-Ok-Some-Run-clause-check_untold_part : goal.returns-in-Ok-Some-Run-clause-check_untold_part
-returns-in-Ok-Some-Run-clause-check_untold_part g c = λ tells check six. absurd (run_check (texts c.args.words.now) c.in-Ok-Some-Run.field-0-0-0 c.in-Ok-Some-Run.budget (says_this (texts c.args.words.now) c.in-Ok-Some-Run.field-0-0 (Run c.in-Ok-Some-Run.field-0-0-0 c.in-Ok-Some-Run.budget) c.in-Ok-Some-Run.field-0-0-is (some_said (texts c.args.words.now) c.in-Ok-Some-Run.field-0 c.in-Ok-Some-Run.field-0-0 c.in-Ok-Some-Run.field-0-is c.in-Ok-Some-Run.ensures.some)) check)
-
-pub returns-in-Ok-Some-Check-clause-read : goal.returns-in-Ok-Some-Check-clause-read
-returns-in-Ok-Some-Check-clause-read g c = λ tells budget run. absurd (check_run (texts c.args.words.now) budget (says_this (texts c.args.words.now) c.in-Ok-Some-Check.field-0-0 Check c.in-Ok-Some-Check.field-0-0-is (some_said (texts c.args.words.now) c.in-Ok-Some-Check.field-0 c.in-Ok-Some-Check.field-0-0 c.in-Ok-Some-Check.field-0-is c.in-Ok-Some-Check.ensures.some)) run)
-
-pub returns-in-Ok-Some-Check-clause-answer : goal.returns-in-Ok-Some-Check-clause-answer
-returns-in-Ok-Some-Check-clause-answer g c = λ tells_left tells_written budget run. absurd (check_run (texts c.args.words.now) budget (says_this (texts c.args.words.now) c.in-Ok-Some-Check.field-0-0 Check c.in-Ok-Some-Check.field-0-0-is (some_said (texts c.args.words.now) c.in-Ok-Some-Check.field-0 c.in-Ok-Some-Check.field-0-0 c.in-Ok-Some-Check.field-0-is c.in-Ok-Some-Check.ensures.some)) run)
-
-pub returns-in-Ok-Some-Check-clause-part : goal.returns-in-Ok-Some-Check-clause-part
-returns-in-Ok-Some-Check-clause-part g c = λ tells_left tells_written budget run six. absurd (check_run (texts c.args.words.now) budget (says_this (texts c.args.words.now) c.in-Ok-Some-Check.field-0-0 Check c.in-Ok-Some-Check.field-0-0-is (some_said (texts c.args.words.now) c.in-Ok-Some-Check.field-0 c.in-Ok-Some-Check.field-0-0 c.in-Ok-Some-Check.field-0-is c.in-Ok-Some-Check.ensures.some)) run)
-
-pub returns-in-Ok-Some-Check-clause-told : goal.returns-in-Ok-Some-Check-clause-told
-returns-in-Ok-Some-Check-clause-told g c = λ tells budget run. absurd (check_run (texts c.args.words.now) budget (says_this (texts c.args.words.now) c.in-Ok-Some-Check.field-0-0 Check c.in-Ok-Some-Check.field-0-0-is (some_said (texts c.args.words.now) c.in-Ok-Some-Check.field-0 c.in-Ok-Some-Check.field-0-0 c.in-Ok-Some-Check.field-0-is c.in-Ok-Some-Check.ensures.some)) run)
-
-pub returns-in-Ok-Some-Check-clause-untold : goal.returns-in-Ok-Some-Check-clause-untold
-returns-in-Ok-Some-Check-clause-untold g c = λ tells budget run. absurd (check_run (texts c.args.words.now) budget (says_this (texts c.args.words.now) c.in-Ok-Some-Check.field-0-0 Check c.in-Ok-Some-Check.field-0-0-is (some_said (texts c.args.words.now) c.in-Ok-Some-Check.field-0 c.in-Ok-Some-Check.field-0-0 c.in-Ok-Some-Check.field-0-is c.in-Ok-Some-Check.ensures.some)) run)
-
-pub returns-in-Ok-Some-Check-clause-untold_part : goal.returns-in-Ok-Some-Check-clause-untold_part
-returns-in-Ok-Some-Check-clause-untold_part g c = λ tells budget run six. absurd (check_run (texts c.args.words.now) budget (says_this (texts c.args.words.now) c.in-Ok-Some-Check.field-0-0 Check c.in-Ok-Some-Check.field-0-0-is (some_said (texts c.args.words.now) c.in-Ok-Some-Check.field-0 c.in-Ok-Some-Check.field-0-0 c.in-Ok-Some-Check.field-0-is c.in-Ok-Some-Check.ensures.some)) run)
-
-pub returns-in-Ok-Some-Check-clause-check_read : goal.returns-in-Ok-Some-Check-clause-check_read
-returns-in-Ok-Some-Check-clause-check_read g c = λ tells check. c.check_proof.ensures.read tells
-
-pub returns-in-Ok-Some-Check-clause-check_answer : goal.returns-in-Ok-Some-Check-clause-check_answer
-returns-in-Ok-Some-Check-clause-check_answer g c = λ tells_left tells_written check. c.check_proof.ensures.answer tells_left tells_written
-
-pub returns-in-Ok-Some-Check-clause-check_part : goal.returns-in-Ok-Some-Check-clause-check_part
-returns-in-Ok-Some-Check-clause-check_part g c = λ tells_left tells_written check six. c.check_proof.ensures.part tells_left tells_written six
-
-pub returns-in-Ok-Some-Check-clause-check_told : goal.returns-in-Ok-Some-Check-clause-check_told
-returns-in-Ok-Some-Check-clause-check_told g c = λ tells check. c.check_proof.ensures.told tells
-
-pub returns-in-Ok-Some-Check-clause-check_untold : goal.returns-in-Ok-Some-Check-clause-check_untold
-returns-in-Ok-Some-Check-clause-check_untold g c = λ tells check. c.check_proof.ensures.untold tells
-
-pub returns-in-Ok-Some-Check-clause-check_untold_part : goal.returns-in-Ok-Some-Check-clause-check_untold_part
-returns-in-Ok-Some-Check-clause-check_untold_part g c = λ tells check six. c.check_proof.ensures.untold_part tells six
-
-pub run_script-requires : goal.run_script-requires
-run_script-requires g c =
-    few_budget (texts c.args.words.now) c.in-Ok-Some-Run.field-0-0-0 c.in-Ok-Some-Run.budget
-    (says_this (texts c.args.words.now) c.in-Ok-Some-Run.field-0-0 (Run c.in-Ok-Some-Run.field-0-0-0 c.in-Ok-Some-Run.budget) c.in-Ok-Some-Run.field-0-0-is (some_said (texts c.args.words.now) c.in-Ok-Some-Run.field-0 c.in-Ok-Some-Run.field-0-0 c.in-Ok-Some-Run.field-0-is c.in-Ok-Some-Run.ensures.some))
+-- words that say no command
 
 pub returns-in-Ok-None-clause-words_line : goal.returns-in-Ok-None-clause-words_line
 returns-in-Ok-None-clause-words_line g c = λ tells two. elim (c.finish.ensures.all tells) [
@@ -154,26 +15,52 @@ returns-in-Ok-None-clause-words_line g c = λ tells two. elim (c.finish.ensures.
   | inr all ↦ all
 ]
 
-pub returns-in-Ok-None-clause-front : goal.returns-in-Ok-None-clause-front
-returns-in-Ok-None-clause-front g c = λ tells budget run. absurd (none_run (texts c.args.words.now) budget (none_said (texts c.args.words.now) c.in-Ok-None.field-0 c.in-Ok-None.field-0-is c.in-Ok-None.ensures.none) run)
+pub returns-in-Ok-None-clause-taken : goal.returns-in-Ok-None-clause-taken
+returns-in-Ok-None-clause-taken g c = λ said says. absurd (none_said (texts c.args.words.now) c.in-Ok-None.field-0 c.in-Ok-None.field-0-is c.in-Ok-None.ensures.none said says)
 
-pub returns-in-Ok-None-clause-check_front : goal.returns-in-Ok-None-clause-check_front
-returns-in-Ok-None-clause-check_front g c = λ tells check. absurd (none_check (texts c.args.words.now) (none_said (texts c.args.words.now) c.in-Ok-None.field-0 c.in-Ok-None.field-0-is c.in-Ok-None.ensures.none) check)
+pub returns-in-Ok-None-clause-answer : goal.returns-in-Ok-None-clause-answer
+returns-in-Ok-None-clause-answer g c = λ said says. absurd (none_said (texts c.args.words.now) c.in-Ok-None.field-0 c.in-Ok-None.field-0-is c.in-Ok-None.ensures.none said says)
 
-pub returns-in-Ok-Some-Run-clause-front : goal.returns-in-Ok-Some-Run-clause-front
-returns-in-Ok-Some-Run-clause-front g c = λ tells budget run. c.run_script.ensures.taken tells
+-- words that say one
 
-pub returns-in-Ok-Some-Run-clause-check_front : goal.returns-in-Ok-Some-Run-clause-check_front
-returns-in-Ok-Some-Run-clause-check_front g c = λ tells check. absurd (run_check (texts c.args.words.now) c.in-Ok-Some-Run.field-0-0-0 c.in-Ok-Some-Run.budget (says_this (texts c.args.words.now) c.in-Ok-Some-Run.field-0-0 (Run c.in-Ok-Some-Run.field-0-0-0 c.in-Ok-Some-Run.budget) c.in-Ok-Some-Run.field-0-0-is (some_said (texts c.args.words.now) c.in-Ok-Some-Run.field-0 c.in-Ok-Some-Run.field-0-0 c.in-Ok-Some-Run.field-0-is c.in-Ok-Some-Run.ensures.some)) check)
+pub do_command-requires : goal.do_command-requires
+do_command-requires g c =
+    let words = texts c.args.words.now in
+    budget_in_range words c.in-Ok-Some.command (some_said words c.in-Ok-Some.field-0 c.in-Ok-Some.command c.in-Ok-Some.field-0-is c.in-Ok-Some.ensures.some)
 
-pub returns-in-Ok-Some-Check-clause-front : goal.returns-in-Ok-Some-Check-clause-front
-returns-in-Ok-Some-Check-clause-front g c = λ tells budget run. absurd (check_run (texts c.args.words.now) budget (says_this (texts c.args.words.now) c.in-Ok-Some-Check.field-0-0 Check c.in-Ok-Some-Check.field-0-0-is (some_said (texts c.args.words.now) c.in-Ok-Some-Check.field-0 c.in-Ok-Some-Check.field-0-0 c.in-Ok-Some-Check.field-0-is c.in-Ok-Some-Check.ensures.some)) run)
+pub returns-in-Ok-Some-clause-status : goal.returns-in-Ok-Some-clause-status
+returns-in-Ok-Some-clause-status g c = is_status c.in-Ok-Some.command c.do_command.result c.do_command.ensures.status
 
-pub returns-in-Ok-Some-Check-clause-check_front : goal.returns-in-Ok-Some-Check-clause-check_front
-returns-in-Ok-Some-Check-clause-check_front g c = λ tells check. c.check_proof.ensures.taken tells
+pub returns-in-Ok-Some-clause-refused : goal.returns-in-Ok-Some-clause-refused
+returns-in-Ok-Some-clause-refused g c = λ none.
+    absurd (none c.in-Ok-Some.command (some_said (texts c.args.words.now) c.in-Ok-Some.field-0 c.in-Ok-Some.command c.in-Ok-Some.field-0-is c.in-Ok-Some.ensures.some))
 
-pub returns-in-Err-clause-front : goal.returns-in-Err-clause-front
-returns-in-Err-clause-front g c = λ tells budget run. ([], refl, omega arith)
+pub returns-in-Ok-Some-clause-words_line : goal.returns-in-Ok-Some-clause-words_line
+returns-in-Ok-Some-clause-words_line g c = λ tells two. absurd (never_two c.in-Ok-Some.command c.do_command.result c.do_command.ensures.status two)
 
-pub returns-in-Err-clause-check_front : goal.returns-in-Err-clause-check_front
-returns-in-Err-clause-check_front g c = λ tells check. ([], refl, omega arith)
+pub returns-in-Ok-Some-clause-words_part : goal.returns-in-Ok-Some-clause-words_part
+returns-in-Ok-Some-clause-words_part g c = λ tells none six.
+    absurd (none c.in-Ok-Some.command (some_said (texts c.args.words.now) c.in-Ok-Some.field-0 c.in-Ok-Some.command c.in-Ok-Some.field-0-is c.in-Ok-Some.ensures.some))
+
+pub returns-in-Ok-Some-clause-taken : goal.returns-in-Ok-Some-clause-taken
+returns-in-Ok-Some-clause-taken g c = λ said says.
+    let words = texts c.args.words.now in
+    let same = one_command words c.in-Ok-Some.command said (some_said words c.in-Ok-Some.field-0 c.in-Ok-Some.command c.in-Ok-Some.field-0-is c.in-Ok-Some.ensures.some) says in
+    subst (λ (x : Command). HasFailed c.do_command.result ⊎ IsStatusOf x c.do_command.result) same c.do_command.ensures.status
+
+pub returns-in-Ok-Some-clause-answer : goal.returns-in-Ok-Some-clause-answer
+returns-in-Ok-Some-clause-answer g c = λ said says.
+    let words = texts c.args.words.now in
+    let source_tells = g.S.Source.tells c.args.source.now in
+    let had = g.S.Source.left c.args.source.now in
+    let left = g.S.Source.left c.do_command.new.source in
+    let sink_tells = g.K.Sink.tells c.args.sink.now in
+    let old = g.K.Sink.written c.args.sink.now in
+    let new = g.K.Sink.written c.do_command.new.sink in
+    let same = one_command words c.in-Ok-Some.command said (some_said words c.in-Ok-Some.field-0 c.in-Ok-Some.command c.in-Ok-Some.field-0-is c.in-Ok-Some.ensures.some) says in
+    subst (λ (x : Command). AnswersInput (limit_of x) (IsAnswerTo x) source_tells had left sink_tells old new c.do_command.result) same c.do_command.ensures.answer
+
+-- where reading the words wants memory
+
+pub returns-in-Err-clause-answer : goal.returns-in-Err-clause-answer
+returns-in-Err-clause-answer g c = λ said says. record { front = λ tells. ([], refl, omega arith); done = inr (inl refl) }

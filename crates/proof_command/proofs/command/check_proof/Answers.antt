@@ -1,35 +1,13 @@
-use Rattle.std.proofs.Common.{◌≡◌, ℕ, List, inl, inr, take, subst, ◌∙◌}
-use Rattle.proof_command.specs.Answer.{IsAnswerTo, IsPartOfAnswer}
-use Rattle.proof_command.proofs.WholeTexts.{answers_whole, part_of_whole}
+use Rattle.std.proofs.Common.{◌∙◌}
+use Rattle.proof_command.specs.Answer.{IsAnswerTo}
+use Rattle.proof_command.proofs.Inputs.{answered}
+use Rattle.proof_command.proofs.WholeTexts.{answers_whole}
 use Rattle.proof_command.proofs.command.check_proof.Goals as goal
 
 pub returns-in-Ok-clause-answer : goal.returns-in-Ok-clause-answer
-returns-in-Ok-clause-answer g c =
-    let left = g.S.Source.left c.args.source.now in
-    let status = c.write_answer.result in
-    λ tells_left tells_written.
-    let front : c.deref.result.now ≡ take 268435457 left = c.deref.ensures.value ∙ c.in-Ok.ensures.bytes tells_left in
-    elim (c.write_answer.ensures.answer tells_written) [
-      | inl failed ↦ elim failed [ inl six ↦ inl (inr (inl six)) | inr seven ↦ inl (inr (inr seven)) ]
-      | inr done ↦ inr (done.0, answers_whole left status done.0 (subst (λ (xs : List ℕ). IsAnswerTo xs status done.0) front done.1), done.2)
-    ]
-
-pub returns-in-Ok-clause-told : goal.returns-in-Ok-clause-told
-returns-in-Ok-clause-told g c =
-    let left = g.S.Source.left c.args.source.now in
-    let status = c.write_answer.result in
-    λ tells.
-    let front : c.deref.result.now ≡ take 268435457 left = c.deref.ensures.value ∙ c.in-Ok.ensures.bytes tells in
-    elim c.write_answer.ensures.told [
-      | inl failed ↦ elim failed [ inl six ↦ inl (inr (inl six)) | inr seven ↦ inl (inr (inr seven)) ]
-      | inr done ↦ inr (done.0, answers_whole left status done.0 (subst (λ (xs : List ℕ). IsAnswerTo xs status done.0) front done.1))
-    ]
-
-pub returns-in-Ok-clause-part : goal.returns-in-Ok-clause-part
-returns-in-Ok-clause-part g c =
-    let left = g.S.Source.left c.args.source.now in
-    let old = g.K.Sink.written c.args.sink.now in
-    let new = g.K.Sink.written c.write_answer.new.sink in
-    λ tells_left tells_written six.
-    let front : c.deref.result.now ≡ take 268435457 left = c.deref.ensures.value ∙ c.in-Ok.ensures.bytes tells_left in
-    part_of_whole left old new (subst (λ (xs : List ℕ). IsPartOfAnswer xs old new) front (c.write_answer.ensures.part tells_written six))
+returns-in-Ok-clause-answer g c = record {
+  front = c.read_all.ensures.taken;
+  done = answered 268435457 IsAnswerTo answers_whole (g.S.Source.tells c.args.source.now) (g.S.Source.left c.args.source.now) (g.S.Source.left c.read_all.new.source) c.deref.result.now
+      (g.K.Sink.tells c.args.sink.now) (g.K.Sink.written c.args.sink.now) (g.K.Sink.written c.write_answer.new.sink) c.write_answer.result
+      (λ tells. c.deref.ensures.value ∙ c.in-Ok.ensures.bytes tells) c.in-Ok.ensures.rest c.write_answer.ensures.answer;
+}

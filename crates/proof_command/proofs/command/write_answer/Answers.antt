@@ -1,22 +1,22 @@
-use Rattle.std.proofs.Common.{◌++◌, ℕ, inl, inr, sym, subst, ap, ◌∙◌}
-use Rattle.proof_command.specs.Answer.{IsAnswerTo}
+use Rattle.std.proofs.Common.{◌≡◌, inl, inr, subst, arith}
+use Rattle.proof_command.specs.Inputs.{IsWritten}
+use Rattle.proof_command.proofs.Inputs.{written_text}
 use Rattle.proof_command.proofs.command.write_answer.Goals as goal
 
 pub returns-in-Ok-clause-answer : goal.returns-in-Ok-clause-answer
 returns-in-Ok-clause-answer g c =
-    let text = c.in-Ok.answer.text.items in
-    λ tells. elim (c.finish.ensures.all tells) [
-      | inl failed ↦ inl (inl failed)
-      | inr all ↦ elim c.finish.ensures.status [
-        | inl same ↦ inr (text, subst (λ (n : ℕ). IsAnswerTo c.args.bytes.now n text) (sym same) c.in-Ok.ensures, all ∙ ap (λ xs. g.K.Sink.written c.args.sink.now ++ xs) c.deref.ensures.value)
-        | inr failed ↦ inl (inl failed)
-      ]
-    ]
-
-pub returns-in-Ok-clause-told : goal.returns-in-Ok-clause-told
-returns-in-Ok-clause-told g c =
-    let text = c.in-Ok.answer.text.items in
-    elim c.finish.ensures.status [
-      | inl same ↦ inr (text, subst (λ (n : ℕ). IsAnswerTo c.args.bytes.now n text) (sym same) c.in-Ok.ensures)
-      | inr failed ↦ inl (inl failed)
-    ]
+    let tells = g.K.Sink.tells c.args.sink.now in
+    let old = g.K.Sink.written c.args.sink.now in
+    let new = g.K.Sink.written c.finish.new.sink in
+    let not_six : c.in-Ok.answer.status ≡ 6 → ⊥ = λ six. elim c.in-Ok.ensures.status [
+      | inl zero ↦ absurd (omega arith)
+      | inr (inl one) ↦ absurd (omega arith)
+      | inr (inr three) ↦ absurd (omega arith)
+    ] in
+    let written = written_text c.in-Ok.answer.status c.deref.result.now tells old new c.finish.result not_six c.finish.ensures.status c.finish.ensures.all c.finish.ensures.part in
+    inr (
+      c.in-Ok.answer.status,
+      c.in-Ok.answer.text.items,
+      c.in-Ok.ensures.answer,
+      subst (λ xs. IsWritten c.in-Ok.answer.status xs tells old new c.finish.result) c.deref.ensures.value written,
+    )

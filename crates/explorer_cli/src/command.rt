@@ -1,0 +1,59 @@
+// What the words say is done.
+ghost use Rattle.std.specs.Prelude.{◌≡◌, ◌≢◌, ◌⊎◌, ◌+◌, ℕ, List};
+ghost use Rattle.outside_io.specs.Count.{Rose};
+ghost use Rattle.proof_command.specs.Inputs.{AnswersInput, IsWritten};
+ghost use Rattle.explorer_cli.specs.Outcome.{HasBudgetInRange, HasFailed, IsStatusOf, IsAnswerTo, limit_of};
+
+use crate::answer::answer_to;
+use command_words::Command;
+use outside_io::{ReadFault, Sink, Source, finish, read_all};
+use std::alloc::Global;
+
+/// Reads the input to the source's end, answers it as this command does, and writes that. Gives the status: that of the
+/// answer, or 5 the source failed, 6 the sink failed, 7 want of memory.
+pub fn do_command<S: Source, K: Sink>(
+    alloc: Global,
+    command: Command,
+    source: &mut S,
+    sink: &mut K,
+) -> u8
+    requires { HasBudgetInRange command }
+    ensures status { HasFailed result ⊎ IsStatusOf command result }
+    ensures source_failed { result ≡ 5 → Rose (S.faults source.old) (S.faults source.new) × (sink.new ≡ sink.old) }
+    ensures sink_failed { result ≡ 6 → Rose (K.faults sink.old) (K.faults sink.new) }
+    ensures no_memory { result ≡ 7 → sink.new ≡ sink.old }
+    ensures answer { AnswersInput (limit_of command) (IsAnswerTo command) (S.tells source.old) (S.left source.old) (S.left source.new)
+        (K.tells sink.old) (K.written sink.old) (K.written sink.new) result }
+{
+    match read_all(alloc, source, most_bytes(command)) {
+        Ok(bytes) => write_answer(alloc, command, &bytes, sink),
+        Err(ReadFault::Failed) => 5,
+        Err(ReadFault::Memory) => 7,
+    }
+}
+
+// How many bytes the input of a command may have.
+fn most_bytes(command: Command) -> usize
+    ensures { result + 1 ≡ limit_of command }
+{
+    match command {
+        Command::Run { .. } => script_format::MOST_BYTES,
+        Command::Check => refutation_check::MOST_BYTES,
+    }
+}
+
+// Writes the answer to what was read.
+fn write_answer<K: Sink>(alloc: Global, command: Command, bytes: &[u8], sink: &mut K) -> u8
+    requires { HasBudgetInRange command }
+    ensures status { (result ≡ 6) ⊎ (result ≡ 7) ⊎ IsStatusOf command result }
+    ensures was_read { result ≢ 5 }
+    ensures failed { result ≡ 6 → Rose (K.faults sink.old) (K.faults sink.new) }
+    ensures no_memory { result ≡ 7 → sink.new ≡ sink.old }
+    ensures answer { (result ≡ 7) ⊎ ((status : ℕ) × (text : List ℕ) × IsAnswerTo command bytes.now status text
+        × IsWritten status text (K.tells sink.old) (K.written sink.old) (K.written sink.new) result) }
+{
+    match answer_to(alloc, command, bytes) {
+        Ok(answer) => finish(sink, answer.status, &answer.text),
+        Err(_) => 7,
+    }
+}
