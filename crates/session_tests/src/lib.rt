@@ -5,6 +5,8 @@
 #[cfg(test)]
 mod large_sets;
 #[cfg(test)]
+mod of_decision;
+#[cfg(test)]
 mod of_explorer_run;
 #[cfg(test)]
 mod of_proof_lines;

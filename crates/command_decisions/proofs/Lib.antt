@@ -1,0 +1,4 @@
+pub mod MinimalParts
+pub mod FirstFound
+pub mod ListedFormulas
+pub mod FewerFacts
