@@ -171,15 +171,18 @@ fn tell(
 // An ask, what it is to be told, and a number and the bits of cells with it.
 type Row = (Ask, Told, u32, u32);
 
-// The answers, one after the other, where fewer than so many atoms are there; and how many scenarios are listed then.
-fn answers(alloc: Global, count: u32, rows: &[Row]) -> Result<(Vec<(Told, u32, u32)>, usize), Fail>
+// The answers, one after the other, and how many scenarios are listed then.
+fn answers(
+    alloc: Global,
+    made: &Translation,
+    rows: &[Row],
+) -> Result<(Vec<(Told, u32, u32)>, usize), Fail>
     requires { length rows.now ≤ 100 }
 {
-    let made = translated(alloc, count)?;
     let mut session = Session::new(alloc, 1, 2, 1000)?;
     let mut told = Vec::new(alloc);
     for (ask, ..) in rows {
-        let one = tell(alloc, &mut session, &made, *ask)?;
+        let one = tell(alloc, &mut session, made, *ask)?;
         told.push(one)?;
     }
     let listed = session.listed(alloc)?;
@@ -191,7 +194,8 @@ fn is_told(alloc: Global, count: u32, rows: &[Row], listed: usize) -> Result<boo
     if rows.len() > 100 {
         Err("too many asks")?;
     }
-    let (told, found) = answers(alloc, count, rows)?;
+    let made = translated(alloc, count)?;
+    let (told, found) = answers(alloc, &made, rows)?;
     Ok(found == listed && are_told(told.as_slice(), rows))
 }
 

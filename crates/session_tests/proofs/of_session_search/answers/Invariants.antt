@@ -4,6 +4,6 @@ use Rattle.session_tests.proofs.of_session_search.answers.Given as goal
 
 abbrev pub invariant-loop-ask : goal.invariant-loop-ask
 invariant-loop-ask l = record {
-  fits : FitsProblem l.made-inside.problem l.session.kept;
+  fits : FitsProblem l.made.problem l.session.kept;
   few : length l.session.kept.state.shown ≤ l.ask-index;
 }
