@@ -22,8 +22,6 @@ mod of_levels;
 #[cfg(test)]
 mod of_relations;
 #[cfg(test)]
-mod of_renaming_classes;
-#[cfg(test)]
 mod of_signatures;
 #[cfg(test)]
 mod of_variables;
