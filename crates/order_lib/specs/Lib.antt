@@ -1,0 +1,4 @@
+pub mod Library
+pub mod Scopes
+pub mod Faults
+pub mod Expanded
