@@ -22,6 +22,8 @@ mod of_levels;
 #[cfg(test)]
 mod of_relations;
 #[cfg(test)]
+mod of_renaming_classes;
+#[cfg(test)]
 mod of_signatures;
 #[cfg(test)]
 mod of_variables;
