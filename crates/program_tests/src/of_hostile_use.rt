@@ -1,7 +1,7 @@
 // Calls that fail, scripts that are cut, scripts at their limits, and models that take long: each row's status and output were
 // worked out by hand.
-use crate::running::{Calls, answered, explored_by, grown};
-use std::alloc::{AllocError, Global};
+use crate::running::{answered, ends, explored_widely, grown};
+use std::alloc::Global;
 use std::fmt::Write;
 use std::process::Abort;
 use std::test::Fail;
@@ -12,28 +12,29 @@ const FILE_SYSTEM: &str =
 const FILE_SYSTEM_LINES: &str =
     "== a\nscenario 1\nFSObject = {FSObject$0}\nDir = {FSObject$0}\nFile = {}\nRoot = {FSObject$0}\nparent = {}\ncontents = {}\naugmented\nlisted 1\nFSObject = {FSObject$0, FSObject$1, FSObject$2}\nDir = {FSObject$0, FSObject$2}\nFile = {FSObject$1}\nRoot = {FSObject$0}\nparent = {FSObject$1->FSObject$2, FSObject$2->FSObject$0}\ncontents = {FSObject$0->FSObject$2, FSObject$2->FSObject$1}\nlisted 2\nFSObject = {FSObject$0, FSObject$1}\nDir = {FSObject$0}\nFile = {FSObject$1}\nRoot = {FSObject$0}\nparent = {FSObject$1->FSObject$0}\ncontents = {FSObject$0->FSObject$1}\nend 2\n";
 
-// The status and the output for the file system.
-fn grown_by(
+// Whether the file system has this status and, of its lines, so many bytes at the front, where the calls of these numbers fail.
+fn grows(
+    rt: &impl Abort,
     alloc: Global,
-    reads: Calls<'_>,
-    writes: Calls<'_>,
-) -> Result<(u8, String), AllocError> {
-    explored_by(alloc, &["run"], FILE_SYSTEM.as_bytes(), reads, writes)
+    (reads, writes): (&[u32], &[u32]),
+    (status, size): (u8, usize),
+) -> Result<(), Fail> {
+    let (found, text) = explored_widely(alloc, &["run"], FILE_SYSTEM.as_bytes(), reads, writes)?;
+    assert_eq!(rt; found, status);
+    assert_eq!(rt; text.len(), size);
+    assert!(rt; FILE_SYSTEM_LINES.starts_with(text.as_str()));
+    Ok(())
 }
 
 // The script has 352 bytes: 22 calls read them, and one more finds their end.
 #[test]
 fn each_read_fails_in_turn(rt: HostRuntime) -> Result<(), Fail> {
-    let alloc = rt.alloc();
-    for number in 1..61 {
-        let (status, text) = grown_by(alloc, (16, &[number]), (16, &[]))?;
-        let (failed, lines) = if number <= 23 {
-            (5, "")
-        } else {
-            (0, FILE_SYSTEM_LINES)
-        };
-        assert_eq!(rt; status, failed, "{number}");
-        assert_eq!(rt; text.as_str(), lines, "{number}");
+    let none: &[u32] = &[];
+    for number in 1..24 {
+        grows(&rt, rt.alloc(), (&[number], none), (5, 0))?;
+    }
+    for number in 24..61 {
+        grows(&rt, rt.alloc(), (&[number], none), (0, 551))?;
     }
     Ok(())
 }
@@ -41,17 +42,14 @@ fn each_read_fails_in_turn(rt: HostRuntime) -> Result<(), Fail> {
 // The output has 551 bytes, which 35 calls write; what comes before the call that fails is written.
 #[test]
 fn each_write_fails_in_turn(rt: HostRuntime) -> Result<(), Fail> {
-    let alloc = rt.alloc();
-    for number in 1..61 {
-        let (status, text) = grown_by(alloc, (16, &[]), (16, &[number]))?;
-        let (failed, size) = if number <= 35 {
-            (6, 16 * (number as usize - 1))
-        } else {
-            (0, 551)
-        };
-        assert_eq!(rt; status, failed, "{number}");
-        assert_eq!(rt; text.len(), size, "{number}");
-        assert!(rt; FILE_SYSTEM_LINES.starts_with(text.as_str()), "{number}");
+    let none: &[u32] = &[];
+    let mut size: usize = 0;
+    for number in 1..36 {
+        grows(&rt, rt.alloc(), (none, &[number]), (6, size))?;
+        size = size.saturating_add(16).min(551);
+    }
+    for number in 36..61 {
+        grows(&rt, rt.alloc(), (none, &[number]), (0, size))?;
     }
     Ok(())
 }
@@ -137,15 +135,14 @@ fn each_number_of_workers_writes_the_same(rt: HostRuntime) -> Result<(), Fail> {
         "== a\nlisted 1\nA = {A$0, A$1}\nf = {A$0->A$1}\nlisted 2\nA = {A$0}\nf = {A$0->A$0}\nend 2\n== b\nlisted 1\nA = {A$0, A$1}\nf = {A$0->A$1}\nlisted 2\nA = {A$0}\nf = {A$0->A$0}\nend 2\n";
     for workers in 1..17 {
         let number = format!(in alloc; "{workers}")?;
-        let (status, text) = explored_by(
+        ends(
+            &rt,
             alloc,
             &["run", "--workers", number.as_str()],
             script.as_bytes(),
-            (4096, &[]),
-            (4096, &[]),
+            0,
+            lines,
         )?;
-        assert_eq!(rt; status, 0, "{workers}");
-        assert_eq!(rt; text.as_str(), lines, "{workers}");
     }
     Ok(())
 }

@@ -14,43 +14,35 @@ fn owned(alloc: Global, words: &[&str]) -> Result<Vec<String>, AllocError> {
     Ok(owned)
 }
 
-/// How many bytes a call takes at most, and the numbers of the calls that fail.
-pub type Calls<'a> = (usize, &'a [u32]);
-
-// A source of these bytes.
-fn source(
-    alloc: Global,
-    script: &[u8],
-    (size, failing): Calls<'_>,
-) -> Result<MemSource, AllocError> {
+// A source of these bytes, where the calls of these numbers fail.
+fn source(alloc: Global, script: &[u8], failing: &[u32]) -> Result<MemSource, AllocError> {
     let script = Vec::from_slice(alloc, script)?;
     let failing = Vec::from_slice(alloc, failing)?;
-    Ok(MemSource::new(script, size, failing))
+    Ok(MemSource::new(script, 4, failing))
 }
 
-fn sink(alloc: Global, (size, failing): Calls<'_>) -> Result<MemSink, AllocError> {
+// A sink where the calls of these numbers fail.
+fn sink(alloc: Global, failing: &[u32]) -> Result<MemSink, AllocError> {
     let failing = Vec::from_slice(alloc, failing)?;
-    MemSink::new(alloc, 50000, size, failing)
+    MemSink::new(alloc, 50000, 10, failing)
+}
+
+// A source of these bytes, sixteen a call, where the calls of these numbers fail.
+fn wide_source(alloc: Global, script: &[u8], failing: &[u32]) -> Result<MemSource, AllocError> {
+    let script = Vec::from_slice(alloc, script)?;
+    let failing = Vec::from_slice(alloc, failing)?;
+    Ok(MemSource::new(script, 16, failing))
+}
+
+// A sink of sixteen bytes a call, where the calls of these numbers fail.
+fn wide_sink(alloc: Global, failing: &[u32]) -> Result<MemSink, AllocError> {
+    let failing = Vec::from_slice(alloc, failing)?;
+    MemSink::new(alloc, 50000, 16, failing)
 }
 
 // The program's status.
 fn status(alloc: Global, words: &[String], source: &mut MemSource, sink: &mut MemSink) -> u8 {
     explore(alloc, words, source, sink)
-}
-
-/// The status and the output for these words and this script, with such calls for reading and for writing.
-pub fn explored_by(
-    alloc: Global,
-    words: &[&str],
-    script: &[u8],
-    reads: Calls<'_>,
-    writes: Calls<'_>,
-) -> Result<(u8, String), AllocError> {
-    let owned = owned(alloc, words)?;
-    let mut source = source(alloc, script, reads)?;
-    let mut sink = sink(alloc, writes)?;
-    let status = status(alloc, &owned, &mut source, &mut sink);
-    Ok((status, String::from_utf8_lossy(alloc, sink.bytes())?))
 }
 
 /// The status and the output for these words and this script, where the calls of these numbers fail.
@@ -61,13 +53,26 @@ pub fn explored(
     failing_reads: &[u32],
     failing_writes: &[u32],
 ) -> Result<(u8, String), AllocError> {
-    explored_by(
-        alloc,
-        words,
-        script,
-        (4, failing_reads),
-        (10, failing_writes),
-    )
+    let owned = owned(alloc, words)?;
+    let mut source = source(alloc, script, failing_reads)?;
+    let mut sink = sink(alloc, failing_writes)?;
+    let status = status(alloc, &owned, &mut source, &mut sink);
+    Ok((status, String::from_utf8_lossy(alloc, sink.bytes())?))
+}
+
+/// The same with sixteen bytes a call.
+pub fn explored_widely(
+    alloc: Global,
+    words: &[&str],
+    script: &[u8],
+    failing_reads: &[u32],
+    failing_writes: &[u32],
+) -> Result<(u8, String), AllocError> {
+    let owned = owned(alloc, words)?;
+    let mut source = wide_source(alloc, script, failing_reads)?;
+    let mut sink = wide_sink(alloc, failing_writes)?;
+    let status = status(alloc, &owned, &mut source, &mut sink);
+    Ok((status, String::from_utf8_lossy(alloc, sink.bytes())?))
 }
 
 /// The status and the output for the word `run` and this script.
