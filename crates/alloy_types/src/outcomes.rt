@@ -32,8 +32,8 @@ pub struct Outcomes {
 pub fn outcomes_of(alloc: Global, model: &Named) -> Result<Outcomes, AllocError>
     ensures { IfOk result (AreOutcomes (named_view model.now) (declared_in (named_view model.now))) }
 {
-    let setting = declared(alloc, model)?;
     let mut scope = Scope::new(alloc);
+    let setting = declared(alloc, &mut scope, model)?;
     let fields = of_fields(alloc, &setting, &mut scope, &model.fields)?;
     let callees = of_callees(alloc, &setting, &mut scope, &model.callees)?;
     let facts = of_formulas(alloc, &setting, &mut scope, &model.facts)?;

@@ -1,40 +1,23 @@
 -- The floor behind an augmentation and a way back.
-use Rattle.std.proofs.Common.{◌≡◌, inl, inr, ℕ, zero, suc, ◌+◌, ◌<◌, true, false, if◌then◌else◌, List, [], ◌∷◌, ◌++◌, drop, slice_index_or, Some, slice_get, refl, sym, ap, ◌∙◌, subst, arith}
+use Rattle.std.proofs.Common.{◌≡◌, inl, inr, ℕ, zero, suc, ◌+◌, ◌<◌, List, [], ◌∷◌, ◌++◌, drop, slice_index_or, Some, slice_get, refl, sym, ap, ◌∙◌, subst, arith}
 use Rattle.rel_formula.specs.Bounds.{Bounded}
 use Rattle.session_words.specs.declared.steps.Step.TheVariants as step
 use Rattle.session_words.specs.declared.commands.Command.{Command}
 use Rattle.session_words.specs.declared.commands.Command.TheVariants as command
-use Rattle.session_rules.specs.ProofOfEnd.{ProofOfEnd}
-use Rattle.session_rules.specs.States.{State, top_floor, has_ended, after}
+use Rattle.session_rules.specs.States.{State, KeepsFloors, top_floor, after}
 use Rattle.session_rules.specs.Steps.{Exchange, state_after}
 use Rattle.session_rules.specs.Transcripts.{showings, ComesTo, Serves, IsTranscript}
 use Rattle.session_rules.specs.declared.answers.Reply.{Reply}
 use Rattle.session_rules.specs.declared.answers.Reply.TheVariants as reply
+use Rattle.session_rules.proofs.KeptFloors.{floors_stay}
 use Rattle.session_rules.proofs.Runs.{states_join}
-use Rattle.explorer_cli.specs.Shown.{IsReplyAt, KeepsFloors, AllKeepFloors}
+use Rattle.explorer_cli.specs.Shown.{IsReplyAt, AllKeepFloors}
 
 same_reply : (x y : Reply) → Some x ≡ Some y → x ≡ y
 same_reply x y e = cc
 
 same_floor : (x y : List ℕ) → Some x ≡ Some y → x ≡ y
 same_floor x y e = cc
-
-abbrev ended_by : State → ProofOfEnd → State
-ended_by s proof = record s { ended = s.ended ++ record { floor = top_floor s; proof = proof } ∷ [] }
-
--- replies that leave the floors as they are
-stay : (s : State) (r : Reply) → KeepsFloors r → (after s r).above ≡ s.above
-stay s (reply.Shown number scenario) keeps = refl
-stay s (reply.End number proof) keeps = elim (has_ended (top_floor s) s) as (λ b. (if b then s else ended_by s proof).above ≡ s.above) [ true ↦ refl | false ↦ refl ]
-stay s (reply.Offers cells) keeps = refl
-stay s (reply.Augmented above) keeps = absurd keeps
-stay s reply.Back keeps = absurd keeps
-stay s (reply.BudgetSet budget) keeps = refl
-stay s (reply.All scenarios) keeps = refl
-stay s (reply.Partly first scenarios) keeps = refl
-stay s (reply.Proof proof) keeps = refl
-stay s (reply.Refused refusal) keeps = refl
-stay s reply.Memory keeps = refl
 
 showings_stay : (s : State) (n : ℕ) (ss : List (List ℕ)) → (state_after s (showings n ss)).above ≡ s.above
 showings_stay s n [] = refl
@@ -45,10 +28,10 @@ last_stays s n r xs keeps comes =
     let last : Exchange = record { step = step.Next; reply = r } in
     let before = showings comes.first comes.scenarios in
     ap (λ (ys : List Exchange). (state_after s ys).above) comes.exchanges ∙ ap (λ (u : State). u.above) (states_join s before (last ∷ []))
-    ∙ stay (state_after s before) r keeps ∙ showings_stay s comes.first comes.scenarios
+    ∙ floors_stay (state_after s before) r keeps ∙ showings_stay s comes.first comes.scenarios
 
 served_stay : (p : Bounded) (s : State) (c : Command) (r : Reply) (xs : List Exchange) → KeepsFloors r → Serves p s c r xs → (state_after s xs).above ≡ s.above
-served_stay p s (command.Step x) r xs keeps h = ap (λ (ys : List Exchange). (state_after s ys).above) h.read ∙ stay s r keeps
+served_stay p s (command.Step x) r xs keeps h = ap (λ (ys : List Exchange). (state_after s ys).above) h.read ∙ floors_stay s r keeps
 served_stay p s (command.All n) (reply.All scenarios) xs keeps h = last_stays s n (reply.End h.read.0.number h.read.0.proof) xs tt h.read.0.comes
 served_stay p s (command.All n) (reply.Partly first scenarios) xs keeps h = ap (λ (ys : List Exchange). (state_after s ys).above) h.read.1 ∙ showings_stay s first scenarios
 served_stay p s (command.All n) (reply.Refused refusal) xs keeps h = last_stays s n (reply.Refused refusal) xs tt h.read

@@ -9,8 +9,9 @@ use Rattle.session_words.specs.declared.steps.Step.TheVariants.{Budget, Augment}
 use Rattle.session_words.specs.declared.commands.Command.{Command}
 use Rattle.session_words.specs.declared.commands.Command.TheVariants.{Step, All as AskedAll}
 use Rattle.session_rules.specs.Naming.{NamesCell}
+use Rattle.session_rules.specs.States.{KeepsFloors}
 use Rattle.session_rules.specs.declared.answers.Reply.{Reply}
-use Rattle.session_rules.specs.declared.answers.Reply.TheVariants.{Shown, Augmented, Back, All as AllShown, Partly, Refused, Memory}
+use Rattle.session_rules.specs.declared.answers.Reply.TheVariants.{Shown, All as AllShown, Partly, Refused, Memory}
 use Rattle.script_text.specs.Printed.{Printed, listed, budget_set}
 
 -- the reply at a place, and the top floor before it
@@ -91,13 +92,7 @@ pub record AsksAt (p : Bounded) (commands : List Command) (replies : List Reply)
   pub absent : ¬ Contains current cell
   pub above_is : above ≡ with_cell cell current
 
--- the reply neither adds a floor nor leaves one
-abbrev pub KeepsFloors : Reply → Type 0
-KeepsFloors (Augmented above) = ⊥
-KeepsFloors Back = ⊥
-KeepsFloors reply = Unit {0}
-
--- each reply between these places does
+-- each reply between these places neither adds a floor nor leaves one
 abbrev pub AllKeepFloors : List Reply → ℕ → ℕ → Type 0
 AllKeepFloors replies first second = (place : ℕ) (reply : Reply) → first < place → place < second → slice_get replies place ≡ Some reply → KeepsFloors reply
 

@@ -287,7 +287,7 @@ impl Judge {
     fn take_end(&mut self, alloc: Global, proof: &EndProof) -> Result<(), AllocError> {
         if self.proof().is_none() {
             let floor = self.floor().copy(alloc)?;
-            let proof = proof.copy(alloc)?;
+            let proof = proof.copy()?;
             self.ended.push(EndedAt { floor, proof })?;
         }
         Ok(())

@@ -35,8 +35,8 @@ fn none(alloc: Global) -> Scenarios
     Scenarios::of(Vec::new(alloc))
 }
 
-fn proof(alloc: Global, imported: u32) -> EndProof {
-    EndProof::of(imported, none(alloc), Log::new(alloc), Log::new(alloc))
+fn proof(alloc: Global, imported: u32) -> Result<EndProof, AllocError> {
+    EndProof::of(alloc, imported, none(alloc), Log::new(alloc), Log::new(alloc))
 }
 
 fn spent(alloc: Global, budget: u32) -> Refusal {
@@ -55,7 +55,7 @@ fn reply_of(alloc: Global, problem: &Problem, told: Told) -> Result<Reply, Alloc
         }),
         Told::End(number, imported) => Ok(Reply::End {
             number,
-            proof: proof(alloc, imported),
+            proof: proof(alloc, imported)?,
         }),
         Told::Offers(cells) => Ok(Reply::Offers {
             cells: CellNumbers::of(cells.to_vec(alloc)?),
@@ -66,7 +66,7 @@ fn reply_of(alloc: Global, problem: &Problem, told: Told) -> Result<Reply, Alloc
         Told::Back => Ok(Reply::Back),
         Told::Budget(budget) => Ok(Reply::BudgetSet(budget)),
         Told::Proof(imported) => Ok(Reply::Proof {
-            proof: proof(alloc, imported),
+            proof: proof(alloc, imported)?,
         }),
         Told::NoScenario => Ok(Reply::Refused(Refusal::NoScenario)),
         Told::Present => Ok(Reply::Refused(Refusal::Present)),

@@ -79,7 +79,7 @@ fn proof(alloc: Global) -> Result<EndProof, Fail> {
     let blocked = scenarios(alloc)?;
     let pool = log(alloc, 5, 7, 8)?;
     let own = log(alloc, 6, 9, 1)?;
-    Ok(EndProof::of(1, blocked, pool, own))
+    Ok(EndProof::of(alloc, 1, blocked, pool, own)?)
 }
 
 // A part with one local clause.

@@ -1,5 +1,6 @@
-pub mod Runs
-mod Refuted
 mod OneFloor
-mod Searched
 mod Readings
+mod Refuted
+mod Searched
+pub mod KeptFloors
+pub mod Runs

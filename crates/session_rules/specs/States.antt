@@ -59,3 +59,9 @@ after s (Augmented floor) = record s { above = floor ∷ s.above }
 after s Back = record s { above = drop 1 s.above }
 after s (BudgetSet budget) = record s { budget = budget }
 after s reply = s
+
+-- the reply neither adds a floor nor leaves one
+abbrev pub KeepsFloors : Reply → Type 0
+KeepsFloors (Augmented floor) = ⊥
+KeepsFloors Back = ⊥
+KeepsFloors reply = Unit {0}

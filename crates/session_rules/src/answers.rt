@@ -59,7 +59,7 @@ impl Refusal {
             Refusal::NoScenario => Ok(Refusal::NoScenario),
             Refusal::UnknownTuple => Ok(Refusal::UnknownTuple),
             Refusal::Present => Ok(Refusal::Present),
-            Refusal::NoInstance(proof) => Ok(Refusal::NoInstance(proof.copy(alloc)?)),
+            Refusal::NoInstance(proof) => Ok(Refusal::NoInstance(proof.copy()?)),
             Refusal::Bottom => Ok(Refusal::Bottom),
             Refusal::Deep => Ok(Refusal::Deep),
             Refusal::Spent(work) => Ok(Refusal::Spent(work.copy(alloc)?)),
@@ -107,7 +107,7 @@ impl Reply {
             }),
             Reply::End { number, proof } => Ok(Reply::End {
                 number: *number,
-                proof: proof.copy(alloc)?,
+                proof: proof.copy()?,
             }),
             Reply::Offers { cells } => Ok(Reply::Offers {
                 cells: cells.copy(alloc)?,
@@ -125,7 +125,7 @@ impl Reply {
                 scenarios: scenarios.copy(alloc)?,
             }),
             Reply::Proof { proof } => Ok(Reply::Proof {
-                proof: proof.copy(alloc)?,
+                proof: proof.copy()?,
             }),
             Reply::Refused(refusal) => Ok(Reply::Refused(refusal.copy(alloc)?)),
             Reply::Memory => Ok(Reply::Memory),

@@ -19,7 +19,7 @@ ghost use Rattle.session_rules.specs.declared.answers.Reply.{Reply as ReplyType}
 ghost use Rattle.session_rules.specs.declared.answers.Refusal.{Refusal as RefusalType};
 ghost use Rattle.session_rules.specs.declared.end_proof.ProofKind.{ProofKind as ProofKindType};
 ghost use Rattle.session_rules.specs.ProofOfEnd.{ProofOfEnd};
-ghost use Rattle.session_rules.specs.States.{State, Start as start, has_ended, shown_here, top_floor};
+ghost use Rattle.session_rules.specs.States.{KeepsFloors, State, Start as start, after, has_ended, shown_here, top_floor};
 ghost use Rattle.session_rules.specs.Steps.{AsksFor, Exchange, IsReached, MachineRun, MayAnswer, state_after};
 ghost use Rattle.session_rules.specs.Sound.{IsSound};
 ghost use Rattle.session_rules.specs.Proofs.{HasRenamingAmong, IsCovered, Proves, RefutesWith};
@@ -137,6 +137,17 @@ pub fn an_all_lists_what_is_due()
 {
     runs_join();
 }
+
+/// `all` that is answered by a part shows just as many scenarios as it asks for.
+pub fn a_part_is_as_many_as_were_asked()
+    ensures { (p : Bounded) (old : State) (n first : ℕ) (scenarios : List (List ℕ)) (xs : List Exchange) → Serves p old (Command.All n) (Reply.Partly first scenarios) xs → length scenarios ≡ n }
+{}
+
+/// `back` undoes an augmentation: right behind it the state is as before both, and later the floors are.
+pub fn back_undoes_an_augmentation()
+    ensures at_once { (s : State) (floor : List ℕ) → after (after s (Reply.Augmented floor)) Reply.Back ≡ s }
+    ensures later { (s : State) (floor : List ℕ) (xs : List Exchange) → All (λ x. KeepsFloors x.reply) xs → (after (state_after (after s (Reply.Augmented floor)) xs) Reply.Back).above ≡ s.above }
+{}
 
 /// No parts and no copies are work for each step.
 pub fn nothing_done_is_work()

@@ -38,9 +38,9 @@ fn shown(alloc: Global, number: u32, cells: &[u32]) -> Result<Reply, AllocError>
 }
 
 // An end with a proof of so many imported steps.
-fn end(alloc: Global, number: u32, imported: u32) -> Reply {
-    let proof = EndProof::of(imported, none(alloc), Log::new(alloc), Log::new(alloc));
-    Reply::End { number, proof }
+fn end(alloc: Global, number: u32, imported: u32) -> Result<Reply, AllocError> {
+    let proof = EndProof::of(alloc, imported, none(alloc), Log::new(alloc), Log::new(alloc))?;
+    Ok(Reply::End { number, proof })
 }
 
 // A session that has shown two scenarios at the bottom.
@@ -67,7 +67,7 @@ fn reply_of(alloc: Global, event: Event) -> Result<Reply, AllocError> {
             floor: of(alloc, &[1, 3, 4])?,
         },
         Event::Shown => shown(alloc, 1, &[1, 3, 4])?,
-        Event::End(imported) => end(alloc, 2, imported),
+        Event::End(imported) => end(alloc, 2, imported)?,
         Event::Back => Reply::Back,
     })
 }

@@ -8,6 +8,8 @@ mod of_bounding_types;
 #[cfg(test)]
 mod of_deep_expressions;
 #[cfg(test)]
+mod of_doubling_functions;
+#[cfg(test)]
 mod of_known_callees;
 #[cfg(test)]
 mod of_part_sorts;

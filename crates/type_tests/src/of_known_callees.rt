@@ -6,6 +6,7 @@ use alloy_types::known_callees::declared;
 use model_types::part_sorts::Kind;
 use named_model::named::{Callee, Named};
 use named_model::phrase::{Phrase, Referent};
+use overload_resolution::typed_scopes::Scope;
 use std::alloc::{AllocError, Global};
 use std::test::Fail;
 
@@ -83,7 +84,7 @@ fn a_domain_with_a_fault_has_no_arity(rt: HostRuntime) -> Result<(), Fail> {
 // Whether anything is known of a function that calls itself.
 fn with_itself(alloc: Global) -> Result<bool, AllocError> {
     let model = one(alloc, SET, called(alloc, 0, SET)?)?;
-    Ok(declared(alloc, &model).is_ok())
+    Ok(declared(alloc, &mut Scope::new(alloc), &model).is_ok())
 }
 
 #[test]

@@ -5,7 +5,7 @@ use alloy_types::known_callees::declared;
 use model_types::part_sorts::Kind;
 use named_model::named::{Callee, Field, Meaning, Named, Signature};
 use named_model::phrase::{Domain, Link, Phrase, Referent, Step};
-use overload_resolution::typed_scopes::Setting;
+use overload_resolution::typed_scopes::{Scope, Setting};
 use std::alloc::{AllocError, Global};
 
 pub const PLACE: Place = Place { line: 1, column: 1 };
@@ -124,7 +124,7 @@ pub fn has_parameters(
     number: usize,
     arities: &[Option<usize>],
 ) -> Result<bool, AllocError> {
-    let setting = declared(alloc, model)?;
+    let setting = declared(alloc, &mut Scope::new(alloc), model)?;
     Ok(are_parameters(&setting, number, arities))
 }
 
@@ -137,7 +137,7 @@ fn are_parameters(setting: &Setting, number: usize, arities: &[Option<usize>]) -
 
 /// What a call of it is.
 pub fn kind_at(alloc: Global, model: &Named, number: usize) -> Result<Option<Kind>, AllocError> {
-    let setting = declared(alloc, model)?;
+    let setting = declared(alloc, &mut Scope::new(alloc), model)?;
     Ok(kind_in(&setting, number))
 }
 
@@ -150,7 +150,7 @@ fn kind_in(setting: &Setting, number: usize) -> Option<Kind> {
 
 /// Whether it has a body.
 pub fn has_body(alloc: Global, model: &Named, number: usize) -> Result<Option<bool>, AllocError> {
-    let setting = declared(alloc, model)?;
+    let setting = declared(alloc, &mut Scope::new(alloc), model)?;
     Ok(has_body_in(&setting, number))
 }
 

@@ -17,17 +17,21 @@ use named_model::named::{Field, Named};
 use overload_resolution::expression_types::Known;
 use overload_resolution::shared_fields::Fields;
 use overload_resolution::typed_scopes::types::type_inside;
-use overload_resolution::typed_scopes::{Scope, Setting};
+use overload_resolution::typed_scopes::{Locals, Scope, Setting};
 use std::alloc::{AllocError, Global};
 
 // The signatures and fields of a model, and no predicate and no function.
-pub fn fields_known(alloc: Global, model: &Named) -> Result<Setting, AllocError>
+pub fn fields_known<'a>(
+    alloc: Global,
+    scope: &mut Scope,
+    model: &'a Named,
+) -> Result<Setting<'a>, AllocError>
     ensures fields { IfOk result (λ s. HasFields (named_view model.now) s) }
     ensures headers { IfOk result (λ s. s.headers.items ≡ []) }
     ensures bodies { IfOk result (λ s. s.types.bodies.items ≡ []) }
 {
     let setting = Setting::new(alloc, &model.signatures)?;
-    let types = field_types(alloc, &setting, &model.fields)?;
+    let types = field_types(alloc, &setting, scope, &model.fields)?;
     let fields = entries(alloc, &setting, &model.fields)?;
     let known = setting.types;
     let types = Known {
@@ -49,15 +53,16 @@ pub fn fields_known(alloc: Global, model: &Named) -> Result<Setting, AllocError>
 fn field_types(
     alloc: Global,
     setting: &Setting,
+    scope: &mut Scope,
     fields: &[Field],
 ) -> Result<Vec<BoundingType>, AllocError>
     requires { AreTables setting.now }
     ensures { IfOk result (λ ts. AreEachSame ts.items (map (field_type (declared_by setting.now)) (map field_view fields.now))) }
 {
-    let mut scope = Scope::new(alloc);
+    scope.locals = Locals::new(alloc);
     let mut types = Vec::new(alloc);
     for field in fields {
-        let of = type_of_field(alloc, setting, &mut scope, field)?;
+        let of = type_of_field(alloc, setting, scope, field)?;
         types.push(of)?;
     }
     Ok(types)

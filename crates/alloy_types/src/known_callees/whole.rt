@@ -26,16 +26,21 @@ use std::alloc::{AllocError, Global};
 
 /// What is declared in a model: its signatures, its fields with their types, and what is known of its predicates and functions.
 /// Want of memory is also answered where a predicate or a function calls itself over one or more steps, or one that isn't
-/// there, and where a bounding type that a shared name asks for would have too many lists.
-pub fn declared(alloc: Global, model: &Named) -> Result<Setting, AllocError>
+/// there, and where a bounding type that a shared name asks for would have too many lists, or looks at more of them than are left
+/// in the scope.
+pub fn declared<'a>(
+    alloc: Global,
+    scope: &mut Scope,
+    model: &'a Named,
+) -> Result<Setting<'a>, AllocError>
     ensures tables { IfOk result (λ s. AreTables s) }
     ensures value { IfOk result (λ s. AreSameDeclared (declared_by s) (declared_in (named_view model.now))) }
 {
     let rows = rows(alloc, &model.callees)?;
     let order = order_of(alloc, &rows)?;
-    let setting = fields_known(alloc, model)?;
+    let setting = fields_known(alloc, scope, model)?;
     let setting = with_places(alloc, model, setting)?;
-    all_known(alloc, model, &order, setting)
+    all_known(alloc, scope, model, &order, setting)
 }
 
 // A place for each predicate and function, of which nothing is known yet.
@@ -95,6 +100,7 @@ fn no_bodies(alloc: Global, count: usize) -> Result<Vec<Option<Phrase>>, AllocEr
 // With what is known of the predicates and functions, in an order in which what is called comes before its callers.
 fn all_known<'a>(
     alloc: Global,
+    scope: &mut Scope,
     model: &Named,
     order: &[usize],
     setting: Setting<'a>,
@@ -105,9 +111,8 @@ fn all_known<'a>(
     ensures value { IfOk result (λ s. AreSameDeclared (declared_by s) (declared_in (named_view model.now))) }
 {
     let mut setting = setting;
-    let mut scope = Scope::new(alloc);
     for number in order {
-        let (header, body) = known_at(alloc, &setting, &mut scope, &model.callees, *number)?;
+        let (header, body) = known_at(alloc, &setting, scope, &model.callees, *number)?;
         put(&mut setting, *number, header, body);
     }
     Ok(setting)

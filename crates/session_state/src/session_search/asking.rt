@@ -64,7 +64,7 @@ fn end_again(alloc: Global, shown: &[Scenario], proof: &EndProof) -> Result<Prop
 {
     nothing_done_is_work();
     let number = shown.len() as u32;
-    let proof = proof.copy(alloc)?;
+    let proof = proof.copy()?;
     Ok(at_once(alloc, Reply::End { number, proof }))
 }
 

@@ -139,5 +139,5 @@ fn refuting(alloc: Global, pool: &Log, part: &Part) -> Result<EndProof, AllocErr
     let none = Scenarios::of(Vec::new(alloc));
     let pool = pool.copy(alloc)?;
     let log = part.log().copy(alloc)?;
-    Ok(EndProof::of(imported, none, pool, log))
+    Ok(EndProof::of(alloc, imported, none, pool, log)?)
 }

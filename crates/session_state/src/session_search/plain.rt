@@ -33,7 +33,7 @@ pub(crate) fn prove(alloc: Global, store: &SessionStore) -> Result<Proposal, All
 {
     match store.proof() {
         Some(proof) => {
-            let proof = proof.copy(alloc)?;
+            let proof = proof.copy()?;
             Ok(at_once(alloc, Reply::Proof { proof }))
         }
         None => Ok(at_once(alloc, Reply::Refused(Refusal::NoEnd))),
