@@ -69,13 +69,7 @@ fn end_proof(alloc: Global, cnf: &Cnf) -> Result<EndProof, Fail>
     let mut scenarios = Vec::new(alloc);
     scenarios.push(Scenario::new(alloc))?;
     let log = one_step(alloc, empty_clause(alloc)?, cnf.len() + 1)?;
-    Ok(EndProof::of(
-        alloc,
-        0,
-        Scenarios::of(scenarios),
-        Log::new(alloc),
-        log,
-    )?)
+    Ok(EndProof::of(alloc, 0, Scenarios::of(scenarios), Log::new(alloc), log)?)
 }
 
 // So many steps that say the first clause again.

@@ -36,7 +36,13 @@ fn none(alloc: Global) -> Scenarios
 }
 
 fn proof(alloc: Global, imported: u32) -> Result<EndProof, AllocError> {
-    EndProof::of(alloc, imported, none(alloc), Log::new(alloc), Log::new(alloc))
+    EndProof::of(
+        alloc,
+        imported,
+        none(alloc),
+        Log::new(alloc),
+        Log::new(alloc),
+    )
 }
 
 fn spent(alloc: Global, budget: u32) -> Refusal {

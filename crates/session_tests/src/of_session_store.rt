@@ -39,7 +39,13 @@ fn shown(alloc: Global, number: u32, cells: &[u32]) -> Result<Reply, AllocError>
 
 // An end with a proof of so many imported steps.
 fn end(alloc: Global, number: u32, imported: u32) -> Result<Reply, AllocError> {
-    let proof = EndProof::of(alloc, imported, none(alloc), Log::new(alloc), Log::new(alloc))?;
+    let proof = EndProof::of(
+        alloc,
+        imported,
+        none(alloc),
+        Log::new(alloc),
+        Log::new(alloc),
+    )?;
     Ok(Reply::End { number, proof })
 }
 

@@ -203,13 +203,7 @@ fn proof_of(
     let imported = pool.steps().len() as u32;
     let steps = pool.copy(alloc)?;
     let log = part.log().copy(alloc)?;
-    Ok(EndProof::of(
-        alloc,
-        imported,
-        Scenarios::of(blocked),
-        steps,
-        log,
-    )?)
+    Ok(EndProof::of(alloc, imported, Scenarios::of(blocked), steps, log)?)
 }
 
 // Equal scenarios: the first ones, and then the second.
