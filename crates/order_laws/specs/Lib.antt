@@ -1,0 +1,4 @@
+pub mod Orders
+pub mod Texts
+pub mod Calls
+pub mod Faults
