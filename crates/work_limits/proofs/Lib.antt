@@ -1,0 +1,11 @@
+mod NovelSteps
+mod PartUnits
+mod LocalVariables
+mod ScenarioCounts
+mod Descending
+mod Rounds
+mod Arrangements
+mod RenamingCodes
+mod CopyCounts
+mod StepUnits
+mod TranslationVariables
