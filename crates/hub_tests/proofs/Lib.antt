@@ -3,3 +3,4 @@ mod Ended
 mod Sessions
 mod Restating
 mod Turned
+mod Turns

@@ -8,4 +8,8 @@ mod of_hub_lock;
 #[cfg(test)]
 mod of_hub_state;
 #[cfg(test)]
+mod of_hub_turns;
+#[cfg(test)]
 mod of_journal_rules;
+#[cfg(test)]
+mod of_session_turns;

@@ -24,7 +24,7 @@ fn always(alloc: Global) -> Result<Problem, AllocError>
 }
 
 // Its translation.
-fn translated(alloc: Global) -> Result<Arc<Translation>, Fail>
+pub(crate) fn translated(alloc: Global) -> Result<Arc<Translation>, Fail>
     ensures { IfOk result (λ t. t.value.problem ≡ record { relations = []; tops = []; formula = conjunction no_formulas }) }
 {
     let made = Translation::build(alloc, always(alloc)?)?;
@@ -32,7 +32,7 @@ fn translated(alloc: Global) -> Result<Arc<Translation>, Fail>
 }
 
 // A hub of this problem.
-fn hub_of_one(alloc: Global) -> Result<Hub, Fail>
+pub(crate) fn hub_of_one(alloc: Global) -> Result<Hub, Fail>
     ensures { IfOk result (λ h. h ≡ record { problems = record { relations = []; tops = []; formula = conjunction no_formulas } ∷ []; journal = [] }) }
 {
     let mut problems = Vec::new(alloc);
@@ -73,7 +73,7 @@ fn end_proof(alloc: Global, cnf: &Cnf) -> Result<EndProof, Fail>
 }
 
 // So many steps that say the first clause again.
-fn restated(alloc: Global, cnf: &Cnf, n: u32) -> Result<Log, Fail>
+pub(crate) fn restated(alloc: Global, cnf: &Cnf, n: u32) -> Result<Log, Fail>
     requires { n < 100000 }
     ensures { IfOk result (λ log. IsAccepted cnf.now.clauses log) }
 {
@@ -188,7 +188,7 @@ fn numbers_of(entry: &Entry) -> (u32, u32, u32) {
 }
 
 // Whether the journal's entries read as these numbers.
-fn reads(hub: &Hub, want: &[(u32, u32, u32)]) -> bool {
+pub(crate) fn reads(hub: &Hub, want: &[(u32, u32, u32)]) -> bool {
     let entries = hub.journal();
     entries.len() == want.len()
         && entries

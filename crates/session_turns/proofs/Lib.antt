@@ -1,0 +1,5 @@
+pub mod Turning
+pub mod ProofSharing
+pub mod Answering
+pub mod ShownTogether
+pub mod SessionStart

@@ -1,0 +1,40 @@
+use Rattle.std.proofs.Common.{inl, refl, sym, subst}
+use Rattle.hub_turns.proofs.Onward.{went_none}
+use Rattle.session_turns.proofs.Answering.{IsPlainStep, on_ok, begun_plain, plain_proposed}
+use Rattle.session_turns.proofs.steps.proposed.Goals as goal
+
+pub returns-in-Back-clause-goes : goal.returns-in-Back-clause-goes
+returns-in-Back-clause-goes g c = went_none c.args.lock.now c.args.pass.now c.requires.idle
+
+pub returns-in-Back-clause-begun : goal.returns-in-Back-clause-begun
+returns-in-Back-clause-begun g c = on_ok c.propose_plain.result (begun_plain c.args.pass.now c.args.step.now c.args.session.now (subst IsPlainStep (sym c.in-Back.is) tt))
+
+pub returns-in-Back-clause-cut : goal.returns-in-Back-clause-cut
+returns-in-Back-clause-cut g c = inl refl
+
+pub returns-in-Back-clause-proposal : goal.returns-in-Back-clause-proposal
+returns-in-Back-clause-proposal g c = plain_proposed c.args.translation.now c.args.pass.now c.args.session.now c.args.step.now c.propose_plain.result c.nothing_done_is_work.ensures c.propose_plain.ensures
+
+pub returns-in-Budget-clause-goes : goal.returns-in-Budget-clause-goes
+returns-in-Budget-clause-goes g c = went_none c.args.lock.now c.args.pass.now c.requires.idle
+
+pub returns-in-Budget-clause-begun : goal.returns-in-Budget-clause-begun
+returns-in-Budget-clause-begun g c = on_ok c.propose_plain-in-Budget.result (begun_plain c.args.pass.now c.args.step.now c.args.session.now (subst IsPlainStep (sym c.in-Budget.is) tt))
+
+pub returns-in-Budget-clause-cut : goal.returns-in-Budget-clause-cut
+returns-in-Budget-clause-cut g c = inl refl
+
+pub returns-in-Budget-clause-proposal : goal.returns-in-Budget-clause-proposal
+returns-in-Budget-clause-proposal g c = plain_proposed c.args.translation.now c.args.pass.now c.args.session.now c.args.step.now c.propose_plain-in-Budget.result c.nothing_done_is_work.ensures c.propose_plain-in-Budget.ensures
+
+pub returns-in-Proof-clause-goes : goal.returns-in-Proof-clause-goes
+returns-in-Proof-clause-goes g c = went_none c.args.lock.now c.args.pass.now c.requires.idle
+
+pub returns-in-Proof-clause-begun : goal.returns-in-Proof-clause-begun
+returns-in-Proof-clause-begun g c = on_ok c.propose_plain-in-Proof.result (begun_plain c.args.pass.now c.args.step.now c.args.session.now (subst IsPlainStep (sym c.in-Proof.is) tt))
+
+pub returns-in-Proof-clause-cut : goal.returns-in-Proof-clause-cut
+returns-in-Proof-clause-cut g c = inl refl
+
+pub returns-in-Proof-clause-proposal : goal.returns-in-Proof-clause-proposal
+returns-in-Proof-clause-proposal g c = plain_proposed c.args.translation.now c.args.pass.now c.args.session.now c.args.step.now c.propose_plain-in-Proof.result c.nothing_done_is_work.ensures c.propose_plain-in-Proof.ensures

@@ -1,0 +1,129 @@
+// Steps of a session over the hub.
+ghost use Rattle.std.specs.Prelude.{◌≡◌, ◌⊎◌, ◌≤◌, ◌+◌, ℕ, length, IfOk, OnOk};
+ghost use Rattle.script_format.specs.Limits.{IsAllowed};
+ghost use Rattle.script_format.specs.Reading.{asks_step};
+ghost use Rattle.session_words.specs.declared.commands.Command.TheVariants.{Step as ToStep};
+ghost use Rattle.session_rules.specs.States.{top_floor};
+ghost use Rattle.session_state.specs.Sessions.Fits.{FitsProblem};
+ghost use Rattle.session_state.specs.Sessions.Proposed.{NeedsTranslation};
+ghost use Rattle.explorer_run.specs.Serving.{IsPrintable};
+ghost use Rattle.hub_state.specs.Journal.Journal.{IsPublished};
+ghost use Rattle.hub_turns.specs.Turned.{IsIdle, WentOn};
+ghost use Rattle.session_turns.specs.Added.{HasBegun, HasProposed, HasAnswered};
+ghost use Rattle.session_turns.specs.Seated.{IsSeated};
+
+use crate::settling::settle;
+use crate::sharing::share_parts;
+use hub_lock::{Pass, Turns};
+use hub_state::Hub;
+use hub_turns::import;
+use script_text::proof_lines::laws::covered_scenarios_are_cells;
+use session_rules::Reply;
+use session_rules::laws::{
+    a_run_is_sound, memory_changes_nothing, nothing_done_is_work, one_floor_is_asked_for,
+};
+use session_state::session_search::{Proposal, Session};
+use session_words::Step;
+use std::alloc::{AllocError, Global};
+use std::sync::Wait;
+use translation::Translation;
+
+/// Answers a step, and takes the answer in once it is recorded. After want of memory the session is as before, and nothing is
+/// recorded.
+pub(crate) fn take_step<R: Wait>(
+    rt: &R,
+    alloc: Global,
+    lock: &Turns<Hub>,
+    pass: &mut Pass<Hub>,
+    session: &mut Session,
+    translation: &Translation,
+    step: &Step,
+) -> Reply
+    requires seated { IsSeated lock.now translation.now 20000 pass.old session.old }
+    requires allowed { IsAllowed (ToStep step.now) }
+    ensures goes { WentOn lock.now pass.old pass.new }
+    ensures answered { HasAnswered translation.now pass.old pass.new session.old session.new step.now result }
+    ensures printable { IsPrintable translation.now (top_floor session.old.kept.state) result }
+    ensures seated { (shown : ℕ) → IsSeated lock.now translation.now shown pass.old session.old → IsSeated lock.now translation.now (shown + asks_step step.now) pass.new session.new }
+    ensures key { session.new.key ≡ session.old.key }
+{
+    a_run_is_sound();
+    memory_changes_nothing();
+    covered_scenarios_are_cells();
+    match proposed(rt, alloc, lock, pass, session, translation, step) {
+        Ok(proposal) => settle(rt, alloc, lock, pass, session, step, proposal),
+        Err(_) => Reply::Memory,
+    }
+}
+
+// What the session proposes for a step, with what comes before its record.
+fn proposed<R: Wait>(
+    rt: &R,
+    alloc: Global,
+    lock: &Turns<Hub>,
+    pass: &mut Pass<Hub>,
+    session: &mut Session,
+    translation: &Translation,
+    step: &Step,
+) -> Result<Proposal, AllocError>
+    requires idle { IsIdle lock.now pass.old }
+    requires published { IsPublished pass.old.view.seen session.old.key translation.now }
+    requires fits { FitsProblem translation.now.problem session.old.kept }
+    requires few_shown { length session.old.kept.state.shown ≤ 20000 }
+    requires allowed { IsAllowed (ToStep step.now) }
+    ensures goes { WentOn lock.now pass.old pass.new }
+    ensures begun { OnOk result (HasBegun pass.old pass.new step.now session.old) }
+    ensures cut { (pass.new.view.own ≡ pass.old.view.own) ⊎ HasBegun pass.old pass.new step.now session.old }
+    ensures proposal { IfOk result (HasProposed translation.now pass.new session.old step.now) }
+    ensures same { session.new ≡ session.old }
+{
+    nothing_done_is_work();
+    match step {
+        Step::Next => searched(rt, alloc, lock, pass, session, translation, step),
+        Step::Offers => searched(rt, alloc, lock, pass, session, translation, step),
+        Step::Augment { .. } => searched(rt, alloc, lock, pass, session, translation, step),
+        Step::Back => session.propose_plain(alloc, step),
+        Step::Budget(_) => session.propose_plain(alloc, step),
+        Step::Proof => session.propose_plain(alloc, step),
+    }
+}
+
+// What the session proposes for a step that a search answers: the key's pool is imported first, and what the search found out
+// that rests on the translation alone is shared.
+fn searched<R: Wait>(
+    rt: &R,
+    alloc: Global,
+    lock: &Turns<Hub>,
+    pass: &mut Pass<Hub>,
+    session: &mut Session,
+    translation: &Translation,
+    step: &Step,
+) -> Result<Proposal, AllocError>
+    requires idle { IsIdle lock.now pass.old }
+    requires published { IsPublished pass.old.view.seen session.old.key translation.now }
+    requires fits { FitsProblem translation.now.problem session.old.kept }
+    requires few_shown { length session.old.kept.state.shown ≤ 20000 }
+    requires asked { NeedsTranslation step.now }
+    ensures goes { WentOn lock.now pass.old pass.new }
+    ensures begun { OnOk result (HasBegun pass.old pass.new step.now session.old) }
+    ensures cut { (pass.new.view.own ≡ pass.old.view.own) ⊎ HasBegun pass.old pass.new step.now session.old }
+    ensures proposal { IfOk result (HasProposed translation.now pass.new session.old step.now) }
+    ensures same { session.new ≡ session.old }
+{
+    one_floor_is_asked_for();
+    let _ = translation.problem().relations(); // for the proof
+    let key = session.key();
+    let pool = import(rt, alloc, lock, pass, key)?;
+    let proposal = session.propose(alloc, translation, &pool, step)?;
+    share_parts(
+        rt,
+        alloc,
+        lock,
+        pass,
+        key,
+        translation,
+        &pool,
+        proposal.parts(),
+    )?;
+    Ok(proposal)
+}
