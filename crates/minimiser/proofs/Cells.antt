@@ -1,5 +1,5 @@
 -- Scenarios of the cells whose variables are true, and how many cells a scenario has.
-use Rattle.std.proofs.Common.{◌≡◌, ◌≢◌, ◌↔◌, ◌⊎◌, inl, inr, ◌<◌, ◌≤◌, ◌+◌, ◌*◌, ℕ, Bool, true, false, not, List, [], ◌∷◌, ◌++◌, map, length, All, AllPairs, Contains, IsTrue, refl, sym, subst, arith, ◌==◌, length-append}
+use Rattle.std.proofs.Common.{◌≡◌, ◌≢◌, ◌↔◌, inl, inr, ◌<◌, ◌≤◌, ◌+◌, ◌*◌, ℕ, Bool, true, false, not, List, [], ◌∷◌, ◌++◌, map, length, AllPairs, Contains, IsTrue, sym, subst, arith, length-append}
 use Rattle.std.specs.Prelude.{nat_eq}
 use Rattle.std.specs.List.{list_any, range_with_len}
 use Rattle.std.proofs.lemmas.Bool.{cases_lt}
@@ -9,7 +9,7 @@ use Rattle.std.proofs.lemmas.List.Elements.{Contains-get_or}
 use Rattle.std.proofs.lemmas.List.FromFn.{length-range_with_len}
 use Rattle.cnf_core.specs.Literal.{negation_of}
 use Rattle.rel_formula.specs.Bounds.{Bounded, cells_of}
-use Rattle.rel_formula.specs.Instance.{Includes, with_cell}
+use Rattle.rel_formula.specs.Instance.{with_cell}
 use Rattle.rel_formula.proofs.Counts.{no_longer}
 use Rattle.rel_formula.proofs.OpenCells.{cons_cases}
 use Rattle.rel_formula.proofs.OneSetOfAtoms.{filter_shorter}

@@ -1,7 +1,7 @@
 -- A descent on its way.
-use Rattle.std.proofs.Common.{◌≡◌, ◌≢◌, ◌↔◌, ◌⊎◌, inl, inr, ◌<◌, ◌≤◌, ◌+◌, ◌-◌, ◌*◌, ◌^◌, ℕ, Bool, List, [], ◌∷◌, ◌++◌, map, length, get_or, slice_get, Some, sum_by, All, AllPairs, Contains, refl, sym, ◌∙◌, ap, subst, arith}
+use Rattle.std.proofs.Common.{◌≡◌, ◌≢◌, ◌↔◌, inl, inr, ◌≤◌, ◌+◌, ◌-◌, ℕ, Bool, List, [], ◌∷◌, ◌++◌, map, length, get_or, sum_by, All, AllPairs, refl, sym, ◌∙◌, ap, subst, arith}
 use Rattle.std.proofs.lemmas.List.{map-append, length_push}
-use Rattle.std.proofs.lemmas.List.Elements.{All-push, All-nil, Contains-get_or}
+use Rattle.std.proofs.lemmas.List.Elements.{All-push, All-nil}
 use Rattle.std.proofs.lemmas.List.Quantifiers.{all_pairs_push}
 use Rattle.std.proofs.lemmas.List.Sums.{sum_by-append}
 use Rattle.cnf_core.specs.declared.literal.Lit.{Lit}
@@ -10,14 +10,15 @@ use Rattle.refutation_check.specs.declared.log.Step.{Step as LogStep}
 use Rattle.refutation_check.specs.SearchLog.{IsSearchLog, IsNovelButLast, IsAllNovel, HasNoEmpty, novel_steps}
 use Rattle.refutation_check.specs.Part.{Parted}
 use Rattle.refutation_check.proofs.Novelty.{novel_at_most, novel_all}
-use Rattle.rel_formula.specs.Bounds.{Bounded}
 use Rattle.rel_formula.specs.Instance.{AreCells, IsScenario, IsInstance, IsMinimalAbove, Includes}
 use Rattle.rel_formula.proofs.Lists.{some-Contains}
 use Rattle.translation_rules.specs.Translation.{Translated, IsSatisfiableAt}
 use Rattle.translation_rules.specs.Parts.{AreSearched, given_to, novel_in}
-use Rattle.translation_rules.specs.Descents.{IsProperPart, IsSmaller, Lowering, IsLowering, GoesDown, descent_locals}
+use Rattle.translation_rules.specs.Descents.{IsProperPart, IsSmaller, Lowering, IsLowering, descent_locals}
 use Rattle.translation_rules.proofs.Tests.{includes_or_not, cells_within}
-use Rattle.minimiser.specs.Down.{AreDescent, IsDescent}
+use Rattle.minimiser.specs.declared.descent.Down.{Down}
+use Rattle.minimiser.specs.declared.descent.Down.TheVariants.{Minimal, Spent}
+use Rattle.minimiser.specs.Down.{IsDescent, IsRight, IsRightOn}
 
 -- the searches so far lead from the start to this scenario, and so much of the budget is left
 pub record Going (t : Translated) (pool : List LogStep) (floor start : List ℕ) (budget : ℕ) (scenario : List ℕ) (left : ℕ) (parts : List Parted) : Type 0 where
@@ -49,6 +50,22 @@ set_out t pool floor start budget is above = record {
   searched = All-nil (λ (part : Parted). IsSearchLog (given_to t pool part) part.log);
   spent = omega arith;
 }
+
+-- no search is a descent
+pub nothing_done : (t : Translated) (pool : List LogStep) (floor start : List ℕ) (budget : ℕ) → IsInstance t.problem start → Includes start floor → IsDescent t pool floor start budget []
+nothing_done t pool floor start budget is above =
+    let going = set_out t pool floor start budget is above in
+    record {
+      descent = record {
+        lowerings = going.lowerings;
+        all_parts = going.all_parts;
+        down = record { lowerings = going.each; shrinking = going.shrinking };
+        first = going.first.1;
+        within = going.inside;
+      };
+      searched = going.searched;
+      few = let all = going.spent in omega arith;
+    }
 
 -- the first of a list with one more behind it
 first_of_push : (xs : List Lowering) (y : Lowering) (start : List ℕ) → (xs ≡ [] → y.from ≡ start) → ((x : Lowering) (others : List Lowering) → xs ≡ x ∷ others → x.from ≡ start) →
@@ -165,3 +182,8 @@ minimal t says floor scenario instance above refuted = record {
         absurd (refuted sat.valuation sat.satisfied)
   ];
 }
+
+-- a descent with parts is one that may have none
+pub right_on : (t : Translated) (pool : List LogStep) (floor start : List ℕ) (budget : ℕ) (d : Down) → IsRight t pool floor start budget d → IsRightOn t pool floor start budget d
+right_on t pool floor start budget (Minimal scenario parts) right = (right.0, right.1, inr right.2)
+right_on t pool floor start budget (Spent parts) right = right

@@ -1,3 +1,4 @@
 pub mod Cells
 pub mod DescentStates
 pub mod SolverAnswers
+pub mod LoweredTrails

@@ -1,5 +1,5 @@
 -- What a descent comes to, and what its parts are.
-use Rattle.std.specs.Prelude.{◌≡◌, ◌≤◌, ℕ, List, [], ◌∷◌, ◌++◌, map, All}
+use Rattle.std.specs.Prelude.{◌≡◌, ◌≤◌, ◌⊎◌, ℕ, List, [], ◌∷◌, ◌++◌, map, All}
 use Rattle.refutation_check.specs.declared.log.Step.{Step as LogStep}
 use Rattle.refutation_check.specs.Chain.{EndsEmpty}
 use Rattle.refutation_check.specs.Part.{Parted}
@@ -37,3 +37,8 @@ RefutesSmaller t floor scenario parts = (before : List Parted) × (last : Parted
 abbrev pub IsRight : Translated → List LogStep → List ℕ → List ℕ → ℕ → Down → Type 0
 IsRight t pool floor start budget (Minimal scenario parts) = IsMinimalAbove t.problem floor scenario × Includes start scenario × RefutesSmaller t floor scenario parts.items
 IsRight t pool floor start budget (Spent parts) = novel_in t pool parts.items ≡ budget
+
+-- the same, save that there may be no part where the scenario is minimal
+abbrev pub IsRightOn : Translated → List LogStep → List ℕ → List ℕ → ℕ → Down → Type 0
+IsRightOn t pool floor start budget (Minimal scenario parts) = IsMinimalAbove t.problem floor scenario × Includes start scenario × ((parts.items ≡ []) ⊎ RefutesSmaller t floor scenario parts.items)
+IsRightOn t pool floor start budget (Spent parts) = novel_in t pool parts.items ≡ budget

@@ -1,12 +1,14 @@
 // The descent.
-ghost use Rattle.std.specs.Prelude.{◌≡◌, ◌↔◌, ◌<◌, ◌≤◌, ℕ, length, Contains, IsTrue, AllPairs, IfOk};
+ghost use Rattle.std.specs.Prelude.{◌≡◌, ◌↔◌, ◌<◌, ◌≤◌, ℕ, length, Contains, IsTrue, AllPairs, IfOk, OnOk};
 ghost use Rattle.cnf_core.specs.Valuation.{value_of};
 ghost use Rattle.refutation_check.specs.Chain.{IsAccepted};
 ghost use Rattle.rel_formula.specs.Instance.{AreCells, IsInstance, Includes};
 ghost use Rattle.sat_trail.specs.Trailed.{IsBase};
 ghost use Rattle.translation_rules.specs.Translation.{var_of};
-ghost use Rattle.minimiser.specs.Down.{parts_of, IsDescent, IsRight};
+ghost use Rattle.minimiser.specs.Down.{parts_of, IsDescent, IsRight, IsRightOn};
+ghost use Rattle.minimiser.specs.Lowering.{IsOver};
 
+use crate::lowering::lowest;
 use cnf_core::Valuation;
 use refutation_check::{Log, Part};
 use rel_formula::Scenario;
@@ -111,6 +113,39 @@ pub fn minimise_from(
                 return Ok(Down::Spent { parts });
             }
         }
+    }
+}
+
+/// Goes down as `minimise` does, perhaps to another end. The trail is tried first, and serves again afterwards: where decisions
+/// and propagation alone lead to a minimal scenario, there are no parts.
+pub fn minimise_on(
+    alloc: Global,
+    translation: &Translation,
+    base: &Trail,
+    trail: &mut Trail,
+    pool: &Log,
+    floor: &Scenario,
+    start: &Scenario,
+    budget: u64,
+) -> Result<Down, AllocError>
+    requires base { IsBase translation.now.cnf base.now }
+    requires trail { IsOver translation.now.cnf trail.old }
+    requires pool { IsAccepted translation.now.cnf.clauses pool.now }
+    requires few { length pool.now ≤ 20000 }
+    requires floor { AreCells translation.now.problem floor.now }
+    requires start { IsInstance translation.now.problem start.now }
+    requires above { Includes start.now floor.now }
+    requires budget { budget ≤ 100000000 }
+    ensures trail { OnOk result (IsOver translation.now.cnf trail.new) }
+    ensures parts { IfOk result (λ down. IsDescent translation.now pool.now floor.now start.now budget (parts_of down)) }
+    ensures answer { IfOk result (IsRightOn translation.now pool.now floor.now start.now budget) }
+{
+    match lowest(alloc, translation, trail, floor, start)? {
+        Some(scenario) => Ok(Down::Minimal {
+            scenario,
+            parts: Vec::new(alloc),
+        }),
+        None => minimise_from(alloc, translation, base, pool, floor, start, budget),
     }
 }
 

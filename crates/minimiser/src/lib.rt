@@ -2,5 +2,6 @@
 #![tactic(auto)]
 
 mod descent;
+mod lowering;
 
-pub use crate::descent::{Down, minimise, minimise_from};
+pub use crate::descent::{Down, minimise, minimise_from, minimise_on};

@@ -1,12 +1,15 @@
 // That descents end at minimal scenarios: every start and floor of small problems, beside the evaluator.
-ghost use Rattle.std.specs.Prelude.{IsTrue};
+ghost use Rattle.std.specs.Prelude.{IsTrue, OnOk};
 ghost use Rattle.rel_formula.specs.Instance.{AreCells, Includes};
+ghost use Rattle.sat_trail.specs.Trailed.{IsBase};
+ghost use Rattle.minimiser.specs.Lowering.{IsOver};
 
-use minimiser::{Down, minimise};
+use minimiser::{Down, minimise, minimise_on};
 use refutation_check::Log;
 use rel_formula::{Scenario, holds};
 use sample_problems::{bits_of, scenario_of};
 use samples::sample_translations::translated_sets;
+use sat_trail::Trail;
 use std::alloc::{AllocError, Global};
 use std::test::Fail;
 use translation::Translation;
@@ -135,5 +138,67 @@ fn a_spent_budget(rt: HostRuntime) -> Result<(), Fail> {
     let alloc = rt.alloc();
     assert_eq!(rt; descent(alloc, 0, 0b1001, 0)?, Some((None, 2)));
     assert_eq!(rt; descent(alloc, 0, 0b1001, 1)?, Some((Some(0b1000), 2)));
+    Ok(())
+}
+
+// What a descent on this trail comes to between the scenarios of these bits, and none where the start is no instance above the floor.
+fn goes_down_on(
+    alloc: Global,
+    made: &Translation,
+    base: &Trail,
+    trail: &mut Trail,
+    floor: u32,
+    start: u32,
+    budget: u16,
+) -> Result<Option<(Option<u32>, usize)>, AllocError>
+    requires base { IsBase made.now.cnf base.now }
+    requires trail { IsOver made.now.cnf trail.old }
+    ensures trail { OnOk result (IsOver made.now.cnf trail.new) }
+{
+    let floor = scenario_of(alloc, made.problem(), floor)?;
+    let start = scenario_of(alloc, made.problem(), start)?;
+    if !holds(alloc, made.problem(), &start)? || !includes(&start, &floor) {
+        return Ok(None);
+    }
+    let pool = Log::new(alloc);
+    let budget = u64::from(budget);
+    let down = minimise_on(alloc, made, base, trail, &pool, &floor, &start, budget)?;
+    Ok(Some(told(&down)))
+}
+
+// Whether the descent on this trail ends right with no budget and without searches, where its start is an instance above the floor.
+fn ends_right_on(
+    alloc: Global,
+    made: &Translation,
+    base: &Trail,
+    trail: &mut Trail,
+    floor: u32,
+    start: u32,
+) -> Result<bool, AllocError>
+    requires base { IsBase made.now.cnf base.now }
+    requires trail { IsOver made.now.cnf trail.old }
+    ensures trail { OnOk result (IsOver made.now.cnf trail.new) }
+{
+    match goes_down_on(alloc, made, base, trail, floor, start, 0)? {
+        Some((end, searches)) => Ok(is_right_end(end, floor, start) && searches == 0),
+        None => Ok(true),
+    }
+}
+
+// Every start and every floor on one trail, on which decisions and propagation alone lead to a minimal scenario each time.
+#[test]
+fn every_start_and_floor_on_one_trail(rt: HostRuntime) -> Result<(), Fail> {
+    let made = translated_sets(rt.alloc(), &[0, 1])?;
+    let cnf = made.cnf();
+    let base = Trail::over(rt.alloc(), cnf, cnf.vars())?;
+    let mut trail = base.copy(rt.alloc())?;
+    for case in 0..256u32 {
+        let start = case / 16;
+        let floor = case % 16;
+        assert!(rt;
+            ends_right_on(rt.alloc(), &made, &base, &mut trail, floor, start)?,
+            "from {start} above {floor}"
+        );
+    }
     Ok(())
 }

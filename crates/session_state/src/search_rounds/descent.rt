@@ -1,13 +1,14 @@
 // The descent from what a search found.
-ghost use Rattle.std.specs.Prelude.{◌≡◌, ◌≤◌, length, IfOk};
+ghost use Rattle.std.specs.Prelude.{◌≡◌, ◌≤◌, length, IfOk, OnOk};
 ghost use Rattle.refutation_check.specs.Chain.{IsAccepted};
 ghost use Rattle.rel_formula.specs.Instance.{AreCells, IsInstance, Includes};
 ghost use Rattle.sat_trail.specs.Trailed.{IsBase};
 ghost use Rattle.minimiser.specs.Down.{IsDescent};
+ghost use Rattle.minimiser.specs.Lowering.{IsOver};
 ghost use Rattle.session_state.specs.Rounds.Descended.{parts_of, IsRightDescent};
 
 use crate::search_rounds::novel::left_after;
-use minimiser::{Down, minimise_from};
+use minimiser::{Down, minimise_on};
 use refutation_check::{Log, Part, accepted_is_entailed};
 use rel_formula::Scenario;
 use sat_core::Trail;
@@ -29,29 +30,33 @@ pub(crate) enum DescentEnd {
     },
 }
 
-/// Goes down from an instance that has the floor's cells to a scenario that is minimal above the floor.
+/// Goes down from an instance that has the floor's cells to a scenario that is minimal above the floor. The trail of descents serves
+/// again afterwards.
 pub(crate) fn go_down(
     alloc: Global,
     translation: &Translation,
     base: &Trail,
+    trail: &mut Trail,
     pool: &Log,
     floor: &Scenario,
     start: &Scenario,
     budget: u64,
 ) -> Result<DescentEnd, AllocError>
     requires base { IsBase translation.now.cnf base.now }
+    requires trail { IsOver translation.now.cnf trail.old }
     requires pool { IsAccepted translation.now.cnf.clauses pool.now }
     requires few_steps { length pool.now ≤ 20000 }
     requires floor { AreCells translation.now.problem floor.now }
     requires start { IsInstance translation.now.problem start.now }
     requires above { Includes start.now floor.now }
     requires budget { budget ≤ 100000000 }
+    ensures trail { OnOk result (IsOver translation.now.cnf trail.new) }
     ensures parts { IfOk result (λ end. IsDescent translation.now pool.now floor.now start.now budget (parts_of end)) }
     ensures answer { IfOk result (IsRightDescent translation.now pool.now floor.now start.now budget) }
 {
     accepted_is_entailed();
     let _ = translation.problem(); // for the proof
-    match minimise_from(alloc, translation, base, pool, floor, start, budget)? {
+    match minimise_on(alloc, translation, base, trail, pool, floor, start, budget)? {
         Down::Minimal { scenario, parts } => {
             let left = left_after(parts.as_slice(), budget);
             Ok(DescentEnd::Minimal {

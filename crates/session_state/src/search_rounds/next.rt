@@ -4,6 +4,7 @@ ghost use Rattle.refutation_check.specs.Chain.{IsAccepted};
 ghost use Rattle.rel_formula.specs.Instance.{AreCells};
 ghost use Rattle.swap_symmetry.specs.Due.{IsDue};
 ghost use Rattle.sat_trail.specs.Trailed.{IsBase};
+ghost use Rattle.minimiser.specs.Lowering.{IsOver};
 ghost use Rattle.translation_rules.specs.Parts.{AreSearched};
 ghost use Rattle.session_rules.specs.Proofs.{IsCopy};
 ghost use Rattle.session_rules.specs.Work.{IsNextWork, units_in};
@@ -70,10 +71,12 @@ pub fn next_at(
     ensures answer { IfOk result (λ next. IsAnswer translation.now pool.now floor.now shown.now copies.now budget next.parts next.copies next.found) }
 {
     let base = Trail::over(alloc, translation.cnf(), all_vars(translation))?;
+    let mut trail = base.copy(alloc)?;
     next_from(
         alloc,
         translation,
         &base,
+        &mut trail,
         pool,
         floor,
         shown,
@@ -83,11 +86,12 @@ pub fn next_at(
     )
 }
 
-// Looks for it from a trail of the translation's formula.
+// Looks for it from a trail of the translation's formula, and goes down on another one.
 fn next_from(
     alloc: Global,
     translation: &Translation,
     base: &Trail,
+    trail: &mut Trail,
     pool: &Log,
     floor: &Scenario,
     shown: &[Scenario],
@@ -96,6 +100,7 @@ fn next_from(
     leaning: &mut SavedPhases,
 ) -> Result<NextAt, AllocError>
     requires base { IsBase translation.now.cnf base.now }
+    requires trail { IsOver translation.now.cnf trail.old }
     requires pool { IsAccepted translation.now.cnf.clauses pool.now }
     requires few_steps { length pool.now ≤ 20000 }
     requires floor { AreCells translation.now.problem floor.now }
@@ -121,6 +126,7 @@ fn next_from(
             alloc,
             translation,
             base,
+            trail,
             pool,
             floor,
             shown,

@@ -1,9 +1,10 @@
 // One round: a search at a floor, and the descent from what it finds.
-ghost use Rattle.std.specs.Prelude.{◌≡◌, ◌≤◌, ◌+◌, ◌∷◌, ℕ, List, length, All, Contains, IfOk};
+ghost use Rattle.std.specs.Prelude.{◌≡◌, ◌≤◌, ◌+◌, ◌∷◌, ℕ, List, length, All, Contains, IfOk, OnOk};
 ghost use Rattle.refutation_check.specs.declared.log.Step.{Step as LogStep};
 ghost use Rattle.refutation_check.specs.Chain.{IsAccepted};
 ghost use Rattle.rel_formula.specs.Instance.{AreCells};
 ghost use Rattle.sat_trail.specs.Trailed.{IsBase};
+ghost use Rattle.minimiser.specs.Lowering.{IsOver};
 ghost use Rattle.translation_rules.specs.Translation.{Translated};
 ghost use Rattle.translation_rules.specs.Parts.{novel_in};
 ghost use Rattle.session_state.specs.Rounds.Classes.{IsRightClass};
@@ -43,11 +44,13 @@ pub(crate) enum RoundEnd {
     },
 }
 
-/// Searches at a floor, with all that was shown and more scenarios blocked, and goes down from what was found.
+/// Searches at a floor, with all that was shown and more scenarios blocked, and goes down from what was found. The trail of descents
+/// serves again afterwards.
 pub(crate) fn round_at(
     alloc: Global,
     translation: &Translation,
     base: &Trail,
+    trail: &mut Trail,
     pool: &Log,
     floor: &Scenario,
     shown: &[Scenario],
@@ -56,6 +59,7 @@ pub(crate) fn round_at(
     leaning: &mut SavedPhases,
 ) -> Result<RoundEnd, AllocError>
     requires base { IsBase translation.now.cnf base.now }
+    requires trail { IsOver translation.now.cnf trail.old }
     requires pool { IsAccepted translation.now.cnf.clauses pool.now }
     requires few_steps { length pool.now ≤ 20000 }
     requires floor { AreCells translation.now.problem floor.now }
@@ -63,6 +67,7 @@ pub(crate) fn round_at(
     requires blocked { All (AreCells translation.now.problem) blocked.now }
     requires few { length blocked.now + budget ≤ 200000000 }
     requires budget { budget ≤ 100000000 }
+    ensures trail { OnOk result (IsOver translation.now.cnf trail.new) }
     ensures parts { IfOk result (λ end. IsRoundAt translation.now pool.now floor.now blocked.now budget (parts_in end)) }
     ensures answer { IfOk result (IsRightRound translation.now pool.now floor.now shown.now blocked.now budget) }
 {
@@ -77,7 +82,7 @@ pub(crate) fn round_at(
         leaning,
     )? {
         SearchEnd::Left { start, part, left } => {
-            let descent = go_down(alloc, translation, base, pool, floor, &start, left)?;
+            let descent = go_down(alloc, translation, base, trail, pool, floor, &start, left)?;
             let end = round_of(alloc, translation, floor, shown, part, descent)?;
             Ok(end)
         }

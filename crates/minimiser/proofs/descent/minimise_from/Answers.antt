@@ -1,4 +1,4 @@
-use Rattle.std.proofs.Common.{◌≡◌, ◌<◌, ◌≤◌, ◌+◌, ◌-◌, ◌*◌, ◌^◌, ◌∙◌, ◌++◌, ◌∷◌, [], ℕ, List, length, refl, sym, subst, ap, arith}
+use Rattle.std.proofs.Common.{◌≡◌, ◌≤◌, ◌-◌, ◌∙◌, ◌++◌, ◌∷◌, [], List, length, refl, sym, subst, ap, arith}
 use Rattle.cnf_core.specs.declared.literal.Lit.{Lit}
 use Rattle.cnf_core.specs.Formula.{Formula}
 use Rattle.cnf_core.specs.Valuation.{value_of}
@@ -6,9 +6,8 @@ use Rattle.refutation_check.specs.Part.{Parted}
 use Rattle.rel_formula.specs.Bounds.{cells_of}
 use Rattle.sat_trail.specs.Trailed.{IsBase}
 use Rattle.sat_core.specs.declared.search.Answer.{Answer}
-use Rattle.sat_core.specs.Answers.{log_of, IsRight as IsRightAnswer}
 use Rattle.translation_rules.specs.Parts.{novel_in}
-use Rattle.translation_rules.specs.Descents.{IsSmaller, descent_locals}
+use Rattle.translation_rules.specs.Descents.{descent_locals}
 use Rattle.translation_rules.proofs.Locals.Cells.{few_cells}
 use Rattle.minimiser.specs.Down.{IsDescent}
 use Rattle.minimiser.proofs.Cells.{fewer, few_locals}

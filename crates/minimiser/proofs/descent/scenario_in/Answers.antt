@@ -1,4 +1,4 @@
-use Rattle.std.proofs.Common.{◌≡◌, ◌<◌, ◌≤◌, ◌+◌, ◌∙◌, ℕ, List, AllPairs, sym, subst, ap, arith}
+use Rattle.std.proofs.Common.{◌<◌, ◌+◌, ◌∙◌, AllPairs, sym, subst, arith}
 use Rattle.cnf_core.specs.Valuation.{value_of}
 use Rattle.minimiser.proofs.Cells.{Chosen, chosen_none, chosen_in, chosen_out}
 use Rattle.minimiser.proofs.descent.scenario_in.Goals.{then-value+in_ok-insert, else-value}

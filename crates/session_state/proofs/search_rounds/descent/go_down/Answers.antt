@@ -4,7 +4,7 @@ use Rattle.refutation_check.specs.SearchLog.{HasNoEmpty}
 use Rattle.refutation_check.specs.Part.{Parted}
 use Rattle.translation_rules.specs.Parts.{AreSearched, novel_in}
 use Rattle.minimiser.specs.declared.descent.Down.{Down}
-use Rattle.minimiser.specs.Down.{parts_of, IsDescent, IsRight}
+use Rattle.minimiser.specs.Down.{parts_of, IsDescent, IsRightOn}
 use Rattle.session_state.proofs.Rounds.NovelSteps.{none_empty, none_empty_after}
 use Rattle.session_state.proofs.search_rounds.descent.go_down.Goals as goal
 
@@ -22,7 +22,7 @@ returns-in-Minimal-clause-answer c =
     let budget = c.args.budget in
     let parts : List Parted = c.in-Minimal.parts.items in
     let descent : IsDescent t pool floor start budget parts = subst (λ (d : Down). IsDescent t pool floor start budget (parts_of d)) c.in-Minimal.is c.in_ok-scenario.ensures.parts in
-    let answer = subst (IsRight t pool floor start budget) c.in-Minimal.is c.in_ok-scenario.ensures.answer in
+    let answer = subst (IsRightOn t pool floor start budget) c.in-Minimal.is c.in_ok-scenario.ensures.answer in
     let stands = c.problem.ensures.well.stands in
     let sat = (stands.instances start c.requires.start.scenario).0 c.requires.start in
     let full : All (λ (l : List Lit). l ≢ []) t.cnf.clauses = none_empty sat.valuation t.cnf.clauses sat.satisfied in
@@ -38,4 +38,4 @@ returns-in-Spent-clause-parts c =
 
 pub returns-in-Spent-clause-answer : goal.returns-in-Spent-clause-answer
 returns-in-Spent-clause-answer c =
-    subst (IsRight c.args.translation.now c.args.pool.now c.args.floor.now c.args.start.now c.args.budget) c.in-Spent.is c.in_ok-scenario.ensures.answer
+    subst (IsRightOn c.args.translation.now c.args.pool.now c.args.floor.now c.args.start.now c.args.budget) c.in-Spent.is c.in_ok-scenario.ensures.answer

@@ -22,14 +22,17 @@ rounds-init c =
     let shown = c.args.shown.now in
     let copies = c.args.copies.now in
     let budget = c.args.budget in
-    subst (λ (b : List (List ℕ)). Going t pool floor shown copies budget b c.new-parts.result.items c.new-found.result.items budget) (sym c.in_ok-blocked.ensures)
-    (subst (λ (ps : List Parted). Going t pool floor shown copies budget (shown ++ copies) ps c.new-found.result.items budget) (sym c.new-parts.ensures.items)
-    (subst (λ (fs : List (List ℕ)). Going t pool floor shown copies budget (shown ++ copies) [] fs budget) (sym c.new-found.ensures.items) (set_out t pool floor shown copies budget)))
+    record {
+      over = c.requires.trail;
+      going = subst (λ (b : List (List ℕ)). Going t pool floor shown copies budget b c.new-parts.result.items c.new-found.result.items budget) (sym c.in_ok-blocked.ensures)
+          (subst (λ (ps : List Parted). Going t pool floor shown copies budget (shown ++ copies) ps c.new-found.result.items budget) (sym c.new-parts.ensures.items)
+          (subst (λ (fs : List (List ℕ)). Going t pool floor shown copies budget (shown ++ copies) [] fs budget) (sym c.new-found.ensures.items) (set_out t pool floor shown copies budget)));
+    }
 
 pub round_at-requires-clause-shown : goal.round_at-requires-clause-shown
 round_at-requires-clause-shown c =
     let blocked : List (List ℕ) = c.rounds.blocked.items in
-    let all = shown_are_blocked c.args.translation.now c.args.pool.now c.args.floor.now c.args.shown.now c.args.copies.now c.args.budget blocked c.rounds.parts.items c.rounds.found.items c.rounds.left c.rounds.invariant in
+    let all = shown_are_blocked c.args.translation.now c.args.pool.now c.args.floor.now c.args.shown.now c.args.copies.now c.args.budget blocked c.rounds.parts.items c.rounds.found.items c.rounds.left c.rounds.invariant.going in
     subst (λ (b : List (List ℕ)). All (Contains b) c.args.shown.now) (sym c.as_slice.ensures.value) all
 
 pub round_at-requires-clause-blocked : goal.round_at-requires-clause-blocked
@@ -38,14 +41,14 @@ round_at-requires-clause-blocked c =
     let floor = c.args.floor.now in
     let shown = c.args.shown.now in
     let copies = c.args.copies.now in
-    let going = c.rounds.invariant in
+    let going = c.rounds.invariant.going in
     let later = covered_later p floor shown copies c.rounds.found.items c.requires.shown c.requires.copies going.new in
     cells_of_blocked p floor shown copies c.rounds.found.items c.requires.shown c.requires.copies c.as_slice.result.now
     (subst (IsCovered p floor shown) (sym (c.as_slice.ensures.value ∙ going.blocked_are)) later)
 
 pub round_at-requires-clause-few : goal.round_at-requires-clause-few
 round_at-requires-clause-few c =
-    let going = c.rounds.invariant in
+    let going = c.rounds.invariant.going in
     let many = few_blocked c.args.translation.now c.args.pool.now c.args.floor.now c.args.shown.now c.args.copies.now c.args.budget c.rounds.blocked.items c.rounds.parts.items c.rounds.found.items c.rounds.left going in
     let same : length c.as_slice.result.now ≡ length c.rounds.blocked.items = ap length c.as_slice.ensures.value in
     let units = going.units in
@@ -55,7 +58,7 @@ round_at-requires-clause-few c =
 
 pub round_at-requires-clause-budget : goal.round_at-requires-clause-budget
 round_at-requires-clause-budget c =
-    let going = c.rounds.invariant in
+    let going = c.rounds.invariant.going in
     let units = going.units in
     let most = c.requires.budget in
     omega arith
@@ -72,7 +75,7 @@ rounds-smaller c =
     let parts : List Parted = c.rounds.parts.items in
     let found : List (List ℕ) = c.rounds.found.items in
     let left = c.rounds.left in
-    let going : Going t pool floor shown copies budget blocked parts found left = c.rounds.invariant in
+    let going : Going t pool floor shown copies budget blocked parts found left = c.rounds.invariant.going in
     let right = subst (IsRightRound t pool floor shown blocked left) c.in-Copy.is (subst (λ (b : List (List ℕ)). IsRightRound t pool floor shown b left c.in_ok-scenario.field-0) c.as_slice.ensures.value c.in_ok-scenario.ensures.answer) in
     let units = right.2 in
     omega arith
@@ -89,7 +92,7 @@ rounds-preserved c =
     let parts : List Parted = c.rounds.parts.items in
     let found : List (List ℕ) = c.rounds.found.items in
     let left = c.rounds.left in
-    let going : Going t pool floor shown copies budget blocked parts found left = c.rounds.invariant in
+    let going : Going t pool floor shown copies budget blocked parts found left = c.rounds.invariant.going in
     let more : List Parted = c.in-Copy.more.items in
     let round : IsRoundAt t pool floor blocked left more =
     subst (λ (e : RoundEnd). IsRoundAt t pool floor blocked left (parts_in e)) c.in-Copy.is (subst (λ (b : List (List ℕ)). IsRoundAt t pool floor b left (parts_in c.in_ok-scenario.field-0)) c.as_slice.ensures.value c.in_ok-scenario.ensures.parts) in
@@ -99,9 +102,12 @@ rounds-preserved c =
     let parts_now = c.in_ok-add_parts-in-Copy.ensures in
     let found_now = c.in_ok-push-in-Copy.ensures.items ∙ ap (λ (s : List ℕ). found ++ s ∷ []) c.in_ok-copy-in-Copy.ensures in
     let blocked_now = c.in_ok-push-in-Copy-2.ensures.items in
-    subst (λ (b : List (List ℕ)). Going t pool floor shown copies budget b c.add_parts-in-Copy.new.parts.items c.push.new.self.items c.in-Copy.rest) (sym blocked_now)
-    (subst (λ (ps : List Parted). Going t pool floor shown copies budget (blocked ++ copy ∷ []) ps c.push.new.self.items c.in-Copy.rest) (sym parts_now)
-    (subst (λ (fs : List (List ℕ)). Going t pool floor shown copies budget (blocked ++ copy ∷ []) (parts ++ more) fs c.in-Copy.rest) (sym found_now) on))
+    record {
+      over = c.in_ok-scenario.ensures.trail;
+      going = subst (λ (b : List (List ℕ)). Going t pool floor shown copies budget b c.add_parts-in-Copy.new.parts.items c.push.new.self.items c.in-Copy.rest) (sym blocked_now)
+          (subst (λ (ps : List Parted). Going t pool floor shown copies budget (blocked ++ copy ∷ []) ps c.push.new.self.items c.in-Copy.rest) (sym parts_now)
+          (subst (λ (fs : List (List ℕ)). Going t pool floor shown copies budget (blocked ++ copy ∷ []) (parts ++ more) fs c.in-Copy.rest) (sym found_now) on));
+    }
 
 pub returns-in-Due : goal.returns-in-Due
 returns-in-Due c =
@@ -115,7 +121,7 @@ returns-in-Due c =
     let parts : List Parted = c.rounds.parts.items in
     let found : List (List ℕ) = c.rounds.found.items in
     let left = c.rounds.left in
-    let going : Going t pool floor shown copies budget blocked parts found left = c.rounds.invariant in
+    let going : Going t pool floor shown copies budget blocked parts found left = c.rounds.invariant.going in
     let more : List Parted = c.in-Due.more.items in
     let round : IsRoundAt t pool floor blocked left more =
     subst (λ (e : RoundEnd). IsRoundAt t pool floor blocked left (parts_in e)) c.in-Due.is (subst (λ (b : List (List ℕ)). IsRoundAt t pool floor b left (parts_in c.in_ok-scenario.field-0)) c.as_slice.ensures.value c.in_ok-scenario.ensures.parts) in
@@ -139,7 +145,7 @@ returns-in-Spent c =
     let parts : List Parted = c.rounds.parts.items in
     let found : List (List ℕ) = c.rounds.found.items in
     let left = c.rounds.left in
-    let going : Going t pool floor shown copies budget blocked parts found left = c.rounds.invariant in
+    let going : Going t pool floor shown copies budget blocked parts found left = c.rounds.invariant.going in
     let more : List Parted = c.in-Spent.more.items in
     let round : IsRoundAt t pool floor blocked left more =
     subst (λ (e : RoundEnd). IsRoundAt t pool floor blocked left (parts_in e)) c.in-Spent.is (subst (λ (b : List (List ℕ)). IsRoundAt t pool floor b left (parts_in c.in_ok-scenario.field-0)) c.as_slice.ensures.value c.in_ok-scenario.ensures.parts) in
@@ -163,7 +169,7 @@ proof_of-requires-clause-few c =
     let parts : List Parted = c.rounds.parts.items in
     let found : List (List ℕ) = c.rounds.found.items in
     let left = c.rounds.left in
-    let going : Going t pool floor shown copies budget blocked parts found left = c.rounds.invariant in
+    let going : Going t pool floor shown copies budget blocked parts found left = c.rounds.invariant.going in
     let more : List Parted = c.in-Refuted.part ∷ [] in
     let round : IsRoundAt t pool floor blocked left more =
     subst (λ (e : RoundEnd). IsRoundAt t pool floor blocked left (parts_in e)) c.in-Refuted.is (subst (λ (b : List (List ℕ)). IsRoundAt t pool floor b left (parts_in c.in_ok-scenario.field-0)) c.as_slice.ensures.value c.in_ok-scenario.ensures.parts) in
@@ -192,7 +198,7 @@ returns-in-Refuted c =
     let parts : List Parted = c.rounds.parts.items in
     let found : List (List ℕ) = c.rounds.found.items in
     let left = c.rounds.left in
-    let going : Going t pool floor shown copies budget blocked parts found left = c.rounds.invariant in
+    let going : Going t pool floor shown copies budget blocked parts found left = c.rounds.invariant.going in
     let more : List Parted = c.in-Refuted.part ∷ [] in
     let round : IsRoundAt t pool floor blocked left more =
     subst (λ (e : RoundEnd). IsRoundAt t pool floor blocked left (parts_in e)) c.in-Refuted.is (subst (λ (b : List (List ℕ)). IsRoundAt t pool floor b left (parts_in c.in_ok-scenario.field-0)) c.as_slice.ensures.value c.in_ok-scenario.ensures.parts) in

@@ -67,6 +67,7 @@ returns-in-Refuted c =
     let search : IsSearchAt t pool floor blocked budget part = subst (λ (s : SearchEnd). IsSearchAt t pool floor blocked budget (part_of s)) c.in-Refuted.is c.in_ok-start.ensures.part in
     let right = subst (IsRightSearch t pool floor blocked budget) c.in-Refuted.is c.in_ok-start.ensures.answer in
     record {
+      trail = c.requires.trail;
       parts = search_alone t pool floor blocked budget part search;
       answer = (search.local, right);
     }
