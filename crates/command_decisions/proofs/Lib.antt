@@ -1,4 +1,6 @@
 pub mod MinimalParts
 pub mod FirstFound
 pub mod ListedFormulas
+pub mod KeptNumbers
 pub mod FewerFacts
+pub mod TriedFacts

@@ -6,12 +6,15 @@ ghost use Rattle.rel_formula.specs.Instance.{IsInstance};
 ghost use Rattle.rel_formula.specs.Renaming.{IsSymmetric};
 ghost use Rattle.rel_terms.specs.Terms.{HasTerms};
 ghost use Rattle.swap_symmetry.specs.Due.{IsDue};
-ghost use Rattle.lowering_rules.specs.Formula.{is_check};
+ghost use Rattle.lowering_rules.specs.Formula.{all_facts, is_check};
 ghost use Rattle.lowering_rules.specs.Problem.{ProblemOf, command_at};
 ghost use Rattle.command_decisions.specs.Decided.{HasNoInstance};
 ghost use Rattle.command_decisions.specs.Assertions.{IsCounterexample};
 ghost use Rattle.command_decisions.specs.FewerFacts.{IsWeaker};
+ghost use Rattle.command_decisions.specs.FactSets.{IsCore, IsWitness};
+ghost use Rattle.command_decisions.specs.declared.fact_sets.trials.Core.{Core};
 
+use lowering_rules::laws::problems_are_one;
 use swap_symmetry::laws::each_minimal_has_a_due_renaming;
 
 /// A symmetric problem of which no scenario is due at the empty floor has no instance.
@@ -33,3 +36,10 @@ pub fn fewer_facts_are_weaker()
     ensures { (m : NamedTree) (n : ℕ) (facts : List ℕ) (p : Bounded) → IsProblem p → ProblemOf m n facts p
         → (keep : ℕ → Bool) → (q : Bounded) × IsProblem q × ProblemOf m n (filter keep facts) q × IsWeaker p q }
 {}
+
+/// Where all facts can be true under a command, there are none among them that can't be.
+pub fn satisfiable_facts_have_no_core()
+    ensures { (m : NamedTree) (n : ℕ) (s : List ℕ) → IsWitness m n (all_facts m) s → (core : Core) → ¬ IsCore m n core }
+{
+    problems_are_one();
+}

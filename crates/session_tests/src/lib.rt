@@ -3,11 +3,15 @@
 #![tactic(auto)]
 
 #[cfg(test)]
+mod known_facts;
+#[cfg(test)]
 mod large_sets;
 #[cfg(test)]
 mod of_decision;
 #[cfg(test)]
 mod of_explorer_run;
+#[cfg(test)]
+mod of_fact_sets;
 #[cfg(test)]
 mod of_proof_lines;
 #[cfg(test)]

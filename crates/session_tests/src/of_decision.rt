@@ -73,10 +73,10 @@ fn four_of_three_atoms_are_none(rt: HostRuntime) -> Result<(), Fail> {
     Ok(())
 }
 
-// at budget 0 nothing is learnt, and some step is wanted to come from a larger instance to a minimal one
+// at budget 0 nothing is learnt, and a step is wanted to show that there is no instance
 #[test]
 fn a_budget_of_0_is_spent(rt: HostRuntime) -> Result<(), Fail> {
-    let translation = translated_sets(rt.alloc(), &[0, 1, 2])?;
+    let translation = translation_of(rt.alloc(), at_least(rt.alloc(), 4)?)?;
     assert_eq!(&rt; decided(rt.alloc(), &translation, 0)?, Told::Spent);
     Ok(())
 }
