@@ -1,6 +1,6 @@
 // Models of scripts, whose commands and faults were worked out by hand from what a script and a model say.
 use script_format::read_script;
-use served_models::{Models, ServedCommand, read_models};
+use served_models::{Models, Purpose, ServedCommand, read_models};
 use std::alloc::Global;
 use std::fmt::Write;
 use std::process::Abort;
@@ -42,8 +42,8 @@ fn read(alloc: Global, script: &[u8]) -> Result<String, Fail> {
     let Ok(script) = read_script(alloc, script) else {
         return Err("no script")?;
     };
-    let models = read_models(alloc, script.models.entries(), script.sessions.entries())?;
-    told_models(alloc, models)
+    let (models, sessions) = (script.models.entries(), script.sessions.entries());
+    told_models(alloc, read_models(alloc, Purpose::Lists, models, sessions)?)
 }
 
 fn push_session(script: &mut String, place: usize, number: u32) -> Result<(), Fail> {
@@ -116,8 +116,8 @@ fn faults_of_texts_are_told(rt: HostRuntime) -> Result<(), Fail> {
                 "fault model m 1:29 arity\n",
             ),
             (
-                "open util/ordering[A] as o sig A {} run {}",
-                "fault model m not_yet\n",
+                "open util/ordering[B] as o sig A {} run {}",
+                "fault model m 1:20 unknown\n",
             ),
         ],
     )

@@ -1,4 +1,4 @@
-// Faults of texts and of their tokens, and texts that open others.
+// Faults of texts, of their tokens and of their orderings.
 use crate::reading::tells;
 use std::test::Fail;
 
@@ -45,21 +45,133 @@ fn faults_of_tokens(rt: HostRuntime) -> Result<(), Fail> {
 }
 
 #[test]
-fn texts_that_open_others(rt: HostRuntime) -> Result<(), Fail> {
+fn orderings_have_faults_of_their_own(rt: HostRuntime) -> Result<(), Fail> {
     tells(
         &rt,
         rt.alloc(),
         &[
-            ("open util/ordering[A] as o sig A {} run {}", "opening"),
+            ("open util/ordering[Q] as o run {}", "1:20 unknown"),
+            (
+                "open util/ordering[T] as o one sig T {} run {}",
+                "1:20 not_plain",
+            ),
+            (
+                "open util/ordering[T] as o abstract sig T {} run {}",
+                "1:20 not_plain",
+            ),
+            (
+                "open util/ordering[T] as o lone sig T {} run {}",
+                "1:20 not_plain",
+            ),
+            (
+                "open util/ordering[T] as o sig A {} sig T extends A {} run {}",
+                "1:20 not_plain",
+            ),
+            (
+                "open util/ordering[T] as o sig A {} sig T in A {} run {}",
+                "1:20 not_plain",
+            ),
+            ("open util/ordering[T] as o some sig T {} run {}", "model"),
+            (
+                "open util/ordering[T] as o sig T {} sig A extends T {} run {}",
+                "model",
+            ),
+            (
+                "open util/ordering[T] as o pred T {} run {}",
+                "1:20 unknown",
+            ),
+            (
+                "open util/ordering[T] as o open util/ordering[T] as o sig T {} run {}",
+                "1:53 twice",
+            ),
+            (
+                "open util/ordering[T] as o open util/ordering[T] as p sig T {} run {}",
+                "model",
+            ),
+            ("open util/ordering[T] sig T {}", "1:23 unexpected"),
+            ("open util/boolean as b sig A {}", "1:6 unsupported open"),
+            ("open util/ordering[A] as o sig {}", "1:32 unexpected"),
+        ],
+    )
+}
+
+// Faults of orderings come behind those of tokens and of the tree, and before those of names and types; the first ordering that
+// has one comes first.
+#[test]
+fn faults_of_orderings_come_between(rt: HostRuntime) -> Result<(), Fail> {
+    tells(
+        &rt,
+        rt.alloc(),
+        &[
+            (
+                "open util/ordering[Q] as o sig A {} fact { A ? A }",
+                "1:46 bad_character",
+            ),
+            ("open util/ordering[Q] as o sig A }", "1:34 unexpected"),
+            (
+                "open util/ordering[Q] as o sig A {} sig A {} fact { A }",
+                "1:20 unknown",
+            ),
+            (
+                "open util/ordering[Q] as o open util/ordering[R] as o sig A {}",
+                "1:20 unknown",
+            ),
+            (
+                "open util/ordering[A] as o\nopen util/ordering[Q] as o sig A {}",
+                "2:20 unknown",
+            ),
+            (
+                "open util/ordering[A] as o\nopen util/ordering[B] as o sig A {} one sig B {}",
+                "2:20 not_plain",
+            ),
+        ],
+    )
+}
+
+#[test]
+fn names_of_orderings_stand_for_what_they_declare(rt: HostRuntime) -> Result<(), Fail> {
+    tells(
+        &rt,
+        rt.alloc(),
+        &[
+            ("open util/ordering[A] as o sig A {} run {}", "model"),
             (
                 "open util/ordering[A] as o sig A {} fact { some o/first }",
-                "opening",
+                "model",
+            ),
+            (
+                "open util/ordering[T] as o sig T {} run { some o/foo }",
+                "1:48 unknown",
+            ),
+            (
+                "open util/ordering[T] as o sig T {} run { some p/first }",
+                "1:48 unknown",
+            ),
+            (
+                "open util/ordering[T] as o sig T {} run { some a: T | a.o/nexts = T }",
+                "1:57 arguments",
+            ),
+            (
+                "open util/ordering[T] as o sig T {} run { some a: T | a.o/next = T and o/nexts[a] = T }",
+                "model",
             ),
             (
                 "open util/ordering[A] as o sig A {} sig A {} fact { A }",
-                "opening",
+                "1:41 twice",
             ),
-            ("open util/ordering[A] as o sig {}", "1:32 unexpected"),
+            (
+                "open util/ordering[T] as o sig T {} run { o/first }",
+                "1:43 sort",
+            ),
+            (
+                "open util/ordering[T] as o sig T {} run { some first }",
+                "1:48 unknown",
+            ),
+            (
+                "open util/ordering[T] as o sig T {} run { some o/Ord.o/First }",
+                "model",
+            ),
+            ("sig o/A {} run {}", "1:5 unexpected"),
         ],
     )
 }

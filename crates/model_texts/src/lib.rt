@@ -1,5 +1,5 @@
-//! What the text of a model is: a model with names and types, one that opens another, or no model and why. The module
-//! `fault_words` has what is told of a fault of a model or of a command.
+//! What the text of a model is: a model with names and types, or no model and why. The module `fault_words` has what is told of
+//! a fault of a model or of a command.
 #![tactic(auto)]
 
 pub mod fault_words;

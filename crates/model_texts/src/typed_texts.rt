@@ -1,4 +1,4 @@
-//! What the text of a model is: a model with names and types, one that opens another, or no model and why.
+//! What the text of a model is: a model with names and types, or no model and why.
 
 pub mod laws;
 mod reading;

@@ -45,3 +45,24 @@ pub fn counts(rt: &impl Abort, alloc: Global, rows: &[(&str, u32)]) -> Result<()
     }
     Ok(())
 }
+
+fn problem_of(alloc: Global, text: &str) -> Result<Problem, Fail> {
+    match lowered(alloc, text, 1, None)? {
+        Ok(problem) => Ok(problem),
+        Err(_) => Err("no problem")?,
+    }
+}
+
+/// Whether the first commands of these two models have the same instances by the numbers of their cells, of which there are
+/// equally many, and at most 12.
+pub fn agree(rt: &impl Abort, alloc: Global, first: &str, second: &str) -> Result<(), Fail> {
+    let one = problem_of(alloc, first)?;
+    let other = problem_of(alloc, second)?;
+    assert_eq!(*rt; one.cells(), other.cells(), "{first}");
+    assert!(*rt; one.cells() <= MOST_CELLS, "{first}");
+    for chosen in 0..1u32 << one.cells() {
+        let of_one = is_instance(alloc, &one, chosen)?;
+        assert_eq!(*rt; of_one, is_instance(alloc, &other, chosen)?, "{first}");
+    }
+    Ok(())
+}

@@ -20,6 +20,8 @@ mod of_formulas;
 #[cfg(test)]
 mod of_levels;
 #[cfg(test)]
+mod of_orderings;
+#[cfg(test)]
 mod of_relations;
 #[cfg(test)]
 mod of_renaming_classes;

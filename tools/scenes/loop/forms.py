@@ -58,24 +58,20 @@ def _opens(outline: Outline) -> Found:
             yield row[1], "unexpected", "open graph as g sig A {}"
         elif path != "util/ordering":
             yield row[1], "unsupported open", "open util/boolean sig A {}"
-        else:
-            yield row[0], "not_yet", "open util/ordering[A] as o sig A {}"
-            behind = row[-1].end
-            if all(token.text != "as" for token in row):
-                rest = [token for token in outline.tokens if token.start >= behind]
-                yield from ((token, "unexpected", "open util/ordering[A] sig A {}") for token in rest[:1])
+        elif all(token.text != "as" for token in row):
+            rest = [token for token in outline.tokens if token.start >= row[-1].end]
+            yield from ((token, "unexpected", "open util/ordering[A] sig A {}") for token in rest[:1])
 
 
 def _paths(outline: Outline) -> Found:
-    """Names with a path: `this/A`, or one of an ordering, as `so/first`."""
+    """Names with the path of the model itself, as `this/A`; those of an ordering, as `o/first`, are in the language."""
     for paragraph in outline.paragraphs:
         if paragraph.word in ("module", "open"):
             continue
         row = paragraph.tokens
         for before, token in zip(row, row[1:]):
-            if token.text == "/":
-                named = before.text == "this"
-                yield (token, "bad_character", "sig A {} fact { some this/A }" if named else "open util/ordering[A] as o sig A {}")
+            if token.text == "/" and before.text == "this":
+                yield token, "bad_character", "sig A {} fact { some this/A }"
 
 
 def _paragraph_forms(outline: Outline) -> Found:

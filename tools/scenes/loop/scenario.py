@@ -10,7 +10,7 @@ from .outline import Outline
 Tuple = tuple[str, ...]
 Cell = tuple[str, Tuple]  # a relation's name, and a tuple of it
 
-LINE = re.compile(r"(\w[\w']*(?:\.\w[\w']*)?) = \{(.*)\}\Z")
+LINE = re.compile(r"(\w[\w'/]*(?:\.\w[\w']*)?) = \{(.*)\}\Z")
 
 
 @dataclass(frozen=True)

@@ -26,7 +26,7 @@ State = dict[str, Any]
 ALLOWED: dict[str, re.Pattern[str]] = {
     "next": re.compile(r""),
     "all": re.compile(r"[0-9]{1,4}"),
-    "add": re.compile(r"\S{1,200} [\w$>-]{1,400}"),
+    "add": re.compile(r"\S{1,200} [\w'/$>-]{1,400}"),
     "back": re.compile(r""),
     "undo": re.compile(r""),
     "proof": re.compile(r""),

@@ -11,7 +11,7 @@ from .likeness import likeness, nearest
 from .session import Fault
 from .shell import Leave, Shell, Words
 
-_TUPLE = re.compile(r"\S+ \w+\$\d+(->\w+\$\d+)*\Z")
+_TUPLE = re.compile(r"\S+ [\w'/]+\$\d+(->[\w'/]+\$\d+)*\Z")
 
 
 def on_next(shell: Shell, rest: str) -> None:

@@ -28,7 +28,7 @@ from .transcript import TOOL, TOP, scenes
 # Faults that the look at the text doesn't find: only the program knows names, types and scopes.
 PROGRAMS_OWN = frozenset(
     "open_comment number_too_large end_of_text unknown twice cycle recursive arity not_unary not_binary sort ambiguous arguments "
-    "no_command no_scope unknown_scope scope_too_large too_many_atoms too_many_cells too_many_terms".split()
+    "not_plain no_command no_scope unknown_scope scope_too_large too_many_atoms too_many_cells too_many_terms".split()
 )
 
 
@@ -169,7 +169,7 @@ class Scenarios(unittest.TestCase):
     """Scenarios and their likeness."""
 
     def test_lines_are_kept(self) -> None:
-        lines = ["scenario 7", "A = {A$0, A$1}", "B = {}", "A.f = {A$0->A$1, A$1->A$0}"]
+        lines = ["scenario 7", "A = {A$0, A$1}", "B = {}", "A.f = {A$0->A$1, A$1->A$0}", "o/Ord = {o/Ord$0}", "o/First = {o/Ord$0->A$1}"]
         self.assertEqual(Scenario.of(lines[0], lines[1:]).lines(), lines)
 
     def test_alike(self) -> None:

@@ -1,17 +1,18 @@
 -- A text is read in one way, and each text is read.
-use Rattle.std.proofs.Common.{◌≡◌, ◌≢◌, ◌⊎◌, ◌==◌, Bool, true, false, ℕ, List, [], ◌∷◌, length, arith, Some, Result, Ok, Err, MatchResult, refl, sym, ap, ◌∙◌, subst, inl, inr}
-use Rattle.std.proofs.lemmas.Bool.{eqb-true}
+use Rattle.std.proofs.Common.{◌≡◌, ◌⊎◌, ℕ, List, [], ◌∷◌, Some, Result, Ok, Err, MatchResult, refl, sym, ap, ◌∙◌, subst, inl, inr}
 use Rattle.alloy_lex.specs.declared.token.Token.{Token}
 use Rattle.alloy_lex.specs.declared.token.LexFault.{LexFault}
 use Rattle.alloy_lex.specs.declared.token.LexFault.TheVariants as lex
 use Rattle.alloy_lex.specs.Tokens.{tokens_of}
 use Rattle.alloy_syntax.specs.Tree.{ModelTree}
-use Rattle.alloy_syntax.specs.declared.tree.Open.{Open}
 use Rattle.alloy_syntax.specs.ParserTokens.{seen_all}
 use Rattle.alloy_syntax.specs.Readers.{ParseStopView}
 use Rattle.alloy_syntax.specs.Paragraphs.{model_of}
 use Rattle.alloy_parse.specs.declared.fault.ParseFault.TheVariants as parse
 use Rattle.alloy_parse.specs.Faults.{fault_of}
+use Rattle.order_lib.specs.declared.fault.OrderFault.{OrderFault}
+use Rattle.order_lib.specs.declared.fault.OrderFault.TheVariants as order
+use Rattle.order_lib.specs.Expanded.{expanded}
 use Rattle.named_model.specs.declared.fault.NameFault.{NameFault}
 use Rattle.named_model.specs.declared.fault.NameFault.TheVariants as name
 use Rattle.named_model.specs.Answers.{first_in, ◌>>=◌}
@@ -23,8 +24,8 @@ use Rattle.model_types.specs.declared.fault.TypeFault.TheVariants as typing
 use Rattle.model_types.specs.Sorts.{Checked}
 use Rattle.model_types.specs.Models.{types_checked, settled_in}
 use Rattle.alloy_types.specs.Typed as outcome
-use Rattle.model_texts.specs.Words.Words.{lex_words, parse_words, name_words, type_words}
-use Rattle.model_texts.specs.Texts.ModelText.{IsTreeOf, OpensOther, IsWhole, SaysModel, IsFaulty}
+use Rattle.model_texts.specs.Words.Words.{lex_words, parse_words, order_words, name_words, type_words}
+use Rattle.model_texts.specs.Texts.ModelText.{IsTreeOf, IsWhole, SaysModel, IsFaulty}
 
 -- ---- a result, and an option, is one thing
 
@@ -54,17 +55,21 @@ one_tree text tree other a b =
     let same : a.0 ≡ b.0 = ok_same (tokens_of text) a.0 b.0 a.1 b.1 in
     ok_same (model_of (seen_all a.0)) tree other a.2 (model_same a.0 b.0 same ∙ b.2)
 
+-- the tree of a text, once its orderings are expanded, is one
+expanded_same : (tree other : ModelTree) → tree ≡ other → expanded tree ≡ expanded other
+expanded_same tree other e = ap expanded e
+
+pub one_whole : (text : List ℕ) (tree other : ModelTree) → IsWhole text tree → IsWhole text other → tree ≡ other
+one_whole text tree other a b =
+    let same : a.written ≡ b.written = one_tree text a.written b.written a.reading b.reading in
+    ok_same (expanded a.written) tree other a.expansion (expanded_same a.written b.written same ∙ b.expansion)
+
 pub one_model : (text : List ℕ) (m n : NamedTree) → SaysModel text m → SaysModel text n → m ≡ n
 one_model text m n a b =
-    let same : a.typed.tree ≡ b.typed.tree = one_tree text a.typed.tree b.typed.tree a.whole.reading b.whole.reading in
+    let same : a.typed.tree ≡ b.typed.tree = one_whole text a.typed.tree b.typed.tree a.whole b.whole in
     a.typed.settled ∙ ap (λ (t : ModelTree). settled_in (named_of t)) same ∙ sym b.typed.settled
 
-pub not_opening : (text : List ℕ) (m : NamedTree) → SaysModel text m → OpensOther text → ⊥
-not_opening text m a o =
-    let same : a.typed.tree ≡ o.0 = one_tree text a.typed.tree o.0 a.whole.reading o.1 in
-    o.2 (subst (λ (t : ModelTree). t.opens ≡ []) same a.whole.alone)
-
--- a text with a tree has tokens, and these are a tree
+-- a text with a tree has tokens, these are a tree, and its orderings have no fault
 tokens_there : (text : List ℕ) (tree : ModelTree) (e : LexFault) → IsTreeOf text tree → tokens_of text ≡ Err e → ⊥
 tokens_there text tree e is stops = never_both (tokens_of text) is.0 e is.1 stops
 
@@ -73,83 +78,103 @@ tree_there text tree ts s is e stops =
     let same : ts ≡ is.0 = ok_same (tokens_of text) ts is.0 e is.1 in
     never_both (model_of (seen_all ts)) tree s (model_same ts is.0 same ∙ is.2) stops
 
+order_there : (text : List ℕ) (tree other : ModelTree) (e : OrderFault) → IsWhole text tree → IsTreeOf text other → expanded other ≡ Err e → ⊥
+order_there text tree other e whole is stops =
+    let same : other ≡ whole.written = one_tree text other whole.written is whole.reading in
+    never_both (expanded other) tree e (expanded_same other whole.written same ∙ whole.expansion) stops
+
 pub not_faulty : (text words : List ℕ) (m : NamedTree) → SaysModel text m → IsFaulty text words → ⊥
-not_faulty text words m a (inl f) = tokens_there text a.typed.tree f.0 a.whole.reading f.1
-not_faulty text words m a (inr (inl f)) = tree_there text a.typed.tree f.0 f.1 a.whole.reading f.2 f.3
-not_faulty text words m a (inr (inr (inl (tree, whole, (e, first, told))))) =
-    let same : a.typed.tree ≡ tree = one_tree text a.typed.tree tree a.whole.reading whole.reading in
+not_faulty text words m a (inl f) = tokens_there text a.whole.written f.0 a.whole.reading f.1
+not_faulty text words m a (inr (inl f)) = tree_there text a.whole.written f.0 f.1 a.whole.reading f.2 f.3
+not_faulty text words m a (inr (inr (inl (tree, is, (e, first, told))))) = order_there text a.typed.tree tree e a.whole is first
+not_faulty text words m a (inr (inr (inr (inl (tree, whole, (e, first, told)))))) =
+    let same : a.typed.tree ≡ tree = one_whole text a.typed.tree tree a.whole whole in
     none_first (faults_in tree) e (subst (λ (t : ModelTree). faults_in t ≡ []) same a.typed.names) first
-not_faulty text words m a (inr (inr (inr (tree, whole, names, (e, first, told))))) =
-    let same : a.typed.tree ≡ tree = one_tree text a.typed.tree tree a.whole.reading whole.reading in
+not_faulty text words m a (inr (inr (inr (inr (tree, whole, names, (e, first, told)))))) =
+    let same : a.typed.tree ≡ tree = one_whole text a.typed.tree tree a.whole whole in
     never_both (types_checked (named_of tree)) tt e (subst (λ (t : ModelTree). types_checked (named_of t) ≡ Ok tt) same a.typed.types) first
 
--- a text that opens another is not whole
-opens_there : (text : List ℕ) (tree : ModelTree) → OpensOther text → IsWhole text tree → ⊥
-opens_there text tree o whole =
-    let same : tree ≡ o.0 = one_tree text tree o.0 whole.reading o.1 in
-    o.2 (subst (λ (t : ModelTree). t.opens ≡ []) same whole.alone)
+-- the faults of one stage, and those of the stages before it
+tokens_only : (text words others : List ℕ) (e : LexFault) → tokens_of text ≡ Err e → words ≡ lex_words e → IsFaulty text others → words ≡ others
+tokens_only text words others e stops told (inl g) = told ∙ ap lex_words (err_same (tokens_of text) e g.0 stops g.1) ∙ sym g.2
+tokens_only text words others e stops told (inr (inl g)) = absurd (never_both (tokens_of text) g.0 e g.2 stops)
+tokens_only text words others e stops told (inr (inr (inl (tree, is, rest)))) = absurd (tokens_there text tree e is stops)
+tokens_only text words others e stops told (inr (inr (inr (inl (tree, whole, rest))))) = absurd (tokens_there text whole.written e whole.reading stops)
+tokens_only text words others e stops told (inr (inr (inr (inr (tree, whole, names, rest))))) = absurd (tokens_there text whole.written e whole.reading stops)
 
-pub not_waiting : (text words : List ℕ) → OpensOther text → IsFaulty text words → ⊥
-not_waiting text words o (inl f) = tokens_there text o.0 f.0 o.1 f.1
-not_waiting text words o (inr (inl f)) = tree_there text o.0 f.0 f.1 o.1 f.2 f.3
-not_waiting text words o (inr (inr (inl (tree, whole, rest)))) = opens_there text tree o whole
-not_waiting text words o (inr (inr (inr (tree, whole, names, rest)))) = opens_there text tree o whole
+tree_only : (text words others : List ℕ) (ts : List Token) (s : ParseStopView) → tokens_of text ≡ Ok ts → model_of (seen_all ts) ≡ Err s → words ≡ parse_words (fault_of ts s) → IsFaulty text others → words ≡ others
+tree_only text words others ts s read stops told (inl g) = absurd (never_both (tokens_of text) ts g.0 read g.1)
+tree_only text words others ts s read stops told (inr (inl g)) =
+    let same : ts ≡ g.0 = ok_same (tokens_of text) ts g.0 read g.2 in
+    let stop : s ≡ g.1 = err_same (model_of (seen_all ts)) s g.1 stops (model_same ts g.0 same ∙ g.3) in
+    told ∙ ap (λ us. parse_words (fault_of us s)) same ∙ ap (λ z. parse_words (fault_of g.0 z)) stop ∙ sym g.4
+tree_only text words others ts s read stops told (inr (inr (inl (tree, is, rest)))) = absurd (tree_there text tree ts s is read stops)
+tree_only text words others ts s read stops told (inr (inr (inr (inl (tree, whole, rest))))) = absurd (tree_there text whole.written ts s whole.reading read stops)
+tree_only text words others ts s read stops told (inr (inr (inr (inr (tree, whole, names, rest))))) = absurd (tree_there text whole.written ts s whole.reading read stops)
+
+order_only : (text words others : List ℕ) (tree : ModelTree) (e : OrderFault) → IsTreeOf text tree → expanded tree ≡ Err e → words ≡ order_words e → IsFaulty text others → words ≡ others
+order_only text words others tree e is stops told (inl g) = absurd (tokens_there text tree g.0 is g.1)
+order_only text words others tree e is stops told (inr (inl g)) = absurd (tree_there text tree g.0 g.1 is g.2 g.3)
+order_only text words others tree e is stops told (inr (inr (inl (tree', is', (e', stops', told'))))) =
+    let same : tree ≡ tree' = one_tree text tree tree' is is' in
+    told ∙ ap order_words (err_same (expanded tree) e e' stops (expanded_same tree tree' same ∙ stops')) ∙ sym told'
+order_only text words others tree e is stops told (inr (inr (inr (inl (tree', whole, rest))))) = absurd (order_there text tree' tree e whole is stops)
+order_only text words others tree e is stops told (inr (inr (inr (inr (tree', whole, names, rest))))) = absurd (order_there text tree' tree e whole is stops)
+
+name_only : (text words others : List ℕ) (tree : ModelTree) (e : NameFault) → IsWhole text tree → first_in (faults_in tree) ≡ Some e → words ≡ name_words e → IsFaulty text others → words ≡ others
+name_only text words others tree e whole first told (inl g) = absurd (tokens_there text whole.written g.0 whole.reading g.1)
+name_only text words others tree e whole first told (inr (inl g)) = absurd (tree_there text whole.written g.0 g.1 whole.reading g.2 g.3)
+name_only text words others tree e whole first told (inr (inr (inl (tree', is', (e', stops', told'))))) = absurd (order_there text tree tree' e' whole is' stops')
+name_only text words others tree e whole first told (inr (inr (inr (inl (tree', whole', (e', first', told')))))) =
+    let same : tree ≡ tree' = one_whole text tree tree' whole whole' in
+    told ∙ ap name_words (first_same (faults_in tree) e e' first (subst (λ (t : ModelTree). first_in (faults_in t) ≡ Some e') (sym same) first')) ∙ sym told'
+name_only text words others tree e whole first told (inr (inr (inr (inr (tree', whole', names', rest'))))) =
+    let same : tree' ≡ tree = one_whole text tree' tree whole' whole in
+    absurd (none_first (faults_in tree) e (subst (λ (t : ModelTree). faults_in t ≡ []) same names') first)
+
+type_only : (text words others : List ℕ) (tree : ModelTree) (e : TypeFault) → IsWhole text tree → faults_in tree ≡ [] → types_checked (named_of tree) ≡ Err e → words ≡ type_words e → IsFaulty text others → words ≡ others
+type_only text words others tree e whole names first told (inl g) = absurd (tokens_there text whole.written g.0 whole.reading g.1)
+type_only text words others tree e whole names first told (inr (inl g)) = absurd (tree_there text whole.written g.0 g.1 whole.reading g.2 g.3)
+type_only text words others tree e whole names first told (inr (inr (inl (tree', is', (e', stops', told'))))) = absurd (order_there text tree tree' e' whole is' stops')
+type_only text words others tree e whole names first told (inr (inr (inr (inl (tree', whole', (e', first', told')))))) =
+    let same : tree ≡ tree' = one_whole text tree tree' whole whole' in
+    absurd (none_first (faults_in tree') e' (subst (λ (t : ModelTree). faults_in t ≡ []) same names) first')
+type_only text words others tree e whole names first told (inr (inr (inr (inr (tree', whole', names', (e', first', told')))))) =
+    let same : tree ≡ tree' = one_whole text tree tree' whole whole' in
+    told ∙ ap type_words (err_same (types_checked (named_of tree)) e e' first (subst (λ (t : ModelTree). types_checked (named_of t) ≡ Err e') (sym same) first')) ∙ sym told'
 
 pub one_fault : (text words others : List ℕ) → IsFaulty text words → IsFaulty text others → words ≡ others
-one_fault text words others (inl f) (inl g) =
-    f.2 ∙ ap lex_words (err_same (tokens_of text) f.0 g.0 f.1 g.1) ∙ sym g.2
-one_fault text words others (inl f) (inr (inl g)) = absurd (never_both (tokens_of text) g.0 f.0 g.2 f.1)
-one_fault text words others (inl f) (inr (inr (inl (tree, whole, rest)))) = absurd (tokens_there text tree f.0 whole.reading f.1)
-one_fault text words others (inl f) (inr (inr (inr (tree, whole, names, rest)))) = absurd (tokens_there text tree f.0 whole.reading f.1)
-one_fault text words others (inr (inl f)) (inl g) = absurd (never_both (tokens_of text) f.0 g.0 f.2 g.1)
-one_fault text words others (inr (inl f)) (inr (inl g)) =
-    let same : f.0 ≡ g.0 = ok_same (tokens_of text) f.0 g.0 f.2 g.2 in
-    let stop : f.1 ≡ g.1 = err_same (model_of (seen_all f.0)) f.1 g.1 f.3 (model_same f.0 g.0 same ∙ g.3) in
-    f.4 ∙ ap (λ ts. parse_words (fault_of ts f.1)) same ∙ ap (λ s. parse_words (fault_of g.0 s)) stop ∙ sym g.4
-one_fault text words others (inr (inl f)) (inr (inr (inl (tree, whole, rest)))) = absurd (tree_there text tree f.0 f.1 whole.reading f.2 f.3)
-one_fault text words others (inr (inl f)) (inr (inr (inr (tree, whole, names, rest)))) = absurd (tree_there text tree f.0 f.1 whole.reading f.2 f.3)
-one_fault text words others (inr (inr (inl (tree, whole, rest)))) (inl g) = absurd (tokens_there text tree g.0 whole.reading g.1)
-one_fault text words others (inr (inr (inl (tree, whole, rest)))) (inr (inl g)) = absurd (tree_there text tree g.0 g.1 whole.reading g.2 g.3)
-one_fault text words others (inr (inr (inl (tree, whole, (e, first, told))))) (inr (inr (inl (tree', whole', (e', first', told'))))) =
-    let same : tree ≡ tree' = one_tree text tree tree' whole.reading whole'.reading in
-    told ∙ ap name_words (first_same (faults_in tree) e e' first (subst (λ (t : ModelTree). first_in (faults_in t) ≡ Some e') (sym same) first')) ∙ sym told'
-one_fault text words others (inr (inr (inl (tree, whole, (e, first, told))))) (inr (inr (inr (tree', whole', names', rest')))) =
-    let same : tree' ≡ tree = one_tree text tree' tree whole'.reading whole.reading in
-    absurd (none_first (faults_in tree) e (subst (λ (t : ModelTree). faults_in t ≡ []) same names') first)
-one_fault text words others (inr (inr (inr (tree, whole, names, rest)))) (inl g) = absurd (tokens_there text tree g.0 whole.reading g.1)
-one_fault text words others (inr (inr (inr (tree, whole, names, rest)))) (inr (inl g)) = absurd (tree_there text tree g.0 g.1 whole.reading g.2 g.3)
-one_fault text words others (inr (inr (inr (tree, whole, names, rest)))) (inr (inr (inl (tree', whole', (e', first', told'))))) =
-    let same : tree ≡ tree' = one_tree text tree tree' whole.reading whole'.reading in
-    absurd (none_first (faults_in tree') e' (subst (λ (t : ModelTree). faults_in t ≡ []) same names) first')
-one_fault text words others (inr (inr (inr (tree, whole, names, (e, first, told))))) (inr (inr (inr (tree', whole', names', (e', first', told'))))) =
-    let same : tree ≡ tree' = one_tree text tree tree' whole.reading whole'.reading in
-    told ∙ ap type_words (err_same (types_checked (named_of tree)) e e' first (subst (λ (t : ModelTree). types_checked (named_of t) ≡ Err e') (sym same) first')) ∙ sym told'
+one_fault text words others (inl (e, stops, told)) other = tokens_only text words others e stops told other
+one_fault text words others (inr (inl (ts, s, read, stops, told))) other = tree_only text words others ts s read stops told other
+one_fault text words others (inr (inr (inl (tree, is, (e, stops, told))))) other = order_only text words others tree e is stops told other
+one_fault text words others (inr (inr (inr (inl (tree, whole, (e, first, told)))))) other = name_only text words others tree e whole first told other
+one_fault text words others (inr (inr (inr (inr (tree, whole, names, (e, first, told)))))) other = type_only text words others tree e whole names first told other
 
 -- ---- each text is something
 
 abbrev pub IsSomething : List ℕ → Type 0
-IsSomething text = ((m : NamedTree) × SaysModel text m) ⊎ OpensOther text ⊎ ((words : List ℕ) × IsFaulty text words)
+IsSomething text = ((m : NamedTree) × SaysModel text m) ⊎ ((words : List ℕ) × IsFaulty text words)
 
 types_something : (text : List ℕ) (tree : ModelTree) → IsWhole text tree → faults_in tree ≡ [] → (r : Checked) → types_checked (named_of tree) ≡ r → IsSomething text
 types_something text tree whole names (Ok one) e =
     inl (settled_in (named_of tree), record { typed = record { tree = tree; names = names; types = e; settled = refl }; whole = whole })
-types_something text tree whole names (Err f) e = inr (inr (type_words f, inr (inr (inr (tree, whole, names, (f, e, refl))))))
+types_something text tree whole names (Err f) e = inr (type_words f, inr (inr (inr (inr (tree, whole, names, (f, e, refl))))))
 
 names_something : (text : List ℕ) (tree : ModelTree) → IsWhole text tree → (fs : List NameFault) → faults_in tree ≡ fs → IsSomething text
 names_something text tree whole [] e = types_something text tree whole e (types_checked (named_of tree)) refl
-names_something text tree whole (f ∷ fs) e = inr (inr (name_words f, inr (inr (inl (tree, whole, (f, ap first_in e, refl))))))
+names_something text tree whole (f ∷ fs) e = inr (name_words f, inr (inr (inr (inl (tree, whole, (f, ap first_in e, refl))))))
 
-tree_something : (text : List ℕ) (tree : ModelTree) → IsTreeOf text tree → (os : List Open) → tree.opens ≡ os → IsSomething text
-tree_something text tree is [] e = names_something text tree (record { reading = is; alone = e }) (faults_in tree) refl
-tree_something text tree is (o ∷ os) e = inr (inl (tree, is, λ (none : tree.opens ≡ []). let both : o ∷ os ≡ [] = sym e ∙ none in cc))
+tree_something : (text : List ℕ) (tree : ModelTree) → IsTreeOf text tree → (r : Result ModelTree OrderFault) → expanded tree ≡ r → IsSomething text
+tree_something text tree is (Ok whole) e = names_something text whole (record { written = tree; reading = is; expansion = e }) (faults_in whole) refl
+tree_something text tree is (Err f) e = inr (order_words f, inr (inr (inl (tree, is, (f, e, refl)))))
 
 tokens_something : (text : List ℕ) (ts : List Token) → tokens_of text ≡ Ok ts → (r : Result ModelTree ParseStopView) → model_of (seen_all ts) ≡ r → IsSomething text
-tokens_something text ts e (Ok tree) d = tree_something text tree (ts, e, d) tree.opens refl
-tokens_something text ts e (Err s) d = inr (inr (parse_words (fault_of ts s), inr (inl (ts, s, e, d, refl))))
+tokens_something text ts e (Ok tree) d = tree_something text tree (ts, e, d) (expanded tree) refl
+tokens_something text ts e (Err s) d = inr (parse_words (fault_of ts s), inr (inl (ts, s, e, d, refl)))
 
 text_something : (text : List ℕ) (r : Result (List Token) LexFault) → tokens_of text ≡ r → IsSomething text
 text_something text (Ok ts) e = tokens_something text ts e (model_of (seen_all ts)) refl
-text_something text (Err f) e = inr (inr (lex_words f, inl (f, e, refl)))
+text_something text (Err f) e = inr (lex_words f, inl (f, e, refl))
 
 pub each_something : (text : List ℕ) → IsSomething text
 each_something text = text_something text (tokens_of text) refl
@@ -159,26 +184,16 @@ each_something text = text_something text (tokens_of text) refl
 pub tree_read : (text : List ℕ) (ts us : List Token) (tree : ModelTree) → tokens_of text ≡ Ok ts → us ≡ ts → model_of (seen_all us) ≡ Ok tree → IsTreeOf text tree
 tree_read text ts us tree e same d = (us, e ∙ ap Ok (sym same), d)
 
-no_elements : {X : Type 0} (xs : List X) → length xs ≡ 0 → xs ≡ []
-no_elements [] e = refl
-no_elements (x ∷ xs) e = absurd (omega arith)
+pub whole_read : (text : List ℕ) (tree whole : ModelTree) → IsTreeOf text tree → expanded tree ≡ Ok whole → IsWhole text whole
+whole_read text tree whole is e = record { written = tree; reading = is; expansion = e }
 
-none_there : {X : Type 0} (xs : List X) (is_empty : Bool) → is_empty ≡ (length xs == 0) → is_empty ≡ true → xs ≡ []
-none_there xs is_empty told so = no_elements xs (eqb-true (length xs) 0 (sym told ∙ so))
-
-pub whole_of : (text : List ℕ) (tree : ModelTree) (is_empty : Bool) → IsTreeOf text tree → is_empty ≡ (length tree.opens == 0) → is_empty ≡ true → IsWhole text tree
-whole_of text tree is_empty is told so = record { reading = is; alone = none_there tree.opens is_empty told so }
-
-some_there : {X : Type 0} (xs : List X) (is_empty : Bool) → is_empty ≡ (length xs == 0) → is_empty ≡ false → xs ≢ []
-some_there [] is_empty told not_so none = absurd (let k : true ≡ false = sym told ∙ not_so in cc)
-some_there (x ∷ xs) is_empty told not_so none = absurd (let k : x ∷ xs ≡ [] = none in cc)
-
-pub opens_other : (text : List ℕ) (tree : ModelTree) (is_empty : Bool) → IsTreeOf text tree → is_empty ≡ (length tree.opens == 0) → is_empty ≡ false → OpensOther text
-opens_other text tree is_empty is told not_so = (tree, is, some_there tree.opens is_empty told not_so)
+pub bad_order : (text words : List ℕ) (tree : ModelTree) (e : OrderFault) → IsTreeOf text tree → (e ≡ order.Memory) ⊎ (expanded tree ≡ Err e) → (e ≡ order.Memory → ⊥) → words ≡ order_words e → IsFaulty text words
+bad_order text words tree e is (inl memory) other told = absurd (other memory)
+bad_order text words tree e is (inr stops) other told = inr (inr (inl (tree, is, (e, stops, told))))
 
 pub bad_name : (text words : List ℕ) (tree : ModelTree) (e : NameFault) → IsWhole text tree → (e ≡ name.Memory) ⊎ (first_in (faults_in tree) ≡ Some e) → (e ≡ name.Memory → ⊥) → words ≡ name_words e → IsFaulty text words
 bad_name text words tree e whole (inl memory) other told = absurd (other memory)
-bad_name text words tree e whole (inr first) other told = inr (inr (inl (tree, whole, (e, first, told))))
+bad_name text words tree e whole (inr first) other told = inr (inr (inr (inl (tree, whole, (e, first, told)))))
 
 -- ---- types
 
@@ -201,4 +216,4 @@ types_refused m e (Err f) d g = d ∙ ap Err (err_same {A = NamedTree} {E = Type
 pub bad_type : (text words : List ℕ) (tree : ModelTree) (m : NamedTree) (e : TypeFault) → IsWhole text tree → faults_in tree ≡ [] → m ≡ named_of tree → (e ≡ typing.Memory) ⊎ (outcome.typed m ≡ Err e) → (e ≡ typing.Memory → ⊥) → words ≡ type_words e → IsFaulty text words
 bad_type text words tree m e whole names is (inl memory) other told = absurd (other memory)
 bad_type text words tree m e whole names is (inr read) other told =
-    inr (inr (inr (tree, whole, names, (e, subst (λ (n : NamedTree). types_checked n ≡ Err e) is (types_refused m e (types_checked m) refl read), told))))
+    inr (inr (inr (inr (tree, whole, names, (e, subst (λ (n : NamedTree). types_checked n ≡ Err e) is (types_refused m e (types_checked m) refl read), told)))))

@@ -1,5 +1,5 @@
 -- What the text of a model is, and what is told of it where it is none.
-use Rattle.std.specs.Prelude.{◌≡◌, ◌≢◌, ◌⊎◌, ℕ, List, [], Some, Ok, Err}
+use Rattle.std.specs.Prelude.{◌≡◌, ◌⊎◌, ℕ, List, [], Some, Ok, Err}
 use Rattle.alloy_lex.specs.declared.token.Token.{Token}
 use Rattle.alloy_lex.specs.declared.token.LexFault.{LexFault}
 use Rattle.alloy_lex.specs.Tokens.{tokens_of}
@@ -8,6 +8,8 @@ use Rattle.alloy_syntax.specs.ParserTokens.{seen_all}
 use Rattle.alloy_syntax.specs.Readers.{ParseStopView}
 use Rattle.alloy_syntax.specs.Paragraphs.{model_of}
 use Rattle.alloy_parse.specs.Faults.{fault_of}
+use Rattle.order_lib.specs.declared.fault.OrderFault.{OrderFault}
+use Rattle.order_lib.specs.Expanded.{expanded}
 use Rattle.named_model.specs.declared.fault.NameFault.{NameFault}
 use Rattle.named_model.specs.Answers.{first_in}
 use Rattle.named_model.specs.Declarations.{named_of}
@@ -17,7 +19,7 @@ use Rattle.named_model.specs.View.{named_view}
 use Rattle.model_types.specs.declared.fault.TypeFault.{TypeFault}
 use Rattle.model_types.specs.Models.{types_checked}
 use Rattle.rel_lower.specs.Lowered.{IsTyped}
-use Rattle.model_texts.specs.Words.Words.{lex_words, parse_words, name_words, type_words}
+use Rattle.model_texts.specs.Words.Words.{lex_words, parse_words, order_words, name_words, type_words}
 use Rattle.model_texts.specs.declared.typed_texts.reading.ModelText.{ModelText}
 use Rattle.model_texts.specs.declared.typed_texts.reading.ModelText.TheVariants as reading
 
@@ -25,14 +27,11 @@ use Rattle.model_texts.specs.declared.typed_texts.reading.ModelText.TheVariants 
 abbrev pub IsTreeOf : List ℕ → ModelTree → Type 0
 IsTreeOf text tree = (ts : List Token) × (tokens_of text ≡ Ok ts) × (model_of (seen_all ts) ≡ Ok tree)
 
--- a text is a model that opens another one
-abbrev pub OpensOther : List ℕ → Type 0
-OpensOther text = (tree : ModelTree) × IsTreeOf text tree × (tree.opens ≢ [])
-
--- a text is a model that opens no other one, in full
+-- a text is this tree once its orderings are expanded
 pub record IsWhole (text : List ℕ) (tree : ModelTree) : Type 0 where
-  pub reading : IsTreeOf text tree
-  pub alone : tree.opens ≡ []
+  pub written : ModelTree
+  pub reading : IsTreeOf text written
+  pub expansion : expanded written ≡ Ok tree
 
 -- a text says this model: its names stand for one thing each, its types fit, and each shared name is one field
 pub record SaysModel (text : List ℕ) (m : NamedTree) : Type 0 where
@@ -47,6 +46,9 @@ HasNoTokens text words = (e : LexFault) × (tokens_of text ≡ Err e) × (words 
 abbrev pub HasNoTree : List ℕ → List ℕ → Type 0
 HasNoTree text words = (ts : List Token) × (s : ParseStopView) × (tokens_of text ≡ Ok ts) × (model_of (seen_all ts) ≡ Err s) × (words ≡ parse_words (fault_of ts s))
 
+abbrev pub HasBadOrder : List ℕ → List ℕ → Type 0
+HasBadOrder text words = (tree : ModelTree) × IsTreeOf text tree × ((e : OrderFault) × (expanded tree ≡ Err e) × (words ≡ order_words e))
+
 abbrev pub HasBadName : List ℕ → List ℕ → Type 0
 HasBadName text words = (tree : ModelTree) × IsWhole text tree × ((e : NameFault) × (first_in (faults_in tree) ≡ Some e) × (words ≡ name_words e))
 
@@ -56,10 +58,9 @@ HasBadType text words =
 
 -- these words tell the first fault of a text
 abbrev pub IsFaulty : List ℕ → List ℕ → Type 0
-IsFaulty text words = HasNoTokens text words ⊎ HasNoTree text words ⊎ HasBadName text words ⊎ HasBadType text words
+IsFaulty text words = HasNoTokens text words ⊎ HasNoTree text words ⊎ HasBadOrder text words ⊎ HasBadName text words ⊎ HasBadType text words
 
 -- a text is what was read of it
 abbrev pub IsReading : List ℕ → ModelText → Type 0
 IsReading text (reading.Typed model) = SaysModel text (named_view model)
-IsReading text reading.Opening = OpensOther text
 IsReading text (reading.Faulty words) = IsFaulty text words.items

@@ -5,6 +5,8 @@ use Rattle.alloy_lex.specs.declared.token.LexFault.{LexFault}
 use Rattle.alloy_lex.specs.declared.token.LexFault.TheVariants as lex
 use Rattle.alloy_parse.specs.declared.fault.ParseFault.{ParseFault}
 use Rattle.alloy_parse.specs.declared.fault.ParseFault.TheVariants as parse
+use Rattle.order_lib.specs.declared.fault.OrderFault.{OrderFault}
+use Rattle.order_lib.specs.declared.fault.OrderFault.TheVariants as order
 use Rattle.named_model.specs.declared.fault.NameFault.{NameFault}
 use Rattle.named_model.specs.declared.fault.NameFault.TheVariants as name
 use Rattle.model_types.specs.declared.fault.TypeFault.{TypeFault}
@@ -34,6 +36,14 @@ parse_words (parse.EndOfText p) = placed p (codes "end_of_text")
 parse_words (parse.Unsupported p word) = placed p (codes "unsupported " ++ word)
 parse_words (parse.TooDeep p) = placed p (codes "too_deep")
 parse_words parse.Memory = []
+
+-- ---- faults of orderings
+
+abbrev pub order_words : OrderFault → List ℕ
+order_words (order.Unknown p) = placed p (codes "unknown")
+order_words (order.NotPlain p) = placed p (codes "not_plain")
+order_words (order.Twice p) = placed p (codes "twice")
+order_words order.Memory = []
 
 -- ---- faults of names, of a scope and of types
 
