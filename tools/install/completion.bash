@@ -6,9 +6,11 @@ _explore() {
         --budget | --workers | =) return ;;
     esac
     if [ "$COMP_CWORD" -eq 1 ]; then
-        mapfile -t COMPREPLY < <(compgen -W "run check" -- "$word")
-    elif [ "${COMP_WORDS[1]}" = run ]; then
+        mapfile -t COMPREPLY < <(compgen -W "run distinct assert facts check" -- "$word")
+    elif [[ "${COMP_WORDS[1]}" =~ ^(run|distinct)$ ]]; then
         mapfile -t COMPREPLY < <(compgen -W "--budget --workers" -- "$word")
+    elif [[ "${COMP_WORDS[1]}" =~ ^(assert|facts)$ ]]; then
+        mapfile -t COMPREPLY < <(compgen -W "--budget" -- "$word")
     fi
 }
 

@@ -11,14 +11,15 @@ use Rattle.clap.specs.declared.error.kind.ErrorKind.{ErrorKind}
 use Rattle.clap.specs.declared.error.kind.ErrorKind.TheVariants.{ArgumentConflict, ValueValidation}
 use Rattle.clap.specs.declared.builder.value_parser.ValueParser.{ValueParser}
 use Rattle.clap.specs.declared.builder.value_parser.ValueParser.TheVariants.{Signed}
-use Rattle.command_words.specs.Words.{AreOptions, IsBudget, IsNumber, IsWorkers, Says, SaysNone, number_after}
-use Rattle.command_words.specs.Program.{ReadsNumber, ReadsRun, program}
+use Rattle.command_words.specs.Words.{AreOptions, IsBehind, IsBudget, IsBudgetAlone, IsNumber, IsWorkers, Says, SaysNone, number_after}
+use Rattle.command_words.specs.Program.{ReadsBudget, ReadsNumber, ReadsOptions, ReadsWithBudget, ReadsWithOptions, program}
 use Rattle.command_words.specs.declared.reading.Command.{Command}
-use Rattle.command_words.specs.declared.reading.Command.TheVariants.{Run, Check}
+use Rattle.command_words.specs.declared.reading.Command.TheVariants.{Run, Check, Distinct, Assert, Facts}
+use Rattle.command_words.proofs.CommandLemmas.{first_word, is_first_word, name_said, second_byte}
 use Rattle.command_words.proofs.LongWords.{dashes}
 use Rattle.command_words.proofs.Numbers.{accepted_number, minus_off, number_in_range, number_plain}
 use Rattle.command_words.proofs.Options.{AllPlain, Pass, Use, all_written, has_dashes, name_of, spelled, use_kinds, use_rows, used_all, written}
-use Rattle.command_words.proofs.Program.{HasUses, accepted, check_passes, check_rows, rows_of_options, run_passes}
+use Rattle.command_words.proofs.Program.{HasUses, WithOptions, run, distinct, asserts, facts, accepted, check_passes, check_rows, name_with, rows_of_options, uses_pass}
 
 -- ---- one use
 
@@ -146,6 +147,28 @@ read_options (u ∷ []) = read_one u.which u.joined u.value
 read_options (u ∷ t ∷ []) = read_two u.which u.joined u.value t.which t.joined t.value
 read_options (u ∷ t ∷ s ∷ more) = λ pass workers budget w b. absurd (no_third u.which u.value t.which t.value s.which s.value pass.1.0 pass.1.1.0)
 
+-- where no number of workers is given, there is a budget at most
+read_budget : (uses : List Use) → Pass [] uses → first_of (codes "workers") (matched uses) ≡ None → (budget : ℕ) → ReadsNumber 20000 (codes "budget") (matched uses) (Some budget) → IsBudgetAlone (all_written uses) budget
+read_budget [] pass none budget b = inl (refl, absent 20000 budget (codes "budget") [] refl b)
+read_budget (u ∷ []) pass none budget b = one u.which u.joined u.value pass none b
+  where
+    one : (a j : Bool) (v : Text) → Pass [] (record { which = a; joined = j; value = v } ∷ []) → first_of (codes "workers") (matched (record { which = a; joined = j; value = v } ∷ [])) ≡ None
+        → ReadsNumber 20000 (codes "budget") (matched (record { which = a; joined = j; value = v } ∷ [])) (Some budget) → IsBudgetAlone (all_written (record { which = a; joined = j; value = v } ∷ [])) budget
+    one true j v pass none b = absurd (cc)
+    one false j v pass none b =
+        let t : Use = record { which = false; joined = j; value = v } in
+        let is = is_budget j v budget [] (taken 20000 budget (codes "budget") (matched (t ∷ [])) v refl refl b) (fresh_use false v [] pass.0) in
+        inr (subst (λ (ws : List Text). IsBudget ws budget) (sym (append-nil (written t))) is)
+read_budget (u ∷ t ∷ []) pass none budget b = absurd (two u.which u.joined u.value t.which t.joined t.value pass none)
+  where
+    two : (a j : Bool) (v : Text) (a' j' : Bool) (v' : Text) → Pass [] (record { which = a; joined = j; value = v } ∷ record { which = a'; joined = j'; value = v' } ∷ [])
+        → first_of (codes "workers") (matched (record { which = a; joined = j; value = v } ∷ record { which = a'; joined = j'; value = v' } ∷ [])) ≡ None → ⊥
+    two true j v true j' v' pass none = again true v' (use_rows true v []) refl pass.1.0
+    two false j v false j' v' pass none = again false v' (use_rows false v []) refl pass.1.0
+    two true j v false j' v' pass none = absurd (cc)
+    two false j v true j' v' pass none = absurd (cc)
+read_budget (u ∷ t ∷ s ∷ more) pass none budget b = absurd (no_third u.which u.value t.which t.value s.which s.value pass.1.0 pass.1.1.0)
+
 -- ---- words that say a command
 
 -- what is read of these rows are numbers
@@ -245,6 +268,16 @@ good_options options workers budget (inr (inr (inr (inl both)))) =
 good_options options workers budget (inr (inr (inr (inr both)))) =
     good_two false options both.front both.back both.in_order (use_of_budget both.front budget both.first) (use_of_workers both.back workers both.second)
 
+-- options without a number of workers
+record HasNoWorkers (options : List Text) : Type 0 where
+  pub good : IsGood options
+  pub none : first_of (codes "workers") (matched good.uses) ≡ None
+
+good_budget : (options : List Text) (budget : ℕ) → IsBudgetAlone options budget → HasNoWorkers options
+unfolding good_one
+good_budget options budget (inl none) = record { good = record { uses = []; are = none.0; plain = tt; pass = tt; numbers = numbers_none }; none = refl }
+good_budget options budget (inr one) = record { good = good_one false options (use_of_budget options budget one); none = refl }
+
 -- none of them is `--`
 spelled_safe : (a : Bool) (given : Option Text) → bytes_eq (spelled a given) dashes ≡ false
 spelled_safe true given = refl
@@ -265,17 +298,26 @@ record IsClean (words : List Text) : Type 0 where
   pub safe : has_dashes words ≡ false
   pub passes : fault_of program words ≡ []
 
-run_clean : (words options : List Text) → words ≡ codes "run" ∷ options → IsGood options → IsClean words
-run_clean words options e good =
-    let whole = e ∙ ap (λ ws. codes "run" ∷ ws) good.are in
+options_clean : (c : WithOptions) (words options : List Text) → words ≡ name_with c ∷ options → IsGood options → IsClean words
+options_clean c words options e good =
+    let whole = e ∙ ap (λ ws. name_with c ∷ ws) good.are in
     record {
-      safe = ap has_dashes whole ∙ uses_safe good.uses good.plain;
-      passes = ap (fault_of program) whole ∙ (run_passes good.uses good.plain good.pass).no_fault;
+      safe = ap has_dashes whole ∙ ap₂ (λ (x y : Bool). x || y) (name_safe c) (uses_safe good.uses good.plain);
+      passes = ap (fault_of program) whole ∙ (uses_pass c good.uses good.plain good.pass).no_fault;
     }
+  where
+    name_safe : (c : WithOptions) → bytes_eq (name_with c) dashes ≡ false
+    name_safe run = refl
+    name_safe distinct = refl
+    name_safe asserts = refl
+    name_safe facts = refl
 
 says_clean : (words : List Text) (c : Command) → Says words c → IsClean words
-says_clean words (Run workers budget) says = run_clean words says.0 says.1 (good_options says.0 workers budget says.2)
+says_clean words (Run workers budget) says = options_clean run words says.0 says.1 (good_options says.0 workers budget says.2)
 says_clean words Check says = record { safe = ap has_dashes says; passes = ap (fault_of program) says ∙ check_passes }
+says_clean words (Distinct workers budget) says = options_clean distinct words says.0 says.1 (good_options says.0 workers budget says.2)
+says_clean words (Assert budget) says = options_clean asserts words says.0 says.1 (good_budget says.0 budget says.2).good
+says_clean words (Facts budget) says = options_clean facts words says.0 says.1 (good_budget says.0 budget says.2).good
 
 pub escape_says_none : (words : List Text) → has_dashes words ≡ true → SaysNone words
 escape_says_none words e c says = let safe = (says_clean words c says).safe in absurd (cc (e, safe))
@@ -294,40 +336,92 @@ Found = Option (Text × List Row)
 said_check : (words : List Text) (said : Option Command) → words ≡ codes "check" ∷ [] → said ≡ Some Check → IsSaid words said
 said_check words said e is = subst (IsSaid words) (sym is) (record { none = tt; some = e })
 
-run_is_no_check : (options : List Text) → codes "run" ∷ options ≡ codes "check" ∷ [] → ⊥
-run_is_no_check options e = absurd (cc)
-
 same_rows : (name : Text) (xs ys : List Row) → ◌≡◌ {A = Found} (Some (name, xs)) (Some (name, ys)) → xs ≡ ys
 same_rows name xs ys e = let both : ◌≡◌ {A = Text × List Row} (name, xs) (name, ys) = cc in ap (λ (p : Text × List Row). p.1) both
 
-said_run : (words : List Text) (said : Option Command) (is : HasUses (codes "run") words) → ReadsRun (matched is.uses) said → IsSaid words said
-said_run words None is reads = record { none = refuses; some = tt }
-  where
-    unread : (options : List Text) → words ≡ codes "run" ∷ options → IsGood options → ⊥
-    unread options e good =
-        let whole = e ∙ ap (λ ws. codes "run" ∷ ws) good.are in
-        let rows = (run_passes good.uses good.plain good.pass).rows in
-        let both : ◌≡◌ {A = Found} (Some (codes "run", matched is.uses)) (Some (codes "run", matched good.uses)) = sym is.rows ∙ ap (subcommand_of program) whole ∙ rows in
-        let same = same_rows (codes "run") (matched is.uses) (matched good.uses) both in
-        let numbers = subst HasNumbers (sym same) good.numbers in
-        elim reads [
-          | inl w ↦ let n = numbers true w.0 w.1 in w.2 n.0 n.1
-          | inr b ↦ let n = numbers false b.0 b.1 in b.2 n.0 n.1
-        ]
+-- the matches are those of the options that the words have
+rows_of_good : (c : WithOptions) (words options : List Text) (is : HasUses (name_with c) words) → words ≡ name_with c ∷ options → (good : IsGood options) → matched good.uses ≡ matched is.uses
+rows_of_good c words options is e good =
+    let whole = e ∙ ap (λ ws. name_with c ∷ ws) good.are in
+    let rows = (uses_pass c good.uses good.plain good.pass).rows in
+    let both : ◌≡◌ {A = Found} (Some (name_with c, matched good.uses)) (Some (name_with c, matched is.uses)) = sym rows ∙ ap (subcommand_of program) (sym whole) ∙ is.rows in
+    same_rows (name_with c) (matched good.uses) (matched is.uses) both
 
-    refuses : SaysNone words
-    refuses (Run workers budget) says = unread says.0 says.1 (good_options says.0 workers budget says.2)
-    refuses Check says = run_is_no_check (all_written is.uses) (sym is.are ∙ says)
-said_run words (Some c) is reads = record {
-  none = tt;
-  some = subst (Says words) (sym reads.2) (all_written is.uses, is.are, read_options is.uses is.pass reads.0.workers reads.0.budget reads.1.0 reads.1.1);
+-- options that are so are read
+read_at_all : (c : WithOptions) (words : List Text) (is : HasUses (name_with c) words) → ReadsOptions (matched is.uses) None → (workers budget : ℕ) → IsBehind (name_with c) words (λ o. AreOptions o workers budget) → ⊥
+read_at_all c words is reads workers budget says =
+    let good = good_options says.0 workers budget says.2 in
+    let numbers = subst HasNumbers (rows_of_good c words says.0 is says.1 good) good.numbers in
+    elim reads [
+      | inl w ↦ let n = numbers true w.0 w.1 in w.2 n.0 n.1
+      | inr b ↦ let n = numbers false b.0 b.1 in b.2 n.0 n.1
+    ]
+
+budget_at_all : (c : WithOptions) (words : List Text) (is : HasUses (name_with c) words) → ReadsBudget (matched is.uses) None → (budget : ℕ) → IsBehind (name_with c) words (λ o. IsBudgetAlone o budget) → ⊥
+budget_at_all c words is reads budget says =
+    let alone = good_budget says.0 budget says.2 in
+    let rows = rows_of_good c words says.0 is says.1 alone.good in
+    let numbers = subst HasNumbers rows alone.good.numbers in
+    elim reads [
+      | inl given ↦ given (ap (first_of (codes "workers")) (sym rows) ∙ alone.none)
+      | inr b ↦ let n = numbers false b.0 b.1 in b.2 n.0 n.1
+    ]
+
+-- what is read of the rows of a command
+abbrev Reads : WithOptions → List Row → Option Command → Type 0
+Reads run = ReadsWithOptions Run
+Reads distinct = ReadsWithOptions Distinct
+Reads asserts = ReadsWithBudget Assert
+Reads facts = ReadsWithBudget Facts
+
+-- words with this name say no command where nothing is read
+none_said : (c : WithOptions) (words : List Text) (is : HasUses (name_with c) words) → Reads c (matched is.uses) None → (d : Command) → Says words d → name_said d ≡ name_with c → ⊥
+none_said run words is reads (Run workers budget) says e = read_at_all run words is reads workers budget says
+none_said run words is reads Check says e = absurd (omega (arith, ap second_byte e))
+none_said run words is reads (Distinct workers budget) says e = absurd (omega (arith, ap second_byte e))
+none_said run words is reads (Assert budget) says e = absurd (omega (arith, ap second_byte e))
+none_said run words is reads (Facts budget) says e = absurd (omega (arith, ap second_byte e))
+none_said distinct words is reads (Run workers budget) says e = absurd (omega (arith, ap second_byte e))
+none_said distinct words is reads Check says e = absurd (omega (arith, ap second_byte e))
+none_said distinct words is reads (Distinct workers budget) says e = read_at_all distinct words is reads workers budget says
+none_said distinct words is reads (Assert budget) says e = absurd (omega (arith, ap second_byte e))
+none_said distinct words is reads (Facts budget) says e = absurd (omega (arith, ap second_byte e))
+none_said asserts words is reads (Run workers budget) says e = absurd (omega (arith, ap second_byte e))
+none_said asserts words is reads Check says e = absurd (omega (arith, ap second_byte e))
+none_said asserts words is reads (Distinct workers budget) says e = absurd (omega (arith, ap second_byte e))
+none_said asserts words is reads (Assert budget) says e = budget_at_all asserts words is reads budget says
+none_said asserts words is reads (Facts budget) says e = absurd (omega (arith, ap second_byte e))
+none_said facts words is reads (Run workers budget) says e = absurd (omega (arith, ap second_byte e))
+none_said facts words is reads Check says e = absurd (omega (arith, ap second_byte e))
+none_said facts words is reads (Distinct workers budget) says e = absurd (omega (arith, ap second_byte e))
+none_said facts words is reads (Assert budget) says e = absurd (omega (arith, ap second_byte e))
+none_said facts words is reads (Facts budget) says e = budget_at_all facts words is reads budget says
+
+some_said : (c : WithOptions) (words : List Text) (is : HasUses (name_with c) words) (d : Command) → Reads c (matched is.uses) (Some d) → Says words d
+some_said run words is d reads = subst (Says words) (sym reads.2) (all_written is.uses, is.are, read_options is.uses is.pass reads.0.workers reads.0.budget reads.1.0 reads.1.1)
+some_said distinct words is d reads = subst (Says words) (sym reads.2) (all_written is.uses, is.are, read_options is.uses is.pass reads.0.workers reads.0.budget reads.1.0 reads.1.1)
+some_said asserts words is d reads = subst (Says words) (sym reads.2) (all_written is.uses, is.are, read_budget is.uses is.pass reads.1.0 reads.0 reads.1.1)
+some_said facts words is d reads = subst (Says words) (sym reads.2) (all_written is.uses, is.are, read_budget is.uses is.pass reads.1.0 reads.0 reads.1.1)
+
+said_with : (c : WithOptions) (words : List Text) (said : Option Command) (is : HasUses (name_with c) words) → Reads c (matched is.uses) said → IsSaid words said
+said_with c words None is reads = record {
+  none = λ d says. none_said c words is reads d says (sym (is_first_word words d says) ∙ ap first_word is.are);
+  some = tt;
 }
+said_with c words (Some d) is reads = record { none = tt; some = some_said c words is d reads }
 
 pub is_said : (words : List Text) (found : Found) (said : Option Command) → has_dashes words ≡ false → fault_of program words ≡ [] → found ≡ subcommand_of program words
-    → ((rows : List Row) → found ≡ Some (codes "run", rows) → ReadsRun rows said) → ((rows : List Row) → found ≡ Some (codes "check", rows) → said ≡ Some Check)
-    → IsSaid words said
-is_said words found said safe none is run check =
+    → ((rows : List Row) → found ≡ Some (codes "run", rows) → ReadsWithOptions Run rows said) → ((rows : List Row) → found ≡ Some (codes "distinct", rows) → ReadsWithOptions Distinct rows said)
+    → ((rows : List Row) → found ≡ Some (codes "assert", rows) → ReadsWithBudget Assert rows said) → ((rows : List Row) → found ≡ Some (codes "facts", rows) → ReadsWithBudget Facts rows said)
+    → ((rows : List Row) → found ≡ Some (codes "check", rows) → said ≡ Some Check) → IsSaid words said
+is_said words found said safe none is by_run by_distinct by_assert by_facts check =
     elim (accepted words safe none) [
       | inl e ↦ said_check words said e (check [] (is ∙ ap (subcommand_of program) e ∙ check_rows))
-      | inr r ↦ said_run words said r (run (matched r.uses) (is ∙ r.rows))
+      | inr r ↦ said_with r.0 words said r.1 (reads r.0 (matched r.1.uses) (is ∙ r.1.rows))
     ]
+  where
+    reads : (c : WithOptions) (rows : List Row) → found ≡ Some (name_with c, rows) → Reads c rows said
+    reads run = by_run
+    reads distinct = by_distinct
+    reads asserts = by_assert
+    reads facts = by_facts

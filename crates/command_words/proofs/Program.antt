@@ -1,5 +1,5 @@
 -- How `clap` reads the whole words.
-use Rattle.std.proofs.Common.{◌≡◌, ◌∙◌, ◌⊎◌, ◌||◌, Bool, cond, true, false, List, [], ◌∷◌, ◌++◌, codes, Some, None, is_some, refl, sym, ap, ap₂, subst, inl, inr}
+use Rattle.std.proofs.Common.{◌≡◌, ◌∙◌, ◌⊎◌, ◌||◌, Bool, cond, true, false, List, [], ◌∷◌, ◌++◌, codes, Option, Some, None, is_some, refl, sym, ap, ap₂, subst, inl, inr}
 use Rattle.std.specs.List.{fold}
 use Rattle.std.specs.Prelude.{option_map}
 use Rattle.std.specs.Str.{bytes_eq}
@@ -46,17 +46,36 @@ walk_of words = fold (walked whole.top.rules names) start words
 abbrev kinds_of : List Text → Kinds
 kinds_of words = walk_fault whole.top names start words
 
-run_walk : (rest : List Text) → walk_of (codes "run" ∷ rest) ≡ stopped_at (codes "run") rest
+-- the commands that know options
+pub data WithOptions : Type 0 where
+  run : WithOptions
+  distinct : WithOptions
+  asserts : WithOptions
+  facts : WithOptions
+
+abbrev pub name_with : WithOptions → Text
+name_with run = codes "run"
+name_with distinct = codes "distinct"
+name_with asserts = codes "assert"
+name_with facts = codes "facts"
+
+walk_with : (c : WithOptions) (rest : List Text) → walk_of (name_with c ∷ rest) ≡ stopped_at (name_with c) rest
 unfolding walked
-run_walk rest = sym (walk_stopped whole.top.rules names start (codes "run") [] rest)
+walk_with run rest = sym (walk_stopped whole.top.rules names start (codes "run") [] rest)
+walk_with distinct rest = sym (walk_stopped whole.top.rules names start (codes "distinct") [] rest)
+walk_with asserts rest = sym (walk_stopped whole.top.rules names start (codes "assert") [] rest)
+walk_with facts rest = sym (walk_stopped whole.top.rules names start (codes "facts") [] rest)
 
 check_walk : (rest : List Text) → walk_of (codes "check" ∷ rest) ≡ stopped_at (codes "check") rest
 unfolding walked
 check_walk rest = sym (walk_stopped whole.top.rules names start (codes "check") [] rest)
 
-run_kinds : (rest : List Text) → kinds_of (codes "run" ∷ rest) ≡ []
+kinds_with : (c : WithOptions) (rest : List Text) → kinds_of (name_with c ∷ rest) ≡ []
 unfolding walked walk_fault
-run_kinds rest = no_fault_behind whole.top names (codes "run") [] rest
+kinds_with run rest = no_fault_behind whole.top names (codes "run") [] rest
+kinds_with distinct rest = no_fault_behind whole.top names (codes "distinct") [] rest
+kinds_with asserts rest = no_fault_behind whole.top names (codes "assert") [] rest
+kinds_with facts rest = no_fault_behind whole.top names (codes "facts") [] rest
 
 check_kinds : (rest : List Text) → kinds_of (codes "check" ∷ rest) ≡ []
 unfolding walked walk_fault
@@ -66,9 +85,12 @@ check_kinds rest = no_fault_behind whole.top names (codes "check") [] rest
 abbrev below : Shape → List Text → Kinds
 below s rest = level_fault s [] nothing_held rest false []
 
-run_faults : (rest : List Text) → fault_of program (codes "run" ∷ rest) ≡ or_else (below (shape_of (codes "run")) rest) []
+faults_with : (c : WithOptions) (rest : List Text) → fault_of program (name_with c ∷ rest) ≡ or_else (below (shape_of (name_with c)) rest) []
 unfolding defaults_fault
-run_faults rest = ap₂ faults_by (run_walk rest) (run_kinds rest)
+faults_with run rest = ap₂ faults_by (walk_with run rest) (kinds_with run rest)
+faults_with distinct rest = ap₂ faults_by (walk_with distinct rest) (kinds_with distinct rest)
+faults_with asserts rest = ap₂ faults_by (walk_with asserts rest) (kinds_with asserts rest)
+faults_with facts rest = ap₂ faults_by (walk_with facts rest) (kinds_with facts rest)
 
 check_faults : (rest : List Text) → fault_of program (codes "check" ∷ rest) ≡ or_else (below check_shape rest) []
 unfolding defaults_fault
@@ -112,8 +134,11 @@ module _ (command : Text) where
       let parts = both_none walks (or_else settles after) e in
       none_of_both walks settles parts.0 (both_none settles after parts.1).0
 
-run_rows : (rest : List Text) → subcommand_of program (codes "run" ∷ rest) ≡ Some (codes "run", rows_of_options (settled_end (end_of start rest)))
-run_rows rest = ap (λ (w : Walk). entered whole w.stopped) (run_walk rest)
+rows_with : (c : WithOptions) (rest : List Text) → subcommand_of program (name_with c ∷ rest) ≡ Some (name_with c, rows_of_options (settled_end (end_of start rest)))
+rows_with run rest = ap (λ (w : Walk). entered whole w.stopped) (walk_with run rest)
+rows_with distinct rest = ap (λ (w : Walk). entered whole w.stopped) (walk_with distinct rest)
+rows_with asserts rest = ap (λ (w : Walk). entered whole w.stopped) (walk_with asserts rest)
+rows_with facts rest = ap (λ (w : Walk). entered whole w.stopped) (walk_with facts rest)
 
 -- ---- words that pass
 
@@ -140,32 +165,29 @@ pub record Passes (command : Text) (words : List Text) (uses : List Use) : Type 
   pub no_fault : fault_of program words ≡ []
   pub rows : subcommand_of program words ≡ Some (command, rows_of_options (used_all [] uses))
 
--- of a command whose faults and matches are those of the level below
-module _ (command : Text) (faults : (rest : List Text) → fault_of program (command ∷ rest) ≡ or_else (below (shape_of command) rest) [])
-    (rows : (rest : List Text) → subcommand_of program (command ∷ rest) ≡ Some (command, rows_of_options (settled_end (end_of start rest)))) where
-  accepted_uses : (rest : List Text) → has_dashes rest ≡ false → fault_of program (command ∷ rest) ≡ [] → HasUses command (command ∷ rest)
-  accepted_uses rest safe e =
-      let passes = passes_below command rest (both_none _ _ (sym (faults rest) ∙ e)).0 in
-      let r = read_words command rest [] None safe passes in
-      record {
-        uses = r.uses;
-        are = ap (λ ws. command ∷ ws) r.are;
-        pass = r.pass;
-        rows = rows rest ∙ ap (λ (xs : List Row). Some (command, rows_of_options xs)) r.ends;
-      }
+accepted_uses : (c : WithOptions) (rest : List Text) → has_dashes rest ≡ false → fault_of program (name_with c ∷ rest) ≡ [] → HasUses (name_with c) (name_with c ∷ rest)
+accepted_uses c rest safe e =
+    let passes = passes_below (name_with c) rest (both_none _ _ (sym (faults_with c rest) ∙ e)).0 in
+    let r = read_words (name_with c) rest [] None safe passes in
+    record {
+      uses = r.uses;
+      are = ap (λ ws. name_with c ∷ ws) r.are;
+      pass = r.pass;
+      rows = rows_with c rest ∙ ap (λ (xs : List Row). Some (name_with c, rows_of_options xs)) r.ends;
+    }
 
-  uses_pass : (uses : List Use) → AllPlain uses → Pass [] uses → Passes command (command ∷ all_written uses) uses
-  uses_pass uses plain pass =
-      let rest = all_written uses in
-      let w = write_uses command uses plain [] None refl pass in
-      record {
-        no_fault = faults rest ∙ none_of_both _ [] (below_passes command rest w.passes) refl;
-        rows = rows rest ∙ ap (λ (xs : List Row). Some (command, rows_of_options xs)) w.ends;
-      }
+pub uses_pass : (c : WithOptions) (uses : List Use) → AllPlain uses → Pass [] uses → Passes (name_with c) (name_with c ∷ all_written uses) uses
+uses_pass c uses plain pass =
+    let rest = all_written uses in
+    let w = write_uses (name_with c) uses plain [] None refl pass in
+    record {
+      no_fault = faults_with c rest ∙ none_of_both _ [] (below_passes (name_with c) rest w.passes) refl;
+      rows = rows_with c rest ∙ ap (λ (xs : List Row). Some (name_with c, rows_of_options xs)) w.ends;
+    }
 
--- the words are `check`, or `run` and uses of its options
+-- the words are `check`, or another command and uses of its options
 abbrev pub Accepted : List Text → Type 0
-Accepted words = (words ≡ codes "check" ∷ []) ⊎ HasUses (codes "run") words
+Accepted words = (words ≡ codes "check" ∷ []) ⊎ ((c : WithOptions) × HasUses (name_with c) words)
 
 accepted_check : (rest : List Text) → has_dashes rest ≡ false → fault_of program (codes "check" ∷ rest) ≡ [] → rest ≡ []
 unfolding walk_fault
@@ -184,26 +206,41 @@ no_words : fault_of program [] ≡ [] → ⊥
 unfolding clap_on_literals
 no_words e = absurd (cc)
 
+-- which command a word is, by its comparison with each name
+abbrev met_by : Bool → Bool → Bool → Bool → Bool → Option Text
+met_by r k d a f =
+    option_map (λ (s : Text × List Text). s.0) (cond (r || false) (Some (codes "run", [])) (cond (k || false) (Some (codes "check", [])) (cond (d || false) (Some (codes "distinct", []))
+    (cond (a || false) (Some (codes "assert", [])) (cond (f || false) (Some (codes "facts", [])) None)))))
+
+accepted_with : (c : WithOptions) (word : Text) (rest : List Text) → has_dashes (word ∷ rest) ≡ false → fault_of program (word ∷ rest) ≡ [] → bytes_eq (name_with c) word ≡ true → Accepted (word ∷ rest)
+accepted_with c word rest safe e is =
+    let same = (bytes_eq-Decides (name_with c) word).0 is in
+    inr (c, subst (λ (w : Text). HasUses (name_with c) (w ∷ rest)) same (accepted_uses c rest (others_safe word rest safe) (subst (λ (w : Text). fault_of program (w ∷ rest) ≡ []) (sym same) e)))
+
+accepted_word : (word : Text) (rest : List Text) → has_dashes (word ∷ rest) ≡ false → fault_of program (word ∷ rest) ≡ [] → bytes_eq (codes "check") word ≡ true → Accepted (word ∷ rest)
+accepted_word word rest safe e is =
+    let same = (bytes_eq-Decides (codes "check") word).0 is in
+    let none = accepted_check rest (others_safe word rest safe) (subst (λ (w : Text). fault_of program (w ∷ rest) ≡ []) (sym same) e) in
+    inl (ap₂ (λ (w : Text) (ws : List Text). w ∷ ws) (sym same) none)
+
 pub accepted : (words : List Text) → has_dashes words ≡ false → fault_of program words ≡ [] → Accepted words
 accepted [] safe e = absurd (no_words e)
-accepted (word ∷ rest) safe e = go (bytes_eq (codes "run") word) (bytes_eq (codes "check") word) refl refl
+accepted (word ∷ rest) safe e =
+    go (bytes_eq (codes "run") word) (bytes_eq (codes "check") word) (bytes_eq (codes "distinct") word) (bytes_eq (codes "assert") word) (bytes_eq (codes "facts") word) refl refl refl refl refl
   where
-    go : (x y : Bool) → bytes_eq (codes "run") word ≡ x → bytes_eq (codes "check") word ≡ y → Accepted (word ∷ rest)
-    go true y is is' =
-        let same = (bytes_eq-Decides (codes "run") word).0 is in
-        inr (subst (λ (w : Text). HasUses (codes "run") (w ∷ rest)) same (accepted_uses (codes "run") run_faults run_rows rest (others_safe word rest safe) (subst (λ (w : Text). fault_of program (w ∷ rest) ≡ []) (sym same) e)))
-    go false true is is' =
-        let same = (bytes_eq-Decides (codes "check") word).0 is' in
-        let none = accepted_check rest (others_safe word rest safe) (subst (λ (w : Text). fault_of program (w ∷ rest) ≡ []) (sym same) e) in
-        inl (ap₂ (λ (w : Text) (ws : List Text). w ∷ ws) (sym same) none)
-    go false false is is' =
-        let none : subcommand_met names idle word ≡ None = ap₂ (λ (x y : Bool). option_map (λ (s : Text × List Text). s.0) (cond (x || false) (Some (codes "run", [])) (cond (y || false) (Some (codes "check", [])) None))) is is' in
+    go : (r k d a f : Bool) → bytes_eq (codes "run") word ≡ r → bytes_eq (codes "check") word ≡ k → bytes_eq (codes "distinct") word ≡ d → bytes_eq (codes "assert") word ≡ a → bytes_eq (codes "facts") word ≡ f → Accepted (word ∷ rest)
+    go true k d a f is-r is-k is-d is-a is-f = accepted_with run word rest safe e is-r
+    go false true d a f is-r is-k is-d is-a is-f = accepted_word word rest safe e is-k
+    go false false true a f is-r is-k is-d is-a is-f = accepted_with distinct word rest safe e is-d
+    go false false false true f is-r is-k is-d is-a is-f = accepted_with asserts word rest safe e is-a
+    go false false false false true is-r is-k is-d is-a is-f = accepted_with facts word rest safe e is-f
+    go false false false false false is-r is-k is-d is-a is-f =
+        let none : subcommand_met names idle word ≡ None =
+        ap₂ (λ (x y : Bool). met_by x y (bytes_eq (codes "distinct") word) (bytes_eq (codes "assert") word) (bytes_eq (codes "facts") word)) is-r is-k
+        ∙ ap₂ (λ (x y : Bool). met_by false false x y (bytes_eq (codes "facts") word)) is-d is-a ∙ ap (met_by false false false false) is-f in
         absurd (other_word word rest (first_safe word rest safe) none e)
 
 -- ---- and only they do
-
-pub run_passes : (uses : List Use) → AllPlain uses → Pass [] uses → Passes (codes "run") (codes "run" ∷ all_written uses) uses
-run_passes = uses_pass (codes "run") run_faults run_rows
 
 pub check_passes : fault_of program (codes "check" ∷ []) ≡ []
 unfolding clap_on_literals

@@ -1,5 +1,5 @@
 -- What `clap` is told of the words, and what is read of its matches.
-use Rattle.std.specs.Prelude.{◌≡◌, ◌⊎◌, ℕ, List, Option, Some, None, codes, pos, true, MatchOption}
+use Rattle.std.specs.Prelude.{◌≡◌, ◌≢◌, ◌⊎◌, ℕ, List, Option, Some, None, codes, pos, true, MatchOption}
 use Rattle.clap.specs.Walk.{Row, Rule, Text, first_of, one_of}
 use Rattle.clap.specs.Simple.{App, Shape, new_app, new_rule, new_shape, with_rule, with_subcommand}
 use Rattle.clap.specs.declared.builder.value_parser.ValueParser.{ValueParser}
@@ -7,7 +7,6 @@ use Rattle.clap.specs.declared.builder.value_parser.ValueParser.TheVariants.{Sig
 use Rattle.command_words.specs.Words.{IsNumber, number_after}
 use Rattle.command_words.specs.declared.reading.Command.{Command}
 use Rattle.command_words.specs.declared.reading.Options.{Options}
-use Rattle.command_words.specs.declared.reading.Command.TheVariants.{Run}
 
 -- an option by its long name, with a number
 abbrev pub number_option : Text → ValueParser → Rule
@@ -19,7 +18,7 @@ workers = number_option (codes "workers") (Signed (pos 1) (pos 16))
 abbrev pub budget : Rule
 budget = number_option (codes "budget") (Signed (pos 0) (pos 100000))
 
--- a command with both options
+-- a command that knows both options
 abbrev pub command_with_options : Text → App
 command_with_options name = with_rule (with_rule (new_app name) workers) budget
 
@@ -30,8 +29,15 @@ check_command = new_app (codes "check")
 abbrev pub top_shape : Shape
 top_shape = record (new_shape (codes "explore")) { no_binary_name = true; disable_help_flag = true; disable_help_subcommand = true; subcommand_required = true }
 
+abbrev pub without_commands : App
+without_commands = record (new_app (codes "explore")) { top = top_shape }
+
+-- a program with a command more, which knows both options
+abbrev pub with_command : Text → App → App
+with_command name a = with_subcommand a (command_with_options name).top
+
 abbrev pub program : App
-program = with_subcommand (with_subcommand (record (new_app (codes "explore")) { top = top_shape }) (command_with_options (codes "run")).top) check_command.top
+program = with_command (codes "facts") (with_command (codes "assert") (with_command (codes "distinct") (with_subcommand (with_command (codes "run") without_commands) check_command.top)))
 
 -- what is read of an option: its default, or the number that its text is
 abbrev pub ReadsNumber : ℕ → Text → List Row → Option ℕ → Type 0
@@ -45,6 +51,16 @@ ReadsOptions rows read = MatchOption read
     (ReadsNumber 4 (codes "workers") rows None ⊎ ReadsNumber 20000 (codes "budget") rows None)
     (λ o. ReadsNumber 4 (codes "workers") rows (Some o.workers) × ReadsNumber 20000 (codes "budget") rows (Some o.budget))
 
--- the command with these options, where they are read
-abbrev pub ReadsRun : List Row → Option Command → Type 0
-ReadsRun rows said = MatchOption said (ReadsOptions rows None) (λ c. (o : Options) × ReadsOptions rows (Some o) × (c ≡ Run o.workers o.budget))
+-- the number of workers isn't given, and the budget is read; or one of them isn't so
+abbrev pub ReadsBudget : List Row → Option ℕ → Type 0
+ReadsBudget rows read = MatchOption read
+    ((first_of (codes "workers") rows ≢ None) ⊎ ReadsNumber 20000 (codes "budget") rows None)
+    (λ n. (first_of (codes "workers") rows ≡ None) × ReadsNumber 20000 (codes "budget") rows (Some n))
+
+-- the command with both options, where they are read
+abbrev pub ReadsWithOptions : (ℕ → ℕ → Command) → List Row → Option Command → Type 0
+ReadsWithOptions make rows said = MatchOption said (ReadsOptions rows None) (λ c. (o : Options) × ReadsOptions rows (Some o) × (c ≡ make o.workers o.budget))
+
+-- the command with the budget alone, where it is read
+abbrev pub ReadsWithBudget : (ℕ → Command) → List Row → Option Command → Type 0
+ReadsWithBudget make rows said = MatchOption said (ReadsBudget rows None) (λ c. (budget : ℕ) × ReadsBudget rows (Some budget) × (c ≡ make budget))

@@ -1,7 +1,7 @@
 -- Which words tell the program what to do.
 use Rattle.std.specs.Prelude.{◌≡◌, ◌≤◌, ◌+◌, ◌*◌, ◌-◌, ◌⊎◌, ◌++◌, ◌∷◌, [], ℕ, List, All, codes, length}
 use Rattle.command_words.specs.declared.reading.Command.{Command}
-use Rattle.command_words.specs.declared.reading.Command.TheVariants.{Run, Check}
+use Rattle.command_words.specs.declared.reading.Command.TheVariants.{Run, Check, Distinct, Assert, Facts}
 
 abbrev pub IsDigit : ℕ → Type 0
 IsDigit b = (48 ≤ b) × (b ≤ 57)
@@ -49,10 +49,21 @@ AreOptions words workers budget =
     ⊎ AreBoth (λ front. IsWorkers front workers) (λ back. IsBudget back budget) words
     ⊎ AreBoth (λ front. IsBudget front budget) (λ back. IsWorkers back workers) words
 
--- the words say this command: `run` with its options, or `check` alone
+-- no option, or that of the budget
+abbrev pub IsBudgetAlone : List (List ℕ) → ℕ → Type 0
+IsBudgetAlone words budget = ((words ≡ []) × (budget ≡ 20000)) ⊎ IsBudget words budget
+
+-- the name of a command, and what stands behind it
+abbrev pub IsBehind : List ℕ → List (List ℕ) → (List (List ℕ) → Type 0) → Type 0
+IsBehind name words Are = (options : List (List ℕ)) × (words ≡ name ∷ options) × Are options
+
+-- the words say this command: its name with its options, or `check` alone
 abbrev pub Says : List (List ℕ) → Command → Type 0
-Says words (Run workers budget) = (options : List (List ℕ)) × (words ≡ codes "run" ∷ options) × AreOptions options workers budget
+Says words (Run workers budget) = IsBehind (codes "run") words (λ options. AreOptions options workers budget)
 Says words Check = words ≡ codes "check" ∷ []
+Says words (Distinct workers budget) = IsBehind (codes "distinct") words (λ options. AreOptions options workers budget)
+Says words (Assert budget) = IsBehind (codes "assert") words (λ options. IsBudgetAlone options budget)
+Says words (Facts budget) = IsBehind (codes "facts") words (λ options. IsBudgetAlone options budget)
 
 -- no command is said
 abbrev pub SaysNone : List (List ℕ) → Type 0

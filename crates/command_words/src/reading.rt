@@ -1,12 +1,13 @@
 // Reading the words.
 ghost use Rattle.std.specs.Prelude.{◌≡◌, ◌↔◌, IfOk, IfSome, IfNone, IsTrue, List, ℕ, Some, codes, false};
 ghost use Rattle.clap.specs.Words.{Row, app_of, found_of, rows_of, rule_of, subcommand_rows_of};
+ghost use Rattle.clap.specs.Simple.{new_app, with_subcommand};
 ghost use Rattle.clap.specs.declared.builder.command.Command.TheViews.{out-Command as fields_of};
 ghost use Rattle.command_words.specs.Words.{IsNumber, Says, SaysNone};
-ghost use Rattle.command_words.specs.Program.{command_with_options, number_option, program, ReadsNumber, ReadsOptions, ReadsRun};
+ghost use Rattle.command_words.specs.Program.{command_with_options, number_option, program, without_commands, ReadsBudget, ReadsNumber, ReadsOptions, ReadsWithBudget, ReadsWithOptions};
 ghost use Rattle.command_words.specs.Read.{texts, has_escape};
 ghost use Rattle.command_words.specs.declared.reading.Command.{Command as Said};
-ghost use Rattle.command_words.specs.declared.reading.Command.TheVariants.{Check};
+ghost use Rattle.command_words.specs.declared.reading.Command.TheVariants.{Assert, Check, Distinct, Facts, Run};
 
 use clap::builder::ValueParser;
 use clap::error::ErrorKind;
@@ -20,6 +21,12 @@ pub enum Command {
     Run { workers: u32, budget: u32 },
     /// Check a proof text.
     Check,
+    /// Run a script as `Run` does, where lists are told by classes of scenarios that are renamings of one another.
+    Distinct { workers: u32, budget: u32 },
+    /// Decide the assertions of a script's models, each with a budget of at most 100,000 units.
+    Assert { budget: u32 },
+    /// Find facts that can't all hold, in a script's models, with a budget of at most 100,000 units a search.
+    Facts { budget: u32 },
 }
 
 /// What the options of a command say; where one isn't given, its default.
@@ -43,7 +50,7 @@ fn number_option<'a>(alloc: Global, name: &'a str, numbers: ValueParser<'a>) -> 
     Arg::new(alloc, name).long(name).value_parser(numbers)
 }
 
-// A command of this name with both options.
+// A command of this name that knows both options.
 fn command_with_options<'a>(alloc: Global, name: &'a str) -> Result<clap::Command<'a>, AllocError>
     ensures { IfOk result (λ c. (app_of c ≡ command_with_options name.entry.now) × ((fields_of c).has_globals ≡ false)) }
 {
@@ -55,17 +62,51 @@ fn command_with_options<'a>(alloc: Global, name: &'a str) -> Result<clap::Comman
     Ok(command)
 }
 
-// The program and its commands. Every word is its own, and none asks for help.
-fn program<'a>(alloc: Global) -> Result<clap::Command<'a>, AllocError>
-    ensures { IfOk result (λ c. app_of c ≡ program) }
+// The program without its commands. Every word is its own, and none asks for help.
+fn without_commands<'a>(alloc: Global) -> clap::Command<'a>
+    ensures { app_of result ≡ without_commands }
 {
-    let program = clap::Command::new(alloc, "explore")
+    clap::Command::new(alloc, "explore")
         .no_binary_name(true)
         .disable_help_flag(true)
         .disable_help_subcommand(true)
         .subcommand_required(true)
-        .subcommand(command_with_options(alloc, "run")?)?
-        .subcommand(clap::Command::new(alloc, "check"))?;
+}
+
+// The program with a command more, which knows no option.
+fn with_plain_command<'a>(
+    alloc: Global,
+    program: clap::Command<'a>,
+    name: &'a str,
+) -> Result<clap::Command<'a>, AllocError>
+    ensures { IfOk result (λ c. app_of c ≡ with_subcommand (app_of program.entry) (new_app name.entry.now).top) }
+{
+    let command = clap::Command::new(alloc, name);
+    program.subcommand(command)
+}
+
+// The program with a command more, which knows both options.
+fn with_command<'a>(
+    alloc: Global,
+    program: clap::Command<'a>,
+    name: &'a str,
+) -> Result<clap::Command<'a>, AllocError>
+    ensures { IfOk result (λ c. app_of c ≡ with_subcommand (app_of program.entry) (command_with_options name.entry.now).top) }
+{
+    let command = command_with_options(alloc, name)?;
+    program.subcommand(command)
+}
+
+// The program and its commands.
+fn program<'a>(alloc: Global) -> Result<clap::Command<'a>, AllocError>
+    ensures { IfOk result (λ c. app_of c ≡ program) }
+{
+    let program = without_commands(alloc);
+    let program = with_command(alloc, program, "run")?;
+    let program = with_plain_command(alloc, program, "check")?;
+    let program = with_command(alloc, program, "distinct")?;
+    let program = with_command(alloc, program, "assert")?;
+    let program = with_command(alloc, program, "facts")?;
     Ok(program)
 }
 
@@ -100,22 +141,69 @@ fn options_in(matches: &ArgMatches<'_>) -> Option<Options>
     Some(Options { workers, budget })
 }
 
+// The budget of a command that has no workers.
+fn budget_in(matches: &ArgMatches<'_>) -> Option<u32>
+    ensures { ReadsBudget (rows_of (found_of matches.now)) result }
+{
+    match matches.get_str("workers") {
+        Some(_) => None,
+        None => {
+            let budget = number_in(matches, "budget", DEFAULT_BUDGET)?;
+            Some(budget)
+        }
+    }
+}
+
 // The command `run` with its options.
 fn run_with(matches: &ArgMatches<'_>) -> Option<Command>
-    ensures { ReadsRun (rows_of (found_of matches.now)) result }
+    ensures { ReadsWithOptions Run (rows_of (found_of matches.now)) result }
 {
     let Options { workers, budget } = options_in(matches)?;
     Some(Command::Run { workers, budget })
 }
 
+// The command `distinct` with its options.
+fn distinct_with(matches: &ArgMatches<'_>) -> Option<Command>
+    ensures { ReadsWithOptions Distinct (rows_of (found_of matches.now)) result }
+{
+    let Options { workers, budget } = options_in(matches)?;
+    Some(Command::Distinct { workers, budget })
+}
+
+// The command `assert` with its budget.
+fn assert_with(matches: &ArgMatches<'_>) -> Option<Command>
+    ensures { ReadsWithBudget Assert (rows_of (found_of matches.now)) result }
+{
+    let budget = budget_in(matches)?;
+    Some(Command::Assert { budget })
+}
+
+// The command `facts` with its budget.
+fn facts_with(matches: &ArgMatches<'_>) -> Option<Command>
+    ensures { ReadsWithBudget Facts (rows_of (found_of matches.now)) result }
+{
+    let budget = budget_in(matches)?;
+    Some(Command::Facts { budget })
+}
+
 // The command that was matched.
 fn said_by(matches: &ArgMatches<'_>) -> Option<Command>
-    ensures run { (rows : List Row) → subcommand_rows_of matches.now ≡ Some (codes "run", rows) → ReadsRun rows result }
+    ensures run { (rows : List Row) → subcommand_rows_of matches.now ≡ Some (codes "run", rows) → ReadsWithOptions Run rows result }
+    ensures distinct { (rows : List Row) → subcommand_rows_of matches.now ≡ Some (codes "distinct", rows) → ReadsWithOptions Distinct rows result }
+    ensures asserts { (rows : List Row) → subcommand_rows_of matches.now ≡ Some (codes "assert", rows) → ReadsWithBudget Assert rows result }
+    ensures facts { (rows : List Row) → subcommand_rows_of matches.now ≡ Some (codes "facts", rows) → ReadsWithBudget Facts rows result }
     ensures check { (rows : List Row) → subcommand_rows_of matches.now ≡ Some (codes "check", rows) → result ≡ Some Check }
 {
-    match matches.subcommand_matches("run") {
-        Some(options) => run_with(options),
-        None => Some(Command::Check),
+    if let Some(options) = matches.subcommand_matches("run") {
+        run_with(options)
+    } else if let Some(options) = matches.subcommand_matches("distinct") {
+        distinct_with(options)
+    } else if let Some(options) = matches.subcommand_matches("assert") {
+        assert_with(options)
+    } else if let Some(options) = matches.subcommand_matches("facts") {
+        facts_with(options)
+    } else {
+        Some(Command::Check)
     }
 }
 
@@ -126,9 +214,9 @@ fn has_escape(words: &[String]) -> bool
     words.iter().any(|word| word.as_str() == "--")
 }
 
-/// What the words say: `run` with its options `--workers N` and `--budget N` in any order, each at most once, or `check`
-/// alone. A number is one to nine digits, and may stand behind `=` in its option's word. None where the words aren't so,
-/// and an error where memory is wanting.
+/// What the words say: `run` or `distinct` with the options `--workers N` and `--budget N` in any order, each at most once,
+/// `assert` or `facts` with `--budget N` at most, or `check` alone. A number is one to nine digits, and may stand behind `=`
+/// in its option's word. None where the words aren't so, and an error where memory is wanting.
 pub fn command_of(alloc: Global, words: &[String]) -> Result<Option<Command>, AllocError>
     ensures none { IfOk result (λ said. IfNone said (SaysNone (texts words.now))) }
     ensures some { IfOk result (λ said. IfSome said (Says (texts words.now))) }

@@ -2,8 +2,8 @@
 use Rattle.std.proofs.Common.{◌≡◌, ◌≤◌, ◌⊎◌, inl, inr, ℕ, List, Option, Some, None, subst, arith}
 use Rattle.std.specs.Prelude.{IfSome, IfNone}
 use Rattle.command_words.specs.declared.reading.Command.{Command}
-use Rattle.command_words.specs.declared.reading.Command.TheVariants.{Run, Check}
-use Rattle.command_words.specs.Words.{Says, SaysNone, AreOptions}
+use Rattle.command_words.specs.declared.reading.Command.TheVariants.{Run, Distinct, Check, Assert, Facts}
+use Rattle.command_words.specs.Words.{Says, SaysNone, AreOptions, IsBudgetAlone}
 use Rattle.explorer_cli.specs.Outcome.{HasBudgetInRange, HasFailed, IsStatusOf, IsStatus}
 
 -- the budget of the words is at most 100,000
@@ -14,9 +14,16 @@ few_of_options words workers budget (inr (inr (inl one))) = one.0.most
 few_of_options words workers budget (inr (inr (inr (inl both)))) = both.second.most
 few_of_options words workers budget (inr (inr (inr (inr both)))) = both.first.most
 
+few_alone : (words : List (List ℕ)) (budget : ℕ) → IsBudgetAlone words budget → budget ≤ 100000
+few_alone words budget (inl none) = let e = none.1 in omega arith
+few_alone words budget (inr one) = one.most
+
 pub budget_in_range : (words : List (List ℕ)) (command : Command) → Says words command → HasBudgetInRange command
 budget_in_range words (Run workers budget) says = few_of_options says.0 workers budget says.2
+budget_in_range words (Distinct workers budget) says = few_of_options says.0 workers budget says.2
 budget_in_range words Check says = tt
+budget_in_range words (Assert budget) says = few_alone says.0 budget says.2
+budget_in_range words (Facts budget) says = few_alone says.0 budget says.2
 
 -- what is answered of the words, where the answer is known
 pub some_said : (words : List (List ℕ)) (said : Option Command) (command : Command) → said ≡ Some command → IfSome said (Says words) → Says words command
@@ -28,13 +35,22 @@ none_said words said e h = subst (λ (s : Option Command). IfNone s (SaysNone wo
 -- a command's statuses are such that the program may end with, and none of them is that of refused words
 pub is_status : (command : Command) (n : ℕ) → HasFailed n ⊎ IsStatusOf command n → IsStatus n
 is_status (Run workers budget) n is = grind arith
+is_status (Distinct workers budget) n is = grind arith
 is_status Check n is = grind arith
+is_status (Assert budget) n is = grind arith
+is_status (Facts budget) n is = grind arith
 
 pub never_two : (command : Command) (n : ℕ) → HasFailed n ⊎ IsStatusOf command n → n ≡ 2 → ⊥
 never_two (Run workers budget) n is two = grind arith
+never_two (Distinct workers budget) n is two = grind arith
 never_two Check n is two = grind arith
+never_two (Assert budget) n is two = grind arith
+never_two (Facts budget) n is two = grind arith
 
 -- the statuses of answers are low ones
 pub low_status : (command : Command) (n : ℕ) → IsStatusOf command n → n ≤ 4
 low_status (Run workers budget) n is = grind arith
+low_status (Distinct workers budget) n is = grind arith
 low_status Check n is = grind arith
+low_status (Assert budget) n is = grind arith
+low_status (Facts budget) n is = grind arith

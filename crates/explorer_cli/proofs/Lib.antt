@@ -1,4 +1,6 @@
+pub mod AnswersBy
 pub mod BackedReplies
+pub mod ClassedReplies
 pub mod Commands
 pub mod FloorsBehind
 pub mod Fronts
@@ -6,6 +8,7 @@ pub mod OneOutput
 pub mod Problems
 pub mod ProperReplies
 pub mod Replied
+pub mod ReportAnswers
 pub mod ServedOutputs
 pub mod ShowingReplies
 pub mod Statuses

@@ -13,47 +13,48 @@ use Rattle.script_format.specs.declared.entries.ModelEntry.{ModelEntry}
 use Rattle.script_format.specs.declared.entries.SessionEntry.{SessionEntry}
 use Rattle.script_format.specs.Limits.{asked_by, asked_in}
 use Rattle.translation_rules.specs.Translation.{Translated}
+use Rattle.served_models.specs.declared.purposes.Purpose.{Purpose}
 use Rattle.served_models.specs.declared.commands.ServedCommand.{ServedCommand}
 use Rattle.served_models.specs.Served.{IsAsked, IsProblemOf, AreUsable, HasMade, AreMade, AreAllMade, AreUsed}
 use Rattle.explorer_cli.specs.Runs.{IsProblemAt, IsServedAt, IsServed}
 
 -- ---- the models in order, and what is made for them
 
-usable_length : (sessions : List SessionEntry) (place : ℕ) (entries : List ModelEntry) (ms : List NamedTree) → AreUsable sessions place entries ms → length ms ≡ length entries
-usable_length sessions place [] [] are = refl
-usable_length sessions place [] (x ∷ xs) are = absurd are
-usable_length sessions place (e ∷ es) [] are = absurd are
-usable_length sessions place (e ∷ es) (x ∷ xs) are = let l = usable_length sessions (place + 1) es xs are.1 in omega arith
+usable_length : (purpose : Purpose) (sessions : List SessionEntry) (place : ℕ) (entries : List ModelEntry) (ms : List NamedTree) → AreUsable purpose sessions place entries ms → length ms ≡ length entries
+usable_length purpose sessions place [] [] are = refl
+usable_length purpose sessions place [] (x ∷ xs) are = absurd are
+usable_length purpose sessions place (e ∷ es) [] are = absurd are
+usable_length purpose sessions place (e ∷ es) (x ∷ xs) are = let l = usable_length purpose sessions (place + 1) es xs are.1 in omega arith
 
 same_made : (x y : Vec ServedCommand) → Some x ≡ Some y → x ≡ y
 same_made x y e = cc
 
 -- what is made for a place is made for the model there
-made_at : (sessions : List SessionEntry) (place : ℕ) (ms : List NamedTree) (xs : List (Vec ServedCommand)) (k : ℕ) (made : Vec ServedCommand) → AreAllMade sessions place ms xs
-    → slice_get xs k ≡ Some made → (m : NamedTree) × (slice_get ms k ≡ Some m) × AreMade sessions (place + k) m made.items
-made_at sessions place [] [] k made are e = absurd (cc)
-made_at sessions place [] (x ∷ xs) k made are e = absurd are
-made_at sessions place (m ∷ ms) [] k made are e = absurd are
-made_at sessions place (m ∷ ms) (x ∷ xs) zero made are e =
+made_at : (purpose : Purpose) (sessions : List SessionEntry) (place : ℕ) (ms : List NamedTree) (xs : List (Vec ServedCommand)) (k : ℕ) (made : Vec ServedCommand) → AreAllMade purpose sessions place ms xs
+    → slice_get xs k ≡ Some made → (m : NamedTree) × (slice_get ms k ≡ Some m) × AreMade purpose sessions (place + k) m made.items
+made_at purpose sessions place [] [] k made are e = absurd (cc)
+made_at purpose sessions place [] (x ∷ xs) k made are e = absurd are
+made_at purpose sessions place (m ∷ ms) [] k made are e = absurd are
+made_at purpose sessions place (m ∷ ms) (x ∷ xs) zero made are e =
     let same : place ≡ place + 0 = omega arith in
-    (m, refl, subst (λ (n : ℕ). AreMade sessions n m made.items) same (subst (λ (v : Vec ServedCommand). AreMade sessions place m v.items) (same_made x made e) are.0))
-made_at sessions place (m ∷ ms) (x ∷ xs) (suc k) made are e =
-    let h = made_at sessions (place + 1) ms xs k made are.1 e in
+    (m, refl, subst (λ (n : ℕ). AreMade purpose sessions n m made.items) same (subst (λ (v : Vec ServedCommand). AreMade purpose sessions place m v.items) (same_made x made e) are.0))
+made_at purpose sessions place (m ∷ ms) (x ∷ xs) (suc k) made are e =
+    let h = made_at purpose sessions (place + 1) ms xs k made are.1 e in
     let same : (place + 1) + k ≡ place + suc k = omega arith in
-    (h.0, h.1, subst (λ (n : ℕ). AreMade sessions n h.0 made.items) same h.2)
+    (h.0, h.1, subst (λ (n : ℕ). AreMade purpose sessions n h.0 made.items) same h.2)
 
 -- something is made for each place
-made_there : (sessions : List SessionEntry) (place : ℕ) (ms : List NamedTree) (xs : List (Vec ServedCommand)) (k : ℕ) → AreAllMade sessions place ms xs → k < length ms
+made_there : (purpose : Purpose) (sessions : List SessionEntry) (place : ℕ) (ms : List NamedTree) (xs : List (Vec ServedCommand)) (k : ℕ) → AreAllMade purpose sessions place ms xs → k < length ms
     → (made : Vec ServedCommand) × (slice_get xs k ≡ Some made)
-made_there sessions place [] xs k are l = absurd (omega arith)
-made_there sessions place (m ∷ ms) [] k are l = absurd are
-made_there sessions place (m ∷ ms) (x ∷ xs) zero are l = (x, refl)
-made_there sessions place (m ∷ ms) (x ∷ xs) (suc k) are l = made_there sessions (place + 1) ms xs k are.1 (omega arith)
+made_there purpose sessions place [] xs k are l = absurd (omega arith)
+made_there purpose sessions place (m ∷ ms) [] k are l = absurd are
+made_there purpose sessions place (m ∷ ms) (x ∷ xs) zero are l = (x, refl)
+made_there purpose sessions place (m ∷ ms) (x ∷ xs) (suc k) are l = made_there purpose sessions (place + 1) ms xs k are.1 (omega arith)
 
 -- what is served to a session is the translation of its command's problem
-pub problem_at : (sessions : List SessionEntry) (ms : List NamedTree) (xs : List (Vec ServedCommand)) (x : SessionEntry) (t : Translated) → AreAllMade sessions 0 ms xs → IsServedAt xs x t → IsProblemAt ms x t.problem
-problem_at sessions ms xs x t are (made, at, (c, in', number, translation)) =
-    let h = made_at sessions 0 ms xs x.model made are at in
+pub problem_at : (purpose : Purpose) (sessions : List SessionEntry) (ms : List NamedTree) (xs : List (Vec ServedCommand)) (x : SessionEntry) (t : Translated) → AreAllMade purpose sessions 0 ms xs → IsServedAt xs x t → IsProblemAt ms x t.problem
+problem_at purpose sessions ms xs x t are (made, at, (c, in', number, translation)) =
+    let h = made_at purpose sessions 0 ms xs x.model made are at in
     let is : IsProblemOf h.0 c.number c.translation.problem = All-contains (λ (d : ServedCommand). IsProblemOf h.0 d.number d.translation.problem) made.items c h.2.each in' in
     (h.0, h.1, subst (λ (u : Translated). IsProblemOf h.0 x.number u.problem) (sym translation) (subst (λ (n : ℕ). IsProblemOf h.0 n c.translation.problem) number is))
 
@@ -61,13 +62,13 @@ served_to : (xs : List (Vec ServedCommand)) (x : SessionEntry) (made : Vec Serve
 served_to xs x made at (c, in', number) = (c.translation, (made, at, (c, in', number, refl)))
 
 -- each session has one
-pub all_served : (sessions : List SessionEntry) (entries : List ModelEntry) (xs : List (Vec ServedCommand)) → AreUsed sessions entries xs → All (λ x. x.model < length entries) sessions → All (IsServed xs) sessions
-all_served sessions entries xs (ms, usable, are) named k d l =
+pub all_served : (purpose : Purpose) (sessions : List SessionEntry) (entries : List ModelEntry) (xs : List (Vec ServedCommand)) → AreUsed purpose sessions entries xs → All (λ x. x.model < length entries) sessions → All (IsServed xs) sessions
+all_served purpose sessions entries xs (ms, usable, are) named k d l =
     let x = get_or sessions k d in
     let in' = named k d l in
-    let long = usable_length sessions 0 entries ms usable in
-    let made = made_there sessions 0 ms xs x.model are (omega arith) in
-    let h = made_at sessions 0 ms xs x.model made.0 are made.1 in
+    let long = usable_length purpose sessions 0 entries ms usable in
+    let made = made_there purpose sessions 0 ms xs x.model are (omega arith) in
+    let h = made_at purpose sessions 0 ms xs x.model made.0 are made.1 in
     let same : x.model ≡ 0 + x.model = omega arith in
     let asked : IsAsked sessions (0 + x.model) x.number = (x, Contains-get_or sessions k d l, same, refl) in
     served_to xs x made.0 made.1 (h.2.all x.number asked)
@@ -103,10 +104,10 @@ found_first (x ∷ xs) c number rising in' is = elim (cons_cases x xs c in') [
 ]
 
 -- what is served to a session is the one translation of its command
-pub translation_there : (sessions : List SessionEntry) (ms : List NamedTree) (xs : List (Vec ServedCommand)) (x : SessionEntry) (t : Translated) → AreAllMade sessions 0 ms xs → IsServedAt xs x t
+pub translation_there : (purpose : Purpose) (sessions : List SessionEntry) (ms : List NamedTree) (xs : List (Vec ServedCommand)) (x : SessionEntry) (t : Translated) → AreAllMade purpose sessions 0 ms xs → IsServedAt xs x t
     → translation_of xs x.model x.number ≡ Some t
-translation_there sessions ms xs x t are (made, at, (c, in', number, translation)) =
-    let h = made_at sessions 0 ms xs x.model made are at in
+translation_there purpose sessions ms xs x t are (made, at, (c, in', number, translation)) =
+    let h = made_at purpose sessions 0 ms xs x.model made are at in
     ap (translation_at x.number) at ∙ ap translation_in (found_first made.items c x.number h.2.rising in' number) ∙ ap (λ (u : Translated). Some u) (sym translation)
 
 -- ---- a command that is looked up by its number

@@ -1,3 +1,4 @@
 pub mod Outcome
 pub mod Runs
+pub mod Classes
 pub mod Shown

@@ -1,15 +1,23 @@
 -- What the program answers: its words, its texts and its statuses.
 use Rattle.std.specs.Prelude.{◌≡◌, ◌≤◌, ◌⊎◌, ℕ, List, codes}
 use Rattle.command_words.specs.declared.reading.Command.{Command}
-use Rattle.command_words.specs.declared.reading.Command.TheVariants.{Run, Check}
+use Rattle.alloy_syntax.specs.declared.tree.CommandKind.TheVariants as kind
+use Rattle.command_words.specs.declared.reading.Command.TheVariants.{Run, Distinct, Check, Assert, Facts}
 use Rattle.proof_command.specs.Answer as check
 use Rattle.script_format.specs.declared.entries.Script.{Script}
+use Rattle.script_format.specs.declared.entries.SessionEntry.{SessionEntry}
 use Rattle.script_format.specs.declared.fault.ScriptFault.{ScriptFault}
 use Rattle.script_format.specs.Script.{IsScript, HasFault}
 use Rattle.script_text.specs.Faults.{script_line, fault_words}
 use Rattle.named_model.specs.Model.{NamedTree}
+use Rattle.served_models.specs.declared.purposes.Purpose.{Purpose}
+use Rattle.served_models.specs.declared.purposes.Purpose.TheVariants.{Lists, Classes}
 use Rattle.served_models.specs.Served.{AreUsable, IsFirstRefused, model_line}
+use Rattle.decision_reports.specs.Taken.{IsFirstRefusedFor}
+use Rattle.decision_reports.specs.Reports.{AreAssertionsOf}
+use Rattle.decision_reports.specs.FactReports.{AreFactSetsOf}
 use Rattle.explorer_cli.specs.Runs.{AreRunsOf}
+use Rattle.explorer_cli.specs.Classes.{AreClassedRunsOf}
 
 -- the line that names refused words
 abbrev pub words_line : List ℕ
@@ -17,24 +25,45 @@ words_line = codes "fault words\n"
 
 -- ---- what a command answers
 
--- the text that a command writes for a script: of `run` that of runs of its sessions on its models, which can all be used, in
--- order, from the budget of the words; `check` reads no script
+-- runs of the sessions on these models, in order: their lists are told whole, or by classes at the bottom
+abbrev pub AreToldRuns : Purpose → ℕ → List SessionEntry → List NamedTree → List ℕ → Type 0
+AreToldRuns Lists budget sessions models text = AreRunsOf budget sessions models text
+AreToldRuns Classes budget sessions models text = AreClassedRunsOf budget sessions models text
+
+-- runs of the script's sessions on its models, which can all be used for this, from this budget
+abbrev pub WritesRuns : Purpose → ℕ → Script → List ℕ → Type 0
+WritesRuns purpose budget s text = (models : List NamedTree) × AreUsable purpose s.sessions 0 s.models models × AreToldRuns purpose budget s.sessions models text
+
+-- the text that a command writes for a script: of `run` and `distinct` that of such runs, from the budget of the words; of `assert`
+-- the decisions on each `check` command of its models, each with that budget; of `facts` what is known of the facts under each
+-- `run` command, where each search has that budget; `check` reads no script
 abbrev pub Writes : Command → Script → List ℕ → Type 0
-Writes (Run workers budget) s text = (models : List NamedTree) × AreUsable s.sessions 0 s.models models × AreRunsOf budget s.sessions models text
+Writes (Run workers budget) s text = WritesRuns Lists budget s text
+Writes (Distinct workers budget) s text = WritesRuns Classes budget s text
 Writes Check s text = ⊥
+Writes (Assert budget) s text = AreAssertionsOf budget s.models text
+Writes (Facts budget) s text = AreFactSetsOf budget s.models text
+
+-- the first model of a script that a command can't use has this name, and these words tell why: `run` and `distinct` use the
+-- commands on which sessions are, `assert` each `check` command, and `facts` each `run` command
+abbrev pub IsFirstUnusable : Command → Script → List ℕ → List ℕ → Type 0
+IsFirstUnusable (Run workers budget) s name words = IsFirstRefused Lists s.sessions s.models name words
+IsFirstUnusable (Distinct workers budget) s name words = IsFirstRefused Classes s.sessions s.models name words
+IsFirstUnusable Check s name words = ⊥
+IsFirstUnusable (Assert budget) s name words = IsFirstRefusedFor kind.Check s.models name words
+IsFirstUnusable (Facts budget) s name words = IsFirstRefusedFor kind.Run s.models name words
 
 -- the bytes are no script, and under 3 the text is the line that tells their fault
 abbrev pub IsFaultAnswer : List ℕ → ℕ → List ℕ → Type 0
 IsFaultAnswer bytes status text = (f : ScriptFault) × HasFault bytes f × (status ≡ 3) × (text ≡ script_line (fault_words f))
 
--- a model can't be used, and under 4 the text is the line that refuses the first of these
-abbrev pub IsModelAnswer : Script → ℕ → List ℕ → Type 0
-IsModelAnswer s status text =
-    (status ≡ 4) × ((name : List ℕ) × (words : List ℕ) × IsFirstRefused s.sessions s.models name words × (text ≡ model_line name words))
+-- a model can't be used, and under 4 the text is the line that refuses the first of these, which this says
+abbrev pub IsModelAnswer : (List ℕ → List ℕ → Type 0) → ℕ → List ℕ → Type 0
+IsModelAnswer IsFirst status text = (status ≡ 4) × ((name : List ℕ) × (words : List ℕ) × IsFirst name words × (text ≡ model_line name words))
 
 -- a status and a text answer a script: its first model that can't be used is told, or under 0 stands what the command writes
 abbrev pub IsAnswerToScript : Command → Script → ℕ → List ℕ → Type 0
-IsAnswerToScript command s status text = IsModelAnswer s status text ⊎ ((status ≡ 0) × Writes command s text)
+IsAnswerToScript command s status text = IsModelAnswer (IsFirstUnusable command s) status text ⊎ ((status ≡ 0) × Writes command s text)
 
 -- a status and a text answer the bytes of the input: `check` reads a proof text, the others a script
 abbrev pub IsAnswerTo : Command → List ℕ → ℕ → List ℕ → Type 0
@@ -67,4 +96,17 @@ IsStatus n = (n ≡ 0) ⊎ (n ≡ 1) ⊎ (n ≡ 2) ⊎ (n ≡ 3) ⊎ (n ≡ 4) �
 -- the budget is one that the words can say
 abbrev pub HasBudgetInRange : Command → Type 0
 HasBudgetInRange (Run workers budget) = budget ≤ 100000
+HasBudgetInRange (Distinct workers budget) = budget ≤ 100000
 HasBudgetInRange Check = Unit {0}
+HasBudgetInRange (Assert budget) = budget ≤ 100000
+HasBudgetInRange (Facts budget) = budget ≤ 100000
+
+-- ---- what is answered where sessions are run
+
+-- a status and a text answer a script
+abbrev pub IsAnswerOfRuns : Purpose → ℕ → Script → ℕ → List ℕ → Type 0
+IsAnswerOfRuns purpose budget s status text = IsModelAnswer (IsFirstRefused purpose s.sessions s.models) status text ⊎ ((status ≡ 0) × WritesRuns purpose budget s text)
+
+-- they answer the bytes of the input
+abbrev pub IsRunsAnswer : Purpose → ℕ → List ℕ → ℕ → List ℕ → Type 0
+IsRunsAnswer purpose budget bytes status text = IsFaultAnswer bytes status text ⊎ ((s : Script) × IsScript bytes s × IsAnswerOfRuns purpose budget s status text)

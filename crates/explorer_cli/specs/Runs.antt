@@ -67,11 +67,3 @@ IsServedAt models x t =
 -- it has one
 abbrev pub IsServed : List (Vec ServedCommand) → SessionEntry → Type 0
 IsServed models x = (t : Translated) × IsServedAt models x t
-
--- the session runs over that translation
-abbrev pub IsRunOver : ℕ → List (Vec ServedCommand) → SessionEntry → PrintedSession → Type 0
-IsRunOver budget models x s = (t : Translated) × IsServedAt models x t × IsRunOn t budget x s
-
--- the text is the output of runs of the sessions over these translations, in order, and no longer than an output may be
-abbrev pub AreRunsOver : ℕ → List SessionEntry → List (Vec ServedCommand) → List ℕ → Type 0
-AreRunsOver budget sessions models text = (runs : List PrintedSession) × AllZip (IsRunOver budget models) sessions runs × IsOutput runs text × (length text ≤ most_output)

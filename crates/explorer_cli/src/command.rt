@@ -37,7 +37,10 @@ fn most_bytes(command: Command) -> usize
     ensures { result + 1 ≡ limit_of command }
 {
     match command {
-        Command::Run { .. } => script_format::MOST_BYTES,
+        Command::Run { .. }
+        | Command::Distinct { .. }
+        | Command::Assert { .. }
+        | Command::Facts { .. } => script_format::MOST_BYTES,
         Command::Check => refutation_check::MOST_BYTES,
     }
 }

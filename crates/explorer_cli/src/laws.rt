@@ -5,7 +5,8 @@ ghost use Rattle.cnf_core.specs.Valuation.{Satisfies};
 ghost use Rattle.refutation_check.specs.declared.log.Step.{Step as LogStep};
 ghost use Rattle.refutation_check.specs.Chain.{IsRefutation};
 ghost use Rattle.refutation_check.specs.WrittenProof.{proof_text};
-ghost use Rattle.command_words.specs.declared.reading.Command.TheVariants.{Run};
+ghost use Rattle.alloy_syntax.specs.declared.tree.CommandKind.TheVariants as kind;
+ghost use Rattle.command_words.specs.declared.reading.Command.TheVariants.{Run, Distinct, Assert, Facts};
 ghost use Rattle.rel_formula.specs.Bounds.{Bounded};
 ghost use Rattle.rel_formula.specs.Instance.{IsMinimalAbove};
 ghost use Rattle.rel_terms.specs.Terms.{HasTerms};
@@ -35,13 +36,23 @@ ghost use Rattle.script_text.specs.Printed.{proved};
 ghost use Rattle.script_text.specs.Proofs.Printed.{IsAcceptedText};
 ghost use Rattle.script_text.specs.Replies.{PrintedSession, IsOutput};
 ghost use Rattle.named_model.specs.Model.{NamedTree};
+ghost use Rattle.served_models.specs.declared.purposes.Purpose.{Purpose as PurposeData};
+ghost use Rattle.served_models.specs.declared.purposes.Purpose.TheVariants.{Lists, Classes};
 ghost use Rattle.served_models.specs.Served.{IsProblemOf, AreUsable, IsFirstRefused, model_line};
+ghost use Rattle.decision_reports.specs.Taken.{IsFirstRefusedFor};
+ghost use Rattle.decision_reports.specs.Reports.{AreAssertionsOf};
+ghost use Rattle.decision_reports.specs.FactReports.{AreFactSetsOf};
 ghost use Rattle.explorer_cli.specs.Outcome.{IsAnswerTo};
 ghost use Rattle.explorer_cli.specs.Runs.{AreRepliesOn, IsRunOn, IsProblemAt, Translations, IsRunAmong, AreRuns, AreRunsOf};
+ghost use Rattle.explorer_cli.specs.Classes.{IsClassedRun, AreClassedRunsOf, HasClasses};
 ghost use Rattle.explorer_cli.specs.Shown.{AllKeepFloors, IsReplyAt, Shows, ShowsNew, EndsAt, OffersAt, AsksAt, AsksForList, IsListed};
 
+use decision_reports::laws::reports_are_one_way;
 use lowering_rules::laws::problems_are_symmetric;
 use refutation_check::accepted_is_entailed;
+use renaming_classes::laws::{
+    classes_are_of_all_minimal, due_are_minimal_up_to_renaming, renamings_are_a_class,
+};
 use script_format::laws::scripts_keep_to_limits;
 use script_text::laws::{
     equal_outputs_agree, transcripts_may_be_printed, what_is_printed_has_one_text,
@@ -57,18 +68,38 @@ pub fn each_answer_has_its_cause()
     ensures fault { (workers budget : ℕ) (bytes : List ℕ) (f : ScriptFaultData) (status : ℕ) (text : List ℕ)
         → HasFault bytes f → IsAnswerTo (Run workers budget) bytes status text → (status ≡ 3) × (text ≡ script_line (fault_words f)) }
     ensures model { (workers budget : ℕ) (bytes : List ℕ) (s : ScriptData) (name words : List ℕ) (status : ℕ) (text : List ℕ)
-        → IsScript bytes s → IsFirstRefused s.sessions s.models name words → IsAnswerTo (Run workers budget) bytes status text → (status ≡ 4) × (text ≡ model_line name words) }
+        → IsScript bytes s → IsFirstRefused Lists s.sessions s.models name words → IsAnswerTo (Run workers budget) bytes status text → (status ≡ 4) × (text ≡ model_line name words) }
     ensures run { (workers budget : ℕ) (bytes : List ℕ) (s : ScriptData) (models : List NamedTree) (status : ℕ) (text : List ℕ)
-        → IsScript bytes s → AreUsable s.sessions 0 s.models models → IsAnswerTo (Run workers budget) bytes status text → (status ≡ 0) × AreRunsOf budget s.sessions models text }
+        → IsScript bytes s → AreUsable Lists s.sessions 0 s.models models → IsAnswerTo (Run workers budget) bytes status text → (status ≡ 0) × AreRunsOf budget s.sessions models text }
 {
     models_are_used_one_way();
+}
+
+/// So it is under `assert` and `facts`: a script is answered under 4 with its first model that has a fault, or a `check`, or under
+/// `facts` a `run`, that can't be run; and where it has none, under 0 with the decisions on its `check` commands, or with what is
+/// known of its facts under its `run` commands.
+pub fn each_report_has_its_cause()
+    ensures fault { (budget : ℕ) (bytes : List ℕ) (f : ScriptFaultData) (status : ℕ) (text : List ℕ)
+        → HasFault bytes f → IsAnswerTo (Assert budget) bytes status text → (status ≡ 3) × (text ≡ script_line (fault_words f)) }
+    ensures model { (budget : ℕ) (bytes : List ℕ) (s : ScriptData) (name words : List ℕ) (status : ℕ) (text : List ℕ)
+        → IsScript bytes s → IsFirstRefusedFor kind.Check s.models name words → IsAnswerTo (Assert budget) bytes status text → (status ≡ 4) × (text ≡ model_line name words) }
+    ensures told { (budget : ℕ) (bytes : List ℕ) (s : ScriptData) (status : ℕ) (text : List ℕ)
+        → IsScript bytes s → ((name words : List ℕ) → ¬ IsFirstRefusedFor kind.Check s.models name words) → IsAnswerTo (Assert budget) bytes status text → (status ≡ 0) × AreAssertionsOf budget s.models text }
+    ensures facts_fault { (budget : ℕ) (bytes : List ℕ) (f : ScriptFaultData) (status : ℕ) (text : List ℕ)
+        → HasFault bytes f → IsAnswerTo (Facts budget) bytes status text → (status ≡ 3) × (text ≡ script_line (fault_words f)) }
+    ensures facts_model { (budget : ℕ) (bytes : List ℕ) (s : ScriptData) (name words : List ℕ) (status : ℕ) (text : List ℕ)
+        → IsScript bytes s → IsFirstRefusedFor kind.Run s.models name words → IsAnswerTo (Facts budget) bytes status text → (status ≡ 4) × (text ≡ model_line name words) }
+    ensures facts_told { (budget : ℕ) (bytes : List ℕ) (s : ScriptData) (status : ℕ) (text : List ℕ)
+        → IsScript bytes s → ((name words : List ℕ) → ¬ IsFirstRefusedFor kind.Run s.models name words) → IsAnswerTo (Facts budget) bytes status text → (status ≡ 0) × AreFactSetsOf budget s.models text }
+{
+    reports_are_one_way();
 }
 
 /// Bytes say one list of models at most that can be used, and the command of each session has one problem at most, on which its
 /// runs are.
 pub fn a_session_has_one_problem()
-    ensures models { (bytes : List ℕ) (s t : ScriptData) (ms ns : List NamedTree) → IsScript bytes s → IsScript bytes t
-        → AreUsable s.sessions 0 s.models ms → AreUsable t.sessions 0 t.models ns → ms ≡ ns }
+    ensures models { (purpose : PurposeData) (bytes : List ℕ) (s t : ScriptData) (ms ns : List NamedTree) → IsScript bytes s → IsScript bytes t
+        → AreUsable purpose s.sessions 0 s.models ms → AreUsable purpose t.sessions 0 t.models ns → ms ≡ ns }
     ensures problem { (models : List NamedTree) (x : SessionData) (p q : Bounded) → IsProblemAt models x p → IsProblemAt models x q → p ≡ q }
     ensures run { (budget : ℕ) (models : List NamedTree) (over : Translations) (x : SessionData) (s : PrintedSession) (p : Bounded) → IsRunAmong budget models over x s → IsProblemAt models x p → s.problem ≡ p }
 {
@@ -220,5 +251,31 @@ pub fn lists_are_one_text()
     a_run_is_sound();
     what_is_printed_has_one_text();
     an_all_lists_what_is_due();
+    models_are_used_one_way();
+}
+
+/// Of a list that ends the bottom floor the text tells exactly the least members of the renaming classes of the minimal instances:
+/// of each class one, so that no two of them are renamings of each other, and each minimal instance is a renaming of one.
+pub fn one_of_each_class_is_told()
+    ensures { (budget : ℕ) (models : List NamedTree) (over : Translations) (x : SessionData) (text : List ℕ) → (run : IsClassedRun budget models over x text)
+        → (place : ℕ) (scenarios : List (List ℕ)) → IsReplyAt run.1.3.replies run.1.3.floors place (AllShown scenarios) [] → HasClasses run.0.problem text }
+{
+    a_list_has_all();
+    due_are_minimal_up_to_renaming();
+    classes_are_of_all_minimal();
+    renamings_are_a_class();
+}
+
+/// The answer of `distinct` to bytes is one of three, each with its cause: bytes that are no script are answered under 3 with their
+/// fault; a script under 4 with its first model that can't be used for classes, or, where all its models can be, under 0 with runs
+/// of its sessions on these, told by classes.
+pub fn each_answer_of_classes_has_its_cause()
+    ensures fault { (workers budget : ℕ) (bytes : List ℕ) (f : ScriptFaultData) (status : ℕ) (text : List ℕ)
+        → HasFault bytes f → IsAnswerTo (Distinct workers budget) bytes status text → (status ≡ 3) × (text ≡ script_line (fault_words f)) }
+    ensures model { (workers budget : ℕ) (bytes : List ℕ) (s : ScriptData) (name words : List ℕ) (status : ℕ) (text : List ℕ)
+        → IsScript bytes s → IsFirstRefused Classes s.sessions s.models name words → IsAnswerTo (Distinct workers budget) bytes status text → (status ≡ 4) × (text ≡ model_line name words) }
+    ensures run { (workers budget : ℕ) (bytes : List ℕ) (s : ScriptData) (models : List NamedTree) (status : ℕ) (text : List ℕ)
+        → IsScript bytes s → AreUsable Classes s.sessions 0 s.models models → IsAnswerTo (Distinct workers budget) bytes status text → (status ≡ 0) × AreClassedRunsOf budget s.sessions models text }
+{
     models_are_used_one_way();
 }

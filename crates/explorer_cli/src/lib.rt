@@ -1,10 +1,13 @@
-//! The top call of the program: it does what the words say. It reads a script, runs its sessions and writes the replies,
-//! or reads a proof text, checks it and writes the verdict.
+//! The top call of the program: it does what the words say. It reads a script, runs its sessions and writes the replies, where
+//! lists may be told by classes of renamings, or decides its models' assertions, or finds facts that can't all be true, or reads a
+//! proof text and checks it.
 #![tactic(auto)]
 
 mod answer;
+mod classed_sessions;
 mod command;
 pub mod laws;
+mod reports;
 mod sessions;
 mod top_call;
 

@@ -2,13 +2,21 @@
 #![tactic(auto)]
 
 #[cfg(test)]
+mod of_assertions;
+#[cfg(test)]
+mod of_classes;
+#[cfg(test)]
 mod of_command_words;
 #[cfg(test)]
 mod of_explorer_cli;
 #[cfg(test)]
+mod of_facts;
+#[cfg(test)]
 mod of_hostile_use;
 #[cfg(test)]
 mod of_models;
+#[cfg(test)]
+mod of_orderings;
 #[cfg(test)]
 mod of_outside_io;
 #[cfg(test)]

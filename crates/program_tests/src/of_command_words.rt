@@ -17,7 +17,7 @@ fn run(workers: u32, budget: u32) -> Option<Command> {
 
 #[test]
 fn right_words_say_a_command(rt: HostRuntime) -> Result<(), Fail> {
-    let rows: [(&[&str], Option<Command>); 14] = [
+    let rows: [(&[&str], Option<Command>); 19] = [
         (&["check"], Some(Command::Check)),
         (&["run"], run(4, 20000)),
         (&["run", "--workers", "1"], run(1, 20000)),
@@ -35,6 +35,26 @@ fn right_words_say_a_command(rt: HostRuntime) -> Result<(), Fail> {
         (&["run", "--budget=3", "--workers", "2"], run(2, 3)),
         (&["run", "--workers=2", "--budget=3"], run(2, 3)),
         (&["run", "--workers", "2", "--budget=3"], run(2, 3)),
+        (
+            &["distinct"],
+            Some(Command::Distinct {
+                workers: 4,
+                budget: 20_000,
+            }),
+        ),
+        (
+            &["distinct", "--budget=7", "--workers", "16"],
+            Some(Command::Distinct {
+                workers: 16,
+                budget: 7,
+            }),
+        ),
+        (&["assert"], Some(Command::Assert { budget: 20_000 })),
+        (&["facts"], Some(Command::Facts { budget: 20_000 })),
+        (
+            &["facts", "--budget", "0"],
+            Some(Command::Facts { budget: 0 }),
+        ),
     ];
     for (words, command) in rows {
         assert_eq!(rt; said(rt.alloc(), words)?, command);
@@ -44,7 +64,7 @@ fn right_words_say_a_command(rt: HostRuntime) -> Result<(), Fail> {
 
 #[test]
 fn other_commands_are_none(rt: HostRuntime) -> Result<(), Fail> {
-    let rows: [&[&str]; 24] = [
+    let rows: [&[&str]; 23] = [
         &[],
         &[""],
         &["-"],
@@ -59,9 +79,8 @@ fn other_commands_are_none(rt: HostRuntime) -> Result<(), Fail> {
         &["Run"],
         &["ru"],
         &["load", "1"],
-        &["assert"],
-        &["facts", "--budget", "5"],
-        &["distinct", "--workers=2"],
+        &["facts", "--workers", "2"],
+        &["distinct", "--workers=17"],
         &["crew", "--workers", "2", "--budget", "5"],
         &["--", "run"],
         &["check", "check"],
@@ -110,7 +129,7 @@ fn other_options_are_none(rt: HostRuntime) -> Result<(), Fail> {
 
 #[test]
 fn other_numbers_are_none(rt: HostRuntime) -> Result<(), Fail> {
-    let rows: [&[&str]; 24] = [
+    let rows: [&[&str]; 23] = [
         &["run", "--workers"],
         &["run", "--workers="],
         &["run", "--workers", ""],

@@ -275,16 +275,16 @@ fn refuses_the_first_model_that_it_can_t_use(rt: HostRuntime) -> Result<(), Fail
         4,
         &[
             (
-                "== model m\nopen util/ordering[A] as o sig A {} run {}\n== model n\nsig A {}\n/*\n",
-                "fault model m not_yet\n",
+                "== model m\nopen util/ordering[B] as o sig A {} run {}\n== model n\nsig A {}\n/*\n",
+                "fault model m 1:20 unknown\n",
             ),
             (
                 "== model m\nsig A {} run {} for 1\n== model n\nsig A {}\n/*\n== session a m 1\nnext\n",
                 "fault model n 2:1 open_comment\n",
             ),
             (
-                "== model m\nsig A {} run {} for 1\n== model n\nopen util/ordering[A] as o sig A {}\n== session a m 1\nnext\n",
-                "fault model n not_yet\n",
+                "== model m\nsig A {} run {} for 1\n== model n\nopen util/ordering[A] as o one sig A {}\n== session a m 1\nnext\n",
+                "fault model n 1:20 not_plain\n",
             ),
         ],
     )

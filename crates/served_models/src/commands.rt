@@ -1,13 +1,17 @@
 // The commands of a model on which sessions are.
 ghost use Rattle.std.specs.Prelude.{◌≡◌, IfOk, MatchResult};
+ghost use Rattle.rel_formula.specs.Renaming.{IsSymmetric};
+ghost use Rattle.rel_terms.specs.Terms.{IsTranslatable};
 ghost use Rattle.named_model.specs.View.{named_view};
 ghost use Rattle.rel_lower.specs.Lowered.{IsTyped};
-ghost use Rattle.served_models.specs.Served.{AreServed, IsServedFor, LacksProblem};
+ghost use Rattle.served_models.specs.Served.{AreServed, Fits, IsUnfit, IsProblemOf, IsServedFor, LacksProblem, IsUnusable, renamings_words};
 
 use crate::numbers::next_asked;
+use crate::purposes::{Purpose, fits, renamings_words};
 use lowering_rules::laws::problems_are_symmetric;
 use model_texts::fault_words::command_words;
 use named_model::Named;
+use rel_formula::Problem;
 use rel_lower::lower;
 use script_format::SessionEntry;
 use std::alloc::{AllocError, Global};
@@ -23,26 +27,27 @@ pub struct ServedCommand {
 /// What was found of the commands of a model on which sessions are.
 #[derive(Drop)]
 pub enum Commands {
-    /// Each has a problem.
+    /// Each has a problem that can be used.
     Ready(Vec<ServedCommand>),
-    /// One of them has none: what stands behind the model's name in the line that refuses the first of these.
+    /// One of them hasn't: what stands behind the model's name in the line that refuses the first of these.
     Refused(Vec<u8>),
 }
 
 /// Translates the problems of just the commands of the model at this place on which sessions are, in rising order of their numbers.
 pub fn served(
     alloc: Global,
+    purpose: Purpose,
     model: &Named,
     place: usize,
     sessions: &[SessionEntry],
 ) -> Result<Commands, AllocError>
     requires { IsTyped (named_view model.now) }
-    ensures { IfOk result (AreServed sessions.now place (named_view model.now)) }
+    ensures { IfOk result (AreServed purpose sessions.now place (named_view model.now)) }
 {
     let mut made = Vec::new(alloc);
     let mut from = 0;
     'asked: while let Some(number) = next_asked(sessions, place, from) {
-        match translated(alloc, model, number)? {
+        match translated(alloc, purpose, model, number)? {
             Ok(command) => made.push(command)?,
             Err(words) => return Ok(Commands::Refused(words)),
         }
@@ -51,25 +56,60 @@ pub fn served(
     Ok(Commands::Ready(made))
 }
 
-// The translation of the problem of the model's command of this number, or the words that tell why there is none.
+// The translation of the problem of the model's command of this number, or the words that tell why it can't be used.
 fn translated(
     alloc: Global,
+    purpose: Purpose,
     model: &Named,
     number: u32,
 ) -> Result<Result<ServedCommand, Vec<u8>>, AllocError>
     requires { IsTyped (named_view model.now) }
-    ensures { IfOk result (λ found. MatchResult found (IsServedFor (named_view model.now) number) (λ words. LacksProblem (named_view model.now) number words.items)) }
+    ensures { IfOk result (λ found. MatchResult found (IsServedFor purpose (named_view model.now) number) (λ words. IsUnusable purpose (named_view model.now) number words.items)) }
 {
     problems_are_symmetric();
+    match problem_of(alloc, model, number)? {
+        Ok(problem) => Ok(with_problem(alloc, purpose, number, problem)?),
+        Err(words) => Ok(Err(words)),
+    }
+}
+
+/// The problem of the model's command of this number, with all facts, or what stands behind the model's name in the line that
+/// tells why there is none. The error comes only for want of memory.
+pub fn problem_of(
+    alloc: Global,
+    model: &Named,
+    number: u32,
+) -> Result<Result<Problem, Vec<u8>>, AllocError>
+    requires { IsTyped (named_view model.now) }
+    ensures { IfOk result (λ found. MatchResult found (IsProblemOf (named_view model.now) number) (λ words. LacksProblem (named_view model.now) number words.items)) }
+{
     match lower(alloc, model, number) {
         Ok(problem) => {
             let _ = problem.relations(); // for the proof
-            let translation = Translation::build(alloc, problem)?;
-            Ok(Ok(ServedCommand {
-                number,
-                translation,
-            }))
+            Ok(Ok(problem))
         }
         Err(fault) => Ok(Err(command_words(alloc, number, fault)?)),
     }
+}
+
+// The translation of the problem of the command of this number, or the words that tell that it can't be used for this.
+fn with_problem(
+    alloc: Global,
+    purpose: Purpose,
+    number: u32,
+    problem: Problem,
+) -> Result<Result<ServedCommand, Vec<u8>>, AllocError>
+    requires translatable { IsTranslatable problem }
+    requires symmetric { IsSymmetric problem }
+    ensures { IfOk result (λ found. MatchResult found (λ x. (x.number ≡ number) × (x.translation.problem ≡ problem) × Fits purpose problem)
+        (λ words. IsUnfit purpose problem × (words.items ≡ renamings_words number))) }
+{
+    if fits(purpose, &problem) {
+        let translation = Translation::build(alloc, problem)?;
+        return Ok(Ok(ServedCommand {
+            number,
+            translation,
+        }));
+    }
+    Ok(Err(renamings_words(alloc, number)?))
 }

@@ -5,6 +5,8 @@ mod commands;
 pub mod laws;
 mod models;
 mod numbers;
+mod purposes;
 
-pub use crate::commands::ServedCommand;
-pub use crate::models::{Models, read_models};
+pub use crate::commands::{ServedCommand, problem_of};
+pub use crate::models::{Models, model_line, read_models};
+pub use crate::purposes::Purpose;

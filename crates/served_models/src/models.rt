@@ -3,6 +3,7 @@ ghost use Rattle.std.specs.Prelude.{◌≡◌, ◌≤◌, length, All, IfOk};
 ghost use Rattle.served_models.specs.Served.{AreFound, IsFound, model_line};
 
 use crate::commands::{Commands, ServedCommand, served};
+use crate::purposes::Purpose;
 use model_texts::typed_texts::{ModelText, read_model};
 use script_format::{ModelEntry, SessionEntry};
 use std::alloc::{AllocError, Global};
@@ -10,25 +11,27 @@ use std::alloc::{AllocError, Global};
 /// What the models of a script are.
 #[derive(Drop)]
 pub enum Models {
-    /// Models in order, in which each command on which sessions are has a problem: of each model the translations of these.
+    /// Models in order, in which each command on which sessions are has a problem that can be used: of each model the translations
+    /// of these.
     Ready(Vec<Vec<ServedCommand>>),
     /// One of them can't be used: the line that refuses the first of these.
     Refused(Vec<u8>),
 }
 
 /// Reads the models of a script, whose texts have at most 1,048,576 bytes, in order, used or not, and translates the problems of
-/// commands on which sessions are.
+/// commands on which sessions are. A command whose problem can't be used for this is refused as one that has none.
 pub fn read_models(
     alloc: Global,
+    purpose: Purpose,
     entries: &[ModelEntry],
     sessions: &[SessionEntry],
 ) -> Result<Models, AllocError>
     requires { All (λ m. length m.text ≤ 1048576) entries.now }
-    ensures { IfOk result (AreFound sessions.now entries.now) }
+    ensures { IfOk result (AreFound purpose sessions.now entries.now) }
 {
     let mut models = Vec::new(alloc);
     for (place, entry) in entries.iter().enumerate() {
-        match read_served(alloc, entry.text.text(), place, sessions)? {
+        match read_served(alloc, purpose, entry.text.text(), place, sessions)? {
             Commands::Ready(made) => models.push(made)?,
             Commands::Refused(words) => {
                 let line = model_line(alloc, entry.name.text(), &words)?;
@@ -42,22 +45,22 @@ pub fn read_models(
 // Reads the text of the model at this place.
 fn read_served(
     alloc: Global,
+    purpose: Purpose,
     text: &str,
     place: usize,
     sessions: &[SessionEntry],
 ) -> Result<Commands, AllocError>
     requires { length text.now ≤ 1048576 }
-    ensures { IfOk result (IsFound sessions.now place text.now) }
+    ensures { IfOk result (IsFound purpose sessions.now place text.now) }
 {
     match read_model(alloc, text)? {
-        ModelText::Typed(model) => Ok(served(alloc, &model, place, sessions)?),
-        ModelText::Opening => Ok(Commands::Refused(Vec::from_slice(alloc, b"not_yet")?)),
+        ModelText::Typed(model) => Ok(served(alloc, purpose, &model, place, sessions)?),
         ModelText::Faulty(words) => Ok(Commands::Refused(words)),
     }
 }
 
-// The line that refuses the model of this name, with what is wrong with it.
-fn model_line(alloc: Global, name: &str, words: &[u8]) -> Result<Vec<u8>, AllocError>
+/// The line that refuses the model of this name, with what is wrong with it. The error comes only for want of memory.
+pub fn model_line(alloc: Global, name: &str, words: &[u8]) -> Result<Vec<u8>, AllocError>
     ensures { IfOk result (λ text. text.items ≡ model_line name.now words.now) }
 {
     let mut text = Vec::from_slice(alloc, b"fault model ")?;

@@ -1,3 +1,4 @@
+use Rattle.served_models.specs.declared.purposes.Purpose.TheVariants.{Lists}
 use Rattle.explorer_cli.proofs.Statuses.{fault_answer, model_answer, run_answer}
 use Rattle.explorer_cli.proofs.laws.each_answer_has_its_cause.Goals as goal
 
@@ -5,7 +6,7 @@ pub returns : goal.returns
 returns c =
     let law = c.models_are_used_one_way.ensures in
     record {
-      fault = fault_answer;
-      model = model_answer law.models law.refused law.either;
-      run = run_answer law.models law.refused law.either;
+      fault = λ workers budget. fault_answer Lists budget;
+      model = λ workers budget. model_answer law.models law.refused law.either Lists budget;
+      run = λ workers budget. run_answer law.models law.refused law.either Lists budget;
     }

@@ -1,8 +1,32 @@
+use Rattle.std.proofs.Common.{ℕ, Result, inl, subst}
+use Rattle.std.specs.Prelude.{Vec, MatchResult}
+use Rattle.std.specs.declared.alloc.Global.{Global}
+use Rattle.rel_formula.specs.Bounds.{Bounded}
 use Rattle.named_model.specs.View.{named_view}
 use Rattle.lowering_rules.specs.Formula.{all_facts}
+use Rattle.served_models.specs.Served.{IsProblemOf, LacksProblem}
+use Rattle.served_models.proofs.Usables.{served_or_unfit}
 use Rattle.served_models.proofs.commands.translated.Goals as goal
 
-pub build-requires-clause-symmetric : goal.build-requires-clause-symmetric
-build-requires-clause-symmetric c =
+pub with_problem-requires-clause-translatable : goal.with_problem-requires-clause-translatable
+with_problem-requires-clause-translatable c =
     let m = named_view c.args.model.now in
-    c.problems_are_symmetric.ensures m c.args.number (all_facts m) c.in-Ok.problem c.in-Ok.ensures.is
+    let found = subst (λ (r : Result Bounded (Vec ℕ Global)). MatchResult r (IsProblemOf m c.args.number) (λ (words : Vec ℕ Global). LacksProblem m c.args.number words.items)) c.in-Ok.is c.in_ok-problem.ensures in
+    found.lowered.translatable
+
+pub with_problem-requires-clause-symmetric : goal.with_problem-requires-clause-symmetric
+with_problem-requires-clause-symmetric c =
+    let m = named_view c.args.model.now in
+    let found = subst (λ (r : Result Bounded (Vec ℕ Global)). MatchResult r (IsProblemOf m c.args.number) (λ (words : Vec ℕ Global). LacksProblem m c.args.number words.items)) c.in-Ok.is c.in_ok-problem.ensures in
+    c.problems_are_symmetric.ensures m c.args.number (all_facts m) c.in-Ok.problem found.lowered.is
+
+pub returns-in_ok-with_problem-in-Ok : goal.returns-in_ok-with_problem-in-Ok
+returns-in_ok-with_problem-in-Ok c =
+    let m = named_view c.args.model.now in
+    let found = subst (λ (r : Result Bounded (Vec ℕ Global)). MatchResult r (IsProblemOf m c.args.number) (λ (words : Vec ℕ Global). LacksProblem m c.args.number words.items)) c.in-Ok.is c.in_ok-problem.ensures in
+    served_or_unfit c.args.purpose m c.args.number c.in-Ok.problem c.in_ok-with_problem-in-Ok.field-0 found c.in_ok-with_problem-in-Ok.ensures
+
+pub returns-in-Err : goal.returns-in-Err
+returns-in-Err c =
+    let m = named_view c.args.model.now in
+    inl (subst (λ (r : Result Bounded (Vec ℕ Global)). MatchResult r (IsProblemOf m c.args.number) (λ (words : Vec ℕ Global). LacksProblem m c.args.number words.items)) c.in-Err.is c.in_ok-problem.ensures)

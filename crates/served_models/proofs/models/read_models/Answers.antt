@@ -10,10 +10,10 @@ returns-in-Refused c =
     let told = c.text.result.now in
     let words = c.in-Refused.words.items in
     let before = c.loop-place.invariant in
-    let refused = subst (λ (found : Commands). IsFound c.args.sessions.now c.loop-place.place told found) c.in-Refused.is c.in_ok-made.ensures in (
+    let refused = subst (λ (found : Commands). IsFound c.args.purpose c.args.sessions.now c.loop-place.place told found) c.in-Refused.is c.in_ok-made.ensures in (
       x.name,
       words,
-      first_refused c.args.sessions.now c.args.entries.now c.loop-place.place x told words before.0 c.loop-place-test.true c.index-entries-place.is c.text.ensures.value before.1 refused,
+      first_refused c.args.purpose c.args.sessions.now c.args.entries.now c.loop-place.place x told words before.0 c.loop-place-test.true c.index-entries-place.is c.text.ensures.value before.1 refused,
       c.in_ok-line-in-Refused.ensures ∙ ap (λ (name : List ℕ). model_line name c.deref.result.now) c.text-in-Refused.ensures.value ∙ ap (model_line x.name) c.deref.ensures.value,
     )
 
@@ -21,6 +21,6 @@ pub loop-place-preserved : goal.loop-place-preserved
 loop-place-preserved c =
     let x = c.index-entries-place.result in
     let told = c.text.result.now in
-    let is = subst (λ (found : Commands). IsFound c.args.sessions.now c.loop-place.place told found) c.in-Ready.is c.in_ok-made.ensures in
-    used_more c.args.sessions.now c.args.entries.now c.loop-place.place x told c.loop-place.models.items c.push.new.self.items c.in-Ready.made
+    let is = subst (λ (found : Commands). IsFound c.args.purpose c.args.sessions.now c.loop-place.place told found) c.in-Ready.is c.in_ok-made.ensures in
+    used_more c.args.purpose c.args.sessions.now c.args.entries.now c.loop-place.place x told c.loop-place.models.items c.push.new.self.items c.in-Ready.made
     c.loop-place-test.true c.index-entries-place.is c.text.ensures.value c.in_ok-push-in-Ready.ensures.items c.loop-place.invariant is.0 is.1 is.2

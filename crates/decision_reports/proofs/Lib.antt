@@ -1,0 +1,5 @@
+pub mod FoundModels
+pub mod OneReport
+pub mod TextLists
+pub mod ToldDecisions
+pub mod ToldFacts

@@ -1,0 +1,23 @@
+use Rattle.std.proofs.Common.{◌++◌, ◌∙◌, ℕ, List, ap, subst}
+use Rattle.named_model.specs.View.{named_view}
+use Rattle.lowering_rules.specs.Formula.{all_facts}
+use Rattle.command_decisions.specs.FactSets.{IsFactSet}
+use Rattle.decision_reports.specs.FactReports.{set_text}
+use Rattle.decision_reports.proofs.fact_sets.set_on.Goals as goal
+
+pub memory_in-requires : goal.memory_in-requires
+memory_in-requires c =
+    let m = named_view c.args.model.now in
+    let p = c.requires.problem in
+    let few = p.1.lowered.translatable.few_terms in
+    c.problems_are_not_refused.ensures m c.args.number (all_facts m) p.0 p.1.problem p.1.lowered.is few.0 few.1 few.2 c.in-Err.fault c.in-Err.ensures
+
+pub returns-in_ok-text-in-Ok : goal.returns-in_ok-text-in-Ok
+returns-in_ok-text-in-Ok c =
+    let m = named_view c.args.model.now in
+    record {
+      runs = c.requires.problem;
+      set = c.in-Ok.set;
+      known = subst (λ (b : ℕ). IsFactSet m c.args.number b c.in-Ok.set) c.from.ensures c.in-Ok.ensures;
+      told = c.in_ok-text-in-Ok.ensures ∙ ap (λ (front : List ℕ). front ++ set_text m.fact_names c.args.budget c.in-Ok.set) c.in_ok-front-in-Ok.ensures;
+    }

@@ -1,0 +1,68 @@
+// What `assert` and `facts` answer.
+ghost use Rattle.std.specs.Prelude.{◌≡◌, ◌≤◌, ◌⊎◌, ℕ, IfOk};
+ghost use Rattle.command_words.specs.declared.reading.Command.TheVariants.{Assert, Facts};
+ghost use Rattle.script_format.specs.declared.entries.Script.{Script as ScriptData};
+ghost use Rattle.decision_reports.specs.Reports.{IsAssertionReport};
+ghost use Rattle.decision_reports.specs.FactReports.{IsFactReport};
+ghost use Rattle.explorer_cli.specs.Outcome.{IsAnswerTo, IsAnswerToScript};
+
+use decision_reports::assertions::{Report, assertions_of};
+use decision_reports::fact_sets::fact_sets_of;
+use proof_command::Answer;
+use script_format::laws::scripts_keep_to_limits;
+use script_format::read_script;
+use script_text::fault_line;
+use std::alloc::{AllocError, Global};
+
+/// The answer of `assert` to the bytes of its input, where each command is decided with this budget.
+pub fn answer_of_assert(alloc: Global, budget: u32, bytes: &[u8]) -> Result<Answer, AllocError>
+    requires { budget ≤ 100000 }
+    ensures answer { IfOk result (λ a. IsAnswerTo (Assert budget) bytes.now a.status a.text.items) }
+    ensures status { IfOk result (λ a. (a.status ≡ 0) ⊎ (a.status ≡ 3) ⊎ (a.status ≡ 4)) }
+{
+    scripts_keep_to_limits();
+    match read_script(alloc, bytes) {
+        Ok(script) => {
+            let report = assertions_of(alloc, budget, script.models.entries())?;
+            Ok(answer_of_report(report))
+        }
+        Err(fault) => Ok(Answer {
+            status: 3,
+            text: fault_line(alloc, fault)?,
+        }),
+    }
+}
+
+/// The answer of `facts` to the bytes of its input, where each search has this budget.
+pub fn answer_of_facts(alloc: Global, budget: u32, bytes: &[u8]) -> Result<Answer, AllocError>
+    requires { budget ≤ 100000 }
+    ensures answer { IfOk result (λ a. IsAnswerTo (Facts budget) bytes.now a.status a.text.items) }
+    ensures status { IfOk result (λ a. (a.status ≡ 0) ⊎ (a.status ≡ 3) ⊎ (a.status ≡ 4)) }
+{
+    scripts_keep_to_limits();
+    match read_script(alloc, bytes) {
+        Ok(script) => {
+            let report = fact_sets_of(alloc, budget, script.models.entries())?;
+            Ok(answer_of_report(report))
+        }
+        Err(fault) => Ok(Answer {
+            status: 3,
+            text: fault_line(alloc, fault)?,
+        }),
+    }
+}
+
+// The answer that such a report is.
+fn answer_of_report(report: Report) -> Answer
+    ensures assertions { (budget : ℕ) (s : ScriptData) → IsAssertionReport budget s.models report → IsAnswerToScript (Assert budget) s result.status result.text.items }
+    ensures facts { (budget : ℕ) (s : ScriptData) → IsFactReport budget s.models report → IsAnswerToScript (Facts budget) s result.status result.text.items }
+    ensures status { (result.status ≡ 0) ⊎ (result.status ≡ 4) }
+{
+    match report {
+        Report::Told(text) => Answer { status: 0, text },
+        Report::Refused(line) => Answer {
+            status: 4,
+            text: line,
+        },
+    }
+}
