@@ -129,7 +129,7 @@ fn other_options_are_none(rt: HostRuntime) -> Result<(), Fail> {
 
 #[test]
 fn other_numbers_are_none(rt: HostRuntime) -> Result<(), Fail> {
-    let rows: [&[&str]; 23] = [
+    let rows: [&[&str]; 24] = [
         &["run", "--workers"],
         &["run", "--workers="],
         &["run", "--workers", ""],
