@@ -185,20 +185,37 @@ fn ends_right_on(
     }
 }
 
-// Every start and every floor on one trail, on which decisions and propagation alone lead to a minimal scenario each time.
-#[test]
-fn every_start_and_floor_on_one_trail(rt: HostRuntime) -> Result<(), Fail> {
-    let made = translated_sets(rt.alloc(), &[0, 1])?;
-    let cnf = made.cnf();
-    let base = Trail::over(rt.alloc(), cnf, cnf.vars())?;
-    let mut trail = base.copy(rt.alloc())?;
+// The first start and floor whose descent on this trail ends otherwise, if there is one.
+fn first_that_ends_wrong(
+    alloc: Global,
+    made: &Translation,
+    base: &Trail,
+    trail: &mut Trail,
+) -> Result<Option<(u32, u32)>, AllocError>
+    requires base { IsBase made.now.cnf base.now }
+    requires trail { IsOver made.now.cnf trail.old }
+{
     for case in 0..256u32 {
         let start = case / 16;
         let floor = case % 16;
-        assert!(rt;
-            ends_right_on(rt.alloc(), &made, &base, &mut trail, floor, start)?,
-            "from {start} above {floor}"
-        );
+        if !ends_right_on(alloc, made, base, trail, floor, start)? {
+            return Ok(Some((start, floor)));
+        }
     }
+    Ok(None)
+}
+
+// Every start and every floor on one trail, on which decisions and propagation alone lead to a minimal scenario each time.
+#[test]
+fn every_start_and_floor_on_one_trail(rt: HostRuntime) -> Result<(), Fail> {
+    let alloc = rt.alloc();
+    let made = translated_sets(alloc, &[0, 1])?;
+    let cnf = made.cnf();
+    let base = Trail::over(alloc, cnf, cnf.vars())?;
+    let mut trail = base.copy(alloc)?;
+    assert_eq!(rt;
+        first_that_ends_wrong(alloc, &made, &base, &mut trail)?,
+        None
+    );
     Ok(())
 }
