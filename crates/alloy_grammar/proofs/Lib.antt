@@ -16,3 +16,6 @@ pub mod Trees
 pub mod BoundTrees
 pub mod ModelsReadBack
 pub mod WholeModels
+pub mod Faults
+pub mod Refusals
+pub mod Prefixes

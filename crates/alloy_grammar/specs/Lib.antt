@@ -5,3 +5,6 @@ pub mod Depths
 pub mod Forms
 pub mod Bounds
 pub mod Models
+pub mod Faults
+pub mod Refusals
+pub mod Prefixes

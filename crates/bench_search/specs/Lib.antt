@@ -1,2 +1,4 @@
 pub mod Answers
 pub mod Formulas
+pub mod Sets
+pub mod Descents

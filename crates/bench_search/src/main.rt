@@ -1,13 +1,17 @@
-//! How fast the solver is: each four words are what is done, the kind of clauses, and two numbers, their size and a seed.
-//! The line that is printed says what was found, and with how much work. Time it from outside; `docs/BENCHMARKS.md` says how.
+//! How fast the solver is, and descents and offers over it: each four words are what is done, the kind of clauses or of a problem, and
+//! two numbers, the size and a seed. The line that is printed says what was found, and with how much work; `docs/BENCHMARKS.md` says
+//! how to time it from outside.
 #![tactic(auto)]
 
+mod asked;
 mod calls;
+mod descents;
 mod dimacs;
 mod effort;
 mod formulas;
 mod found;
 mod searches;
+mod sets;
 
 use crate::found::Found;
 use std::alloc::{AllocError, Global};
@@ -57,6 +61,7 @@ fn measured(
     };
     match kind {
         "calls" => Ok(calls::found(alloc, done, size, seed)?),
+        "sets" => Ok(descents::found(alloc, done, size)?),
         _ => Ok(searches::found(alloc, done, kind, size, seed)?),
     }
 }

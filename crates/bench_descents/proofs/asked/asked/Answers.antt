@@ -1,4 +1,0 @@
-use Rattle.bench_descents.proofs.asked.asked.Goals as goal
-
-pub returns : goal.returns
-returns c = record { about = c.all_of.ensures }

@@ -1,5 +1,0 @@
-use Rattle.error_positions.proofs.Refusals.ModelsLasting.{no_other_there}
-use Rattle.error_positions.proofs.refused_tokens.laws.what_lies_too_deep_has_no_other_fault.Goals as goal
-
-pub returns : goal.returns
-returns c strict limit other ts rest stop e f there = no_other_there strict limit other ts rest stop e f there

@@ -1,4 +1,0 @@
-pub mod Orders
-pub mod Texts
-pub mod Calls
-pub mod Faults
