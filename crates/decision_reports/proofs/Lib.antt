@@ -1,3 +1,9 @@
+pub mod MinimalParts
+pub mod FirstFound
+pub mod ListedFormulas
+pub mod KeptNumbers
+pub mod FewerFacts
+pub mod TriedFacts
 pub mod FoundModels
 pub mod OneReport
 pub mod TextLists

@@ -17,10 +17,10 @@ use Rattle.lowering_rules.specs.Formula as formula
 use Rattle.lowering_rules.specs.Formula.{all_facts}
 use Rattle.lowering_rules.specs.Problem.{ProblemOf, command_at}
 use Rattle.lowering_rules.proofs.Outlined.{same_some}
-use Rattle.command_decisions.specs.declared.decision.Decision.{Decision}
-use Rattle.command_decisions.specs.declared.decision.Decision.TheVariants.{Holds, Fails, Spent}
-use Rattle.command_decisions.specs.Assertions.{IsCounterexample}
-use Rattle.command_decisions.specs.Decided.{IsDecision, IsSpent, HasNoInstance}
+use Rattle.decision_reports.specs.declared.decision.Decision.{Decision}
+use Rattle.decision_reports.specs.declared.decision.Decision.TheVariants.{Holds, Fails, Spent}
+use Rattle.decision_reports.specs.Assertions.{IsCounterexample}
+use Rattle.decision_reports.specs.Decided.{IsDecision, IsSpent, HasNoInstance}
 use Rattle.script_text.specs.Replies.{IsScenarioText}
 use Rattle.served_models.specs.Served.{IsProblemOf}
 use Rattle.decision_reports.specs.Taken.{is_of_kind, numbers_of}

@@ -2,9 +2,9 @@
 use Rattle.std.specs.Prelude.{◌≡◌, ◌≤◌, ◌++◌, ℕ, List, Option, Some, None, length, codes, decimal}
 use Rattle.std.specs.List.{flat_map}
 use Rattle.alloy_syntax.specs.declared.tree.CommandKind.TheVariants.{Run}
-use Rattle.command_decisions.specs.declared.fact_sets.needed.FactSet.{FactSet}
-use Rattle.command_decisions.specs.declared.fact_sets.needed.FactSet.TheVariants.{Satisfiable, Needs, Spent}
-use Rattle.command_decisions.specs.FactSets.{IsFactSet}
+use Rattle.decision_reports.specs.declared.needed_facts.needed.FactSet.{FactSet}
+use Rattle.decision_reports.specs.declared.needed_facts.needed.FactSet.TheVariants.{Satisfiable, Needs, Spent}
+use Rattle.decision_reports.specs.FactSets.{IsFactSet}
 use Rattle.script_format.specs.declared.entries.ModelEntry.{ModelEntry}
 use Rattle.script_text.specs.Limits.{most_output}
 use Rattle.named_model.specs.Model.{NamedTree}

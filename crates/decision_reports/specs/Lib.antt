@@ -1,3 +1,9 @@
+pub mod Decided
+pub mod Assertions
+pub mod FewerFacts
+pub mod SomeFacts
+pub mod FactSets
+pub mod Trials
 pub mod Taken
 pub mod Texts
 pub mod Reports

@@ -4,10 +4,10 @@ use Rattle.alloy_syntax.specs.declared.tree.CommandKind.TheVariants.{Check}
 use Rattle.rel_formula.specs.Bounds.{Bounded}
 use Rattle.translation_rules.specs.Translation.{Translated}
 use Rattle.translation.specs.Kept.{IsTranslation}
-use Rattle.command_decisions.specs.declared.decision.Decision.{Decision}
-use Rattle.command_decisions.specs.declared.decision.Decision.TheVariants.{Holds, Fails, Spent}
-use Rattle.command_decisions.specs.Assertions.{IsCounterexample}
-use Rattle.command_decisions.specs.Decided.{IsDecision, IsSpent}
+use Rattle.decision_reports.specs.declared.decision.Decision.{Decision}
+use Rattle.decision_reports.specs.declared.decision.Decision.TheVariants.{Holds, Fails, Spent}
+use Rattle.decision_reports.specs.Assertions.{IsCounterexample}
+use Rattle.decision_reports.specs.Decided.{IsDecision, IsSpent}
 use Rattle.refutation_check.specs.Part.{Parted}
 use Rattle.swap_symmetry.specs.Due.{IsDue}
 use Rattle.lowering_rules.specs.Formula.{all_facts}

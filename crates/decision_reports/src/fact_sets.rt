@@ -11,10 +11,10 @@ ghost use Rattle.decision_reports.specs.Texts.{AreTexts};
 ghost use Rattle.decision_reports.specs.FactReports.{AreFactSetsOf, IsFactReport, IsFactSetOn, core_text, fact_line, set_text};
 
 use crate::assertions::{Report, command_front};
+use crate::needed_facts::{FactSet, facts_of};
 use crate::taken_models::{TakenModel, TakenModels, read_taken};
 use alloy_lex::Text;
 use alloy_syntax::tree::CommandKind;
-use command_decisions::fact_sets::{FactSet, facts_of};
 use itoa::Buffer;
 use lowering_rules::LowerFault;
 use lowering_rules::laws::problems_are_not_refused;

@@ -8,7 +8,7 @@ ghost use Rattle.decision_reports.specs.Taken.{numbers_of, IsFirstRefusedFor};
 ghost use Rattle.decision_reports.specs.FactReports.{AreFactSetsOf};
 ghost use Rattle.decision_reports.specs.Reports.{command_front, AreAssertionsOf, FailsIn, HasNoCounterexample, IsDecisionOn, WasSpent};
 
-use command_decisions::laws::instances_are_counterexamples;
+use crate::decision_laws::instances_are_counterexamples;
 use lowering_rules::laws::{problems_are_not_refused, problems_are_one, refusals_are_one};
 use model_texts::typed_texts::laws::a_text_is_one_thing;
 

@@ -3,7 +3,7 @@ ghost use Rattle.std.specs.Prelude.{◌≤◌};
 ghost use Rattle.named_model.specs.View.{named_view};
 ghost use Rattle.rel_lower.specs.Lowered.{IsTyped};
 
-use command_decisions::fact_sets::{FactSet, facts_of};
+use decision_reports::needed_facts::{FactSet, facts_of};
 use lowering_rules::LowerFault;
 use model_texts::typed_texts::{ModelText, read_model};
 use named_model::Named;

@@ -9,8 +9,6 @@ mod large_sets;
 #[cfg(test)]
 mod of_decision;
 #[cfg(test)]
-mod of_explorer_run;
-#[cfg(test)]
 mod of_fact_sets;
 #[cfg(test)]
 mod of_proof_lines;

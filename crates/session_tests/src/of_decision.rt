@@ -2,7 +2,7 @@
 ghost use Rattle.std.specs.Prelude.{◌≡◌, ◌≤◌, ◌∷◌, [], IfOk};
 ghost use Rattle.rel_formula.specs.Renaming.{IsSymmetric};
 
-use command_decisions::decision::{Decision, decide};
+use decision_reports::decision::{Decision, decide};
 use rel_formula::{Expression, Formula, Problem};
 use sample_problems::set_of;
 use samples::sample_translations::{translated_sets, translation_of};

@@ -1,7 +1,7 @@
 use Rattle.std.proofs.Common.{◌++◌, ◌∙◌, ℕ, List, ap, subst}
 use Rattle.named_model.specs.View.{named_view}
 use Rattle.lowering_rules.specs.Formula.{all_facts}
-use Rattle.command_decisions.specs.FactSets.{IsFactSet}
+use Rattle.decision_reports.specs.FactSets.{IsFactSet}
 use Rattle.decision_reports.specs.FactReports.{set_text}
 use Rattle.decision_reports.proofs.fact_sets.set_on.Goals as goal
 

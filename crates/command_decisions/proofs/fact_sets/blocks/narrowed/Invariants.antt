@@ -1,9 +1,0 @@
-use Rattle.named_model.specs.View.{named_view}
-use Rattle.command_decisions.specs.FactSets.{IsCore}
-use Rattle.command_decisions.proofs.fact_sets.blocks.narrowed.Given as goal
-
-abbrev pub invariant-sizes : goal.invariant-sizes
-invariant-sizes l = IsCore (named_view l.model) l.command l.core
-
-abbrev pub decreases-sizes : goal.decreases-sizes
-decreases-sizes l = l.size

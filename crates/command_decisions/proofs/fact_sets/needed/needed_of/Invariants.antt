@@ -1,7 +1,0 @@
-use Rattle.std.proofs.Common.{drop}
-use Rattle.named_model.specs.View.{named_view}
-use Rattle.command_decisions.specs.Trials.{AreTried}
-use Rattle.command_decisions.proofs.fact_sets.needed.needed_of.Given as goal
-
-abbrev pub invariant-loop-fact : goal.invariant-loop-fact
-invariant-loop-fact l = AreTried (named_view l.model) l.command (drop l.fact-index l.facts) l.tried
