@@ -4,3 +4,5 @@ pub mod PickedInstances
 pub mod OfferSearches
 pub mod Seeking
 pub mod MarkedCells
+pub mod FirstTries
+pub mod RaisedTrails

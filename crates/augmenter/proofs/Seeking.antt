@@ -1,5 +1,5 @@
 -- What an answer of the solver says of a search for an instance with some cells.
-use Rattle.std.proofs.Common.{◌≡◌, ◌≢◌, ◌<◌, ◌≤◌, ◌-◌, ℕ, Bool, List, [], ◌∷◌, ◌++◌, length, get_or, zero, suc, inl, inr, All, AllPairs, refl, ap, subst, arith}
+use Rattle.std.proofs.Common.{◌≡◌, ◌≢◌, ◌≤◌, ◌-◌, ℕ, Bool, List, [], ◌∷◌, ◌++◌, length, All, refl, ap, subst, arith}
 use Rattle.std.proofs.lemmas.List.{length-map}
 use Rattle.std.proofs.lemmas.List.Elements.{All-map, All-take}
 use Rattle.cnf_core.specs.declared.literal.Lit.{Lit}
@@ -13,6 +13,7 @@ use Rattle.rel_formula.specs.Instance.{AreCells, IsInstance}
 use Rattle.sat_core.specs.declared.search.Answer.{Answer}
 use Rattle.sat_core.specs.declared.search.Answer.TheVariants.{Found, Refuted, Spent}
 use Rattle.sat_core.specs.Answers.{log_of, HasEmptyOnlyLast, IsRight, NamesNoUnits}
+use Rattle.sat_core.specs.Search.{IsAnswerTo}
 use Rattle.translation_rules.specs.Translation.{Translated, IsSatisfiableAt, var_of}
 use Rattle.translation_rules.specs.Locals.{literal_of, units_of}
 use Rattle.translation_rules.specs.Offers.{IsPossible}
@@ -38,6 +39,10 @@ told t pool cells budget f asked a e same log few units last answer = record {
   last = last;
   answer = subst (λ (g : Formula). IsRight g.vars (g.clauses ++ units_of cells) pool budget a) e (subst (λ ls. IsRight f.vars (f.clauses ++ ls) pool budget a) same answer);
 }
+
+-- what is known of an answer over the translation itself
+pub told_of : (t : Translated) (pool : List LogStep) (cells : List ℕ) (budget : ℕ) (a : Answer) → IsAnswerTo t.cnf (units_of cells) pool budget a → Told t pool cells budget a
+told_of t pool cells budget a is = record { log = is.log; few = is.few; units = is.units; last = is.last; answer = is.right }
 
 -- no unit is empty
 units_some : (cells : List ℕ) → All (λ (c : List Lit). c ≢ []) (units_of cells)

@@ -1,3 +1,4 @@
 pub mod Free
 pub mod Search
 pub mod Offering
+pub mod Raising

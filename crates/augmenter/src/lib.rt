@@ -4,7 +4,9 @@
 mod answer;
 mod cells;
 mod offering;
+mod raising;
 mod search;
+mod tried;
 
 pub use crate::answer::Offers;
 pub use crate::offering::offers;

@@ -1,12 +1,15 @@
 // The search for all cells that an instance can be given.
-ghost use Rattle.std.specs.Prelude.{◌≡◌, ◌≤◌, length, IfOk};
+ghost use Rattle.std.specs.Prelude.{◌≤◌, length, IfOk};
 ghost use Rattle.refutation_check.specs.Chain.{IsAccepted};
-ghost use Rattle.rel_formula.specs.Instance.{IsInstance, with_cell};
+ghost use Rattle.rel_formula.specs.Instance.{IsInstance};
+ghost use Rattle.sat_trail.specs.Trailed.{IsBase};
 ghost use Rattle.augmenter.specs.Offering.{parts_of, AreTrials, IsRight};
+ghost use Rattle.augmenter.specs.Raising.{Serves};
 
 use crate::answer::Offers;
 use crate::cells::{mark_true, marked_outside};
-use crate::search::{Sought, seek_from};
+use crate::search::Sought;
+use crate::tried::{seek_on, trail_with};
 use refutation_check::Log;
 use rel_formula::Scenario;
 use sat_core::Trail;
@@ -33,11 +36,42 @@ pub fn offers(
     ensures parts { IfOk result (λ offers. AreTrials translation.now pool.now scenario.now budget (parts_of offers)) }
     ensures answer { IfOk result (IsRight translation.now pool.now scenario.now budget) }
 {
+    let cnf = translation.cnf();
+    let base = Trail::over(alloc, cnf, cnf.vars())?;
+    let mut trail = trail_with(alloc, translation, &base, pool, scenario)?;
+    offers_on(
+        alloc,
+        translation,
+        &base,
+        &mut trail,
+        pool,
+        scenario,
+        budget,
+    )
+}
+
+// Looks for them from a trail of the translation's formula, and first on one that has the scenario's cells too.
+fn offers_on(
+    alloc: Global,
+    translation: &Translation,
+    base: &Trail,
+    trail: &mut Trail,
+    pool: &Log,
+    scenario: &Scenario,
+    budget: u64,
+) -> Result<Offers, AllocError>
+    requires base { IsBase translation.now.cnf base.now }
+    requires trail { Serves translation.now pool.now scenario.now trail.old }
+    requires pool { IsAccepted translation.now.cnf.clauses pool.now }
+    requires few { length pool.now ≤ 20000 }
+    requires scenario { IsInstance translation.now.problem scenario.now }
+    requires budget { budget ≤ 100000000 }
+    ensures parts { IfOk result (λ offers. AreTrials translation.now pool.now scenario.now budget (parts_of offers)) }
+    ensures answer { IfOk result (IsRight translation.now pool.now scenario.now budget) }
+{
     let problem = translation.problem();
     let _ = problem.relations(); // for the proof
     let cells = problem.cells();
-    let cnf = translation.cnf();
-    let base = Trail::over(alloc, cnf, cnf.vars())?;
     let mut possible = vec![in alloc; false; cells as usize]?;
     let mut parts = Vec::new(alloc);
     let mut left = budget;
@@ -45,8 +79,17 @@ pub fn offers(
         if scenario.has(cell) || possible[cell as usize] {
             continue;
         }
-        let wanted = with(alloc, scenario, cell)?;
-        match seek_from(alloc, translation, &base, pool, &wanted, left)? {
+        match seek_on(
+            alloc,
+            translation,
+            base,
+            trail,
+            pool,
+            scenario,
+            cell,
+            possible.as_slice(),
+            left,
+        )? {
             Sought::Possible { valuation, part } => {
                 left -= part.log().steps().len() as u64;
                 parts.push(part)?;
@@ -64,13 +107,4 @@ pub fn offers(
     }
     let cells = marked_outside(alloc, scenario, possible.as_slice())?;
     Ok(Offers::Exactly { cells, parts })
-}
-
-// The scenario with one more cell.
-fn with(alloc: Global, scenario: &Scenario, cell: u32) -> Result<Scenario, AllocError>
-    ensures { IfOk result (λ more. more ≡ with_cell cell scenario.now) }
-{
-    let mut more = scenario.copy(alloc)?;
-    more.insert(cell)?;
-    Ok(more)
 }
