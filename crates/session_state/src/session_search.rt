@@ -9,4 +9,5 @@ mod plain;
 mod session;
 
 pub use crate::session_search::answer::Proposal;
+pub use crate::session_search::listing::in_order;
 pub use crate::session_search::session::Session;

@@ -164,8 +164,8 @@ fn next_from(
     }
 }
 
-// The highest variable of the translation's formula and of the formulas of its swaps.
-fn all_vars(translation: &Translation) -> u32
+/// The highest variable of the translation's formula and of the formulas of its swaps.
+pub fn all_vars(translation: &Translation) -> u32
     ensures { result < 2 ^ 31 }
 {
     let _ = translation.problem(); // for the proof
@@ -195,8 +195,9 @@ fn next_of(found: Found, parts: Vec<Part>, copies: Vec<Scenario>) -> NextAt
     }
 }
 
-// The proof of an end that a search makes whose log ends with the empty clause.
-fn proof_of(
+/// The proof of an end that a search makes whose log ends with the empty clause: what was imported, the scenarios that were blocked,
+/// and the log. The error comes only for want of memory.
+pub fn proof_of(
     alloc: Global,
     pool: &Log,
     blocked: Vec<Scenario>,
@@ -212,8 +213,8 @@ fn proof_of(
     Ok(EndProof::of(alloc, imported, Scenarios::of(blocked), steps, log)?)
 }
 
-// Equal scenarios: the first ones, and then the second.
-fn joined(
+/// Equal scenarios: the first ones, and then the second. The error comes only for want of memory.
+pub fn joined(
     alloc: Global,
     first: &[Scenario],
     second: &[Scenario],

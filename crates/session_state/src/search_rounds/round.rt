@@ -22,7 +22,7 @@ use translation::Translation;
 
 /// What a round comes to, with its parts in order.
 #[derive(Drop)]
-pub(crate) enum RoundEnd {
+pub enum RoundEnd {
     /// A scenario that is due at the floor and was not shown.
     Due {
         scenario: Scenario,
@@ -44,9 +44,11 @@ pub(crate) enum RoundEnd {
     },
 }
 
-/// Searches at a floor, with all that was shown and more scenarios blocked, and goes down from what was found. The trail of descents
-/// serves again afterwards.
-pub(crate) fn round_at(
+/// Searches at a floor, with all that was shown and more scenarios blocked, and goes down from what was found. Searches begin from
+/// one trail of the translation's formula, and descents are made on another one, which serves again afterwards. The pool is an
+/// accepted log over the translation's clauses, of at most 20,000 steps. The round takes at most `budget` novel steps, and exactly
+/// so many where it answers `Spent`. The error comes only for want of memory.
+pub fn round_at(
     alloc: Global,
     translation: &Translation,
     base: &Trail,

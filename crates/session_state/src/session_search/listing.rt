@@ -6,8 +6,8 @@ ghost use Rattle.session_state.specs.Sessions.Listed.{AreInOrder, comes_first};
 use rel_formula::Scenario;
 use std::alloc::{AllocError, Global};
 
-/// Copies of distinct scenarios, the earlier ones first.
-pub(crate) fn in_order(alloc: Global, scenarios: &[Scenario]) -> Result<Vec<Scenario>, AllocError>
+/// Copies of distinct scenarios, the earlier ones first. The error comes only for want of memory.
+pub fn in_order(alloc: Global, scenarios: &[Scenario]) -> Result<Vec<Scenario>, AllocError>
     requires { AllPairs (λ x y. x ≢ y) scenarios.now }
     ensures { IfOk result (λ listed. AreInOrder scenarios.now listed.items) }
 {

@@ -1,0 +1,126 @@
+// One round of a worker.
+ghost use Rattle.std.specs.Prelude.{◌≡◌, ◌≤◌, ◌+◌, [], length, IfOk, OnOk};
+ghost use Rattle.session_state.specs.Rounds.Rounds.{parts_in, IsRoundAt, IsRightRound};
+ghost use Rattle.crew_run.specs.Searching.{IsSearcher, IsReadable, IsEventOf};
+
+use crate::event::CrewEvent;
+use crate::leaning::leaning_of;
+use crate::reading::Reading;
+use refutation_check::{Log, Part};
+use rel_formula::Scenario;
+use sat_core::{SavedPhases, Trail};
+use session_rules::Parts;
+use session_rules::laws::a_refuting_part_makes_a_proof;
+use session_state::search_rounds::{RoundEnd, all_vars, joined, proof_of, round_at};
+use std::alloc::{AllocError, Global};
+use translation::Translation;
+
+/// What the searches of a worker need: trails of the translation's formula, one from which they begin and one for descents, no
+/// imported steps, the empty floor, and the values to which they lean.
+#[derive(Drop)]
+pub(crate) struct Searcher {
+    base: Trail,
+    trail: Trail,
+    pool: Log,
+    floor: Scenario,
+    leaning: SavedPhases,
+}
+
+/// The searcher of the worker of this number, from 0.
+pub(crate) fn searcher_of(
+    alloc: Global,
+    translation: &Translation,
+    worker: u32,
+) -> Result<Searcher, AllocError>
+    ensures { IfOk result (IsSearcher translation.now) }
+{
+    let base = Trail::over(alloc, translation.cnf(), all_vars(translation))?;
+    let trail = base.copy(alloc)?;
+    let leaning = leaning_of(alloc, worker, translation.problem().cells())?;
+    Ok(Searcher {
+        base,
+        trail,
+        pool: Log::new(alloc),
+        floor: Scenario::new(alloc),
+        leaning,
+    })
+}
+
+impl Searcher {
+    // What one round comes to, with all that was read of the journal blocked.
+    pub(crate) fn event(
+        &mut self,
+        alloc: Global,
+        translation: &Translation,
+        reading: &Reading,
+        budget: u64,
+    ) -> Result<CrewEvent, AllocError>
+        requires searcher { IsSearcher translation.now self.old }
+        requires read { IsReadable translation.now reading.now }
+        requires budget { budget ≤ 100000000 }
+        ensures searcher { OnOk result (IsSearcher translation.now self.new) }
+        ensures event { IfOk result (IsEventOf translation.now budget reading.now) }
+    {
+        let end = round_at(
+            alloc,
+            translation,
+            &self.base,
+            &mut self.trail,
+            &self.pool,
+            &self.floor,
+            reading.found.as_slice(),
+            reading.told.as_slice(),
+            budget,
+            &mut self.leaning,
+        )?;
+        event_of(alloc, translation, reading, budget, end)
+    }
+}
+
+// The event of a round that came to this end.
+fn event_of(
+    alloc: Global,
+    translation: &Translation,
+    reading: &Reading,
+    budget: u64,
+    end: RoundEnd,
+) -> Result<CrewEvent, AllocError>
+    requires few { length reading.now.told.items + budget ≤ 200000000 }
+    requires parts { IsRoundAt translation.now [] [] reading.now.told.items budget (parts_in end) }
+    requires right { IsRightRound translation.now [] [] reading.now.found.items reading.now.told.items budget end }
+    ensures { IfOk result (IsEventOf translation.now budget reading.now) }
+{
+    a_refuting_part_makes_a_proof();
+    match end {
+        RoundEnd::Due { scenario, parts: _ } => Ok(CrewEvent::Found(scenario)),
+        RoundEnd::Copy {
+            scenario,
+            parts: _,
+            left: _,
+        } => Ok(CrewEvent::Copy(scenario)),
+        RoundEnd::Refuted { part } => ended(alloc, reading.told.as_slice(), &part),
+        RoundEnd::Spent { parts } => gave_up(reading.read, parts),
+    }
+}
+
+// The end that a refuting search makes.
+fn ended(alloc: Global, told: &[Scenario], part: &Part) -> Result<CrewEvent, AllocError>
+    requires { length told.now + length part.now.log ≤ 210000000 }
+    ensures { IfOk result (λ event. event ≡ CrewEvent.Ended (record { imported = 0; blocked = told.now; pool = []; log = part.now.log })) }
+{
+    let pool = Log::new(alloc);
+    let blocked = joined(alloc, told, &[])?;
+    let proof = proof_of(alloc, &pool, blocked, part)?;
+    Ok(CrewEvent::Ended(proof))
+}
+
+// That a round with these parts spent the budget. A journal that is too long to be counted is want of memory.
+fn gave_up(read: usize, parts: Vec<Part>) -> Result<CrewEvent, AllocError>
+    ensures { IfOk result (λ event. event ≡ CrewEvent.GaveUp read parts.items) }
+{
+    let Ok(read) = u32::try_from(read) else {
+        return Err(AllocError);
+    };
+    let parts = Parts::of(parts);
+    Ok(CrewEvent::GaveUp { read, parts })
+}
