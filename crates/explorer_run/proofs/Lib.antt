@@ -1,3 +1,7 @@
-pub mod Stepping
-pub mod ShownScenarios
-pub mod Transcribed
+pub mod Places
+pub mod Rooted
+pub mod Seating
+pub mod Gathering
+pub mod InOrder
+pub mod Whole
+pub mod BetweenThreads

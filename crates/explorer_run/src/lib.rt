@@ -1,9 +1,14 @@
-//! Sessions of scripts, served to their ends: each command is answered as the session machine may, over the translation of the
-//! session's problem.
+//! The explorer: sessions over a hub that they share, each on one of several worker threads. Whatever their number and the order of
+//! their turns, one journal tells what each session did.
 #![tactic(auto)]
 
-mod serving;
-mod showing;
-mod steps;
+mod calls;
+mod publishing;
+mod seats;
+mod sessions;
+mod workers;
 
-pub use crate::serving::{answer, serve};
+pub use crate::calls::Explorer;
+pub use crate::sessions::{Served, serve_sessions};
+pub use hub_lock::{Gate, OpenGate};
+pub use session_rules::{SessionScript, Transcript};

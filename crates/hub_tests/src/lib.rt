@@ -4,6 +4,10 @@
 #[cfg(test)]
 mod of_clause_pool;
 #[cfg(test)]
+mod of_crew_run;
+#[cfg(test)]
+mod of_explorer_run;
+#[cfg(test)]
 mod of_hub_lock;
 #[cfg(test)]
 mod of_hub_state;
@@ -13,3 +17,5 @@ mod of_hub_turns;
 mod of_journal_rules;
 #[cfg(test)]
 mod of_session_turns;
+#[cfg(test)]
+mod of_whole_sessions;

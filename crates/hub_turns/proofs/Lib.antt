@@ -1,4 +1,5 @@
 pub mod OwnEntries
+pub mod Staying
 pub mod BackedRuns
 pub mod Grouping
 pub mod Going

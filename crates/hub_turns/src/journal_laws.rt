@@ -16,6 +16,7 @@ ghost use Rattle.hub_state.specs.Journal.Journal.{HasImported, IsPublished, exch
 ghost use Rattle.hub_state.specs.Journal.Told.{IsTold};
 ghost use Rattle.hub_turns.specs.Backed.{AreBacked};
 ghost use Rattle.hub_turns.specs.Groups.{notes_of, AreGroups};
+ghost use Rattle.hub_turns.specs.Interleaved.{IsServedBy};
 
 /// What was published is the translation of the key's problem, and stands for it.
 pub fn what_was_published_stands()
@@ -59,4 +60,11 @@ pub fn a_told_session_is_backed()
     ensures { (problems : List Bounded) (journal : List Noted) → IsLegal problems journal
         → (number key budget : ℕ) (commands : List CommandType) (replies : List ReplyType) (floors : List (List ℕ)) → (told : IsTold problems journal number key budget commands replies floors)
         → (t : Translated) → IsPublished journal key t → AreBacked t (Start budget) told.exchanges }
+{}
+
+/// What a session did stays, whatever others add.
+pub fn what_a_session_did_stays()
+    ensures { (problems : List Bounded) (seen journal : List Noted) (t : Translated) (number key budget : ℕ) (commands : List CommandType) (replies : List ReplyType) (floors : List (List ℕ))
+        → IsPrefix seen journal → of_pass (λ x. x.by) number journal ≡ of_pass (λ x. x.by) number seen
+        → IsServedBy problems seen t number key budget commands replies floors → IsServedBy problems journal t number key budget commands replies floors }
 {}

@@ -22,8 +22,8 @@ use Rattle.session_rules.specs.declared.answers.Reply.TheVariants.{End, Refused,
 use Rattle.session_rules.proofs.Runs.{states_join, runs_joined}
 use Rattle.session_state.specs.Sessions.Fits.{InSession}
 use Rattle.session_state.specs.Sessions.Proposed.{Proposed, IsProposal, IsPlainProposal, NeedsTranslation}
-use Rattle.explorer_run.specs.Serving.{IsOn}
-use Rattle.explorer_run.proofs.Stepping.{on_wider, plain_ok}
+use Rattle.session_turns.specs.Serving.{IsOn}
+use Rattle.session_turns.proofs.Stepping.{on_wider, plain_ok}
 use Rattle.hub_state.specs.Journal.Noted.{Note, Noted, Imported, Shared, Opened, Recorded}
 use Rattle.hub_state.specs.Journal.Journal.{HasImported, IsReplay, IsPublished, exchanges_of, recorded_in}
 use Rattle.hub_turns.specs.Groups.{AreShared, IsSearch, IsBeforeRecord, IsGroupOf, IsGroup, AreGroups, SharesItsSteps, SharesItsProof}

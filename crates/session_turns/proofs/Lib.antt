@@ -1,5 +1,9 @@
+pub mod Transcribed
+pub mod Stepping
+pub mod ShownScenarios
 pub mod Turning
 pub mod ProofSharing
 pub mod Answering
 pub mod ShownTogether
 pub mod SessionStart
+pub mod SoFar

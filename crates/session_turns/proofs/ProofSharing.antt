@@ -1,5 +1,5 @@
 -- A session shares the free steps of a proof before it records it.
-use Rattle.std.proofs.Common.{◌≡◌, ◌≢◌, ◌⊎◌, inl, inr, ◌==◌, ℕ, List, [], ◌∷◌, ◌++◌, map, All, Contains, append_assoc, refl, sym, ◌∙◌, ap, subst, arith, cond, Bool}
+use Rattle.std.proofs.Common.{◌≡◌, ◌≢◌, inl, inr, ◌==◌, ℕ, List, [], ◌∷◌, ◌++◌, map, All, Contains, append_assoc, refl, sym, ◌∙◌, ap, subst, arith, cond, Bool}
 use Rattle.std.proofs.lemmas.Bool.{eq-eqb}
 use Rattle.std.proofs.lemmas.List.Elements.{All-contains, Contains-push, Contains-append_right, filter-append}
 use Rattle.atomic_table.specs.Seated.{TableId}
@@ -27,6 +27,7 @@ use Rattle.hub_turns.specs.Groups.{SharesItsSteps, SharesItsProof}
 use Rattle.hub_turns.specs.Interleaved.{SharesItsProofs}
 use Rattle.hub_state.proofs.Journal.Replays.{one_replay}
 use Rattle.hub_turns.proofs.OwnEntries.{no_own, replay_grows}
+use Rattle.hub_turns.proofs.Staying.{split_cases}
 use Rattle.hub_turns.specs.Turned.{IsIdle, WentOn}
 use Rattle.session_turns.specs.Added.{HasAddedAll}
 use Rattle.hub_turns.proofs.Onward.{same_problems}
@@ -60,16 +61,6 @@ module _ (journal : List Noted) (by key : ℕ) (t : Translated) (one : OneFloor 
   proof_shared step reply evidence rests proof local makes = absurd makes
 
 -- ---- where an entry stands
-
-split_cases : {X : Type 0} (xs rest before : List X) (x : X) (later : List X) → xs ++ rest ≡ before ++ x ∷ later → ((l : List X) × (xs ≡ before ++ x ∷ l)) ⊎ ((mid : List X) × (before ≡ xs ++ mid) × (rest ≡ mid ++ x ∷ later))
-split_cases [] rest before x later e = inr (before, refl, e)
-split_cases (y ∷ ys) rest [] x later e = let same : y ≡ x = cc in inl (ys, ap (λ z. z ∷ ys) same)
-split_cases (y ∷ ys) rest (b ∷ bs) x later e =
-    let same : y ≡ b = cc in
-    elim (split_cases ys rest bs x later cc) [
-      | inl old ↦ inl (old.0, ap (λ z. z ∷ ys) same ∙ ap (λ zs. b ∷ zs) old.1)
-      | inr new ↦ inr (new.0, ap (λ z. z ∷ bs) (sym same) ∙ ap (λ zs. y ∷ zs) new.1, new.2)
-    ]
 
 only_element : {X : Type 0} (xs ys : List X) (x y : X) → xs ++ x ∷ ys ≡ y ∷ [] → (xs ≡ []) × (x ≡ y)
 only_element [] ys x y e = (refl, cc)

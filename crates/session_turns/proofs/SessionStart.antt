@@ -9,7 +9,7 @@ use Rattle.translation_rules.specs.Translation.{Translated, StandsFor}
 use Rattle.session_rules.specs.States.{State, Start}
 use Rattle.session_rules.specs.Steps.{Exchange, MachineRun, state_after}
 use Rattle.session_state.specs.Sessions.Fits.{InSession, FitsProblem}
-use Rattle.explorer_run.specs.Serving.{IsEndProof}
+use Rattle.session_turns.specs.Serving.{IsEndProof}
 use Rattle.hub_state.specs.Journal.Noted.{Noted, Opened, Recorded}
 use Rattle.hub_state.specs.Journal.Journal.{IsPublished, IsReplay, IsLegal, exchanges_of}
 use Rattle.hub_turns.specs.Interleaved.{SharesItsProofs}

@@ -14,22 +14,14 @@ use Rattle.session_rules.specs.declared.answers.Reply.{Reply}
 use Rattle.session_rules.specs.declared.answers.Reply.TheVariants as reply
 use Rattle.session_rules.proofs.Runs.{states_join, runs_joined}
 use Rattle.session_state.specs.Sessions.Fits.{InSession}
-use Rattle.explorer_run.specs.Showing.{next_number, IsFirst}
-use Rattle.explorer_run.proofs.ShownScenarios.{shown_none, shown_one, number_is}
+use Rattle.session_turns.specs.Showing.{next_number, IsFirst}
+use Rattle.session_turns.proofs.ShownScenarios.{asked, showings_more, shown_none, shown_one, number_is}
 use Rattle.hub_state.specs.Journal.Noted.{Note}
 use Rattle.hub_turns.specs.Groups.{IsGroup, AreGroups}
 use Rattle.hub_turns.proofs.Grouping.{groups_join}
 use Rattle.session_turns.specs.Added.{HasAddedAll, HasAnswered, HasServed, HasShownAll}
 use Rattle.session_turns.proofs.Turning.{Seen, added_none, added_then}
 use Rattle.session_turns.proofs.Answering.{one_group}
-
-abbrev asked : Reply → Exchange
-asked r = record { step = step.Next; reply = r }
-
-showings_more : (first : ℕ) (ss : List (List ℕ)) (s : List ℕ) → showings first (ss ++ s ∷ []) ≡ showings first ss ++ asked (reply.Shown (first + length ss) s) ∷ []
-showings_more first [] s = ap (λ n. asked (reply.Shown n s) ∷ []) (omega arith)
-showings_more first (x ∷ xs) s =
-    ap (λ (es : List Exchange). asked (reply.Shown first x) ∷ es) (showings_more (first + 1) xs s ∙ ap (λ n. showings (first + 1) xs ++ asked (reply.Shown n s) ∷ []) (omega arith))
 
 pub shown_all_none : (t : Translated) (p : Seen) (x : InSession) → HasShownAll t p p x x []
 shown_all_none t p x = record { shown = shown_none t.problem x.kept.state; notes = []; added = added_none p p refl; groups = refl }

@@ -14,7 +14,7 @@ use Rattle.session_rules.specs.declared.answers.Reply.{Reply}
 use Rattle.session_rules.specs.declared.answers.Reply.TheVariants.{Memory}
 use Rattle.session_state.specs.Sessions.Fits.{InSession}
 use Rattle.session_state.specs.Sessions.Proposed.{Proposed, IsProposal}
-use Rattle.explorer_run.specs.Showing.{HasShown, next_number}
+use Rattle.session_turns.specs.Showing.{HasShown, next_number}
 use Rattle.hub_state.specs.Journal.Noted.{Note, Noted, Recorded}
 use Rattle.hub_state.specs.Journal.Journal.{HasImported}
 use Rattle.hub_turns.specs.Groups.{IsBeforeRecord, IsGroup, AreGroups, SharesItsProof}

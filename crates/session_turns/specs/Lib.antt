@@ -1,2 +1,5 @@
+pub mod Serving
+pub mod Showing
 pub mod Seated
 pub mod Added
+pub mod Served

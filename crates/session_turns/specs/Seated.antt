@@ -5,7 +5,7 @@ use Rattle.hub_lock.specs.Passes.{PassView}
 use Rattle.rel_formula.specs.Bounds.{Bounded}
 use Rattle.translation_rules.specs.Translation.{Translated}
 use Rattle.session_state.specs.Sessions.Fits.{InSession}
-use Rattle.explorer_run.specs.Serving.{IsOn}
+use Rattle.session_turns.specs.Serving.{IsOn}
 use Rattle.hub_state.specs.Journal.Noted.{Noted}
 use Rattle.hub_state.specs.Journal.Journal.{IsPublished, IsReplay}
 use Rattle.hub_turns.specs.Interleaved.{SharesItsProofs}

@@ -3,7 +3,7 @@ ghost use Rattle.std.specs.Prelude.{◌≡◌, ◌≤◌, ◌+◌, ℕ};
 ghost use Rattle.script_format.specs.Limits.{IsAllowed};
 ghost use Rattle.script_format.specs.Reading.{asks};
 ghost use Rattle.session_rules.specs.States.{top_floor};
-ghost use Rattle.explorer_run.specs.Serving.{IsPrintable};
+ghost use Rattle.session_turns.specs.Serving.{IsPrintable};
 ghost use Rattle.hub_turns.specs.Turned.{WentOn};
 ghost use Rattle.session_turns.specs.Added.{HasServed};
 ghost use Rattle.session_turns.specs.Seated.{IsSeated};

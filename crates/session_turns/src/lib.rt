@@ -4,6 +4,7 @@
 
 mod commands;
 mod opening;
+mod serving;
 mod settling;
 mod sharing;
 mod showing;
@@ -11,3 +12,4 @@ mod steps;
 
 pub use crate::commands::command;
 pub use crate::opening::open_session;
+pub use crate::serving::serve_session;

@@ -7,6 +7,7 @@ ghost use Rattle.hub_state.specs.Journal.Journal.{IsPublished};
 ghost use Rattle.hub_state.specs.HubView.{HasTranslation};
 ghost use Rattle.hub_turns.specs.Turned.{IsIdle, WentOn, HasAdded};
 ghost use Rattle.session_turns.specs.Seated.{IsSeated};
+ghost use Rattle.session_turns.specs.Served.{IsOpened};
 
 use hub_lock::{Pass, Turns};
 use hub_state::Hub;
@@ -33,6 +34,7 @@ pub fn open_session<R: Wait>(
     ensures goes { WentOn lock.now pass.old pass.new }
     ensures session { IfOk result (λ session. (session.key ≡ key) × (session.kept.state ≡ Start budget)) }
     ensures added { IfOk result (λ _. HasAdded pass.old pass.new (WasOpened key budget)) }
+    ensures opened { IfOk result (IsOpened key budget pass.new) }
     ensures seated { (t : Translated) → IsPublished pass.old.view.seen key t → IfOk result (λ session. IsSeated lock.now t 0 pass.new session) }
     ensures err { OnErr result (pass.new.view.own ≡ pass.old.view.own) }
 {

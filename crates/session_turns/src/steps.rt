@@ -6,7 +6,7 @@ ghost use Rattle.session_words.specs.declared.commands.Command.TheVariants.{Step
 ghost use Rattle.session_rules.specs.States.{top_floor};
 ghost use Rattle.session_state.specs.Sessions.Fits.{FitsProblem};
 ghost use Rattle.session_state.specs.Sessions.Proposed.{NeedsTranslation};
-ghost use Rattle.explorer_run.specs.Serving.{IsPrintable};
+ghost use Rattle.session_turns.specs.Serving.{IsPrintable};
 ghost use Rattle.hub_state.specs.Journal.Journal.{IsPublished};
 ghost use Rattle.hub_turns.specs.Turned.{IsIdle, WentOn};
 ghost use Rattle.session_turns.specs.Added.{HasBegun, HasProposed, HasAnswered};

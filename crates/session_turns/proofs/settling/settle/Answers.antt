@@ -1,7 +1,7 @@
 use Rattle.std.proofs.Common.{inl, inr, refl, sym, ◌∙◌, ap, subst}
 use Rattle.session_rules.specs.States.{State, after}
 use Rattle.session_state.specs.Sessions.Proposed.{IsProposal}
-use Rattle.explorer_run.proofs.Stepping.{fits_still}
+use Rattle.session_turns.proofs.Stepping.{fits_still}
 use Rattle.session_turns.proofs.settling.settle.Goals as goal
 
 pub returns-in-Ok-clause-settled : goal.returns-in-Ok-clause-settled

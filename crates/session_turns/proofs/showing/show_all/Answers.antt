@@ -2,9 +2,9 @@ use Rattle.std.proofs.Common.{◌≡◌, ◌+◌, ◌∙◌, ℕ, List, [], leng
 use Rattle.session_words.specs.declared.commands.Command.TheVariants.{All}
 use Rattle.session_rules.specs.States.{top_floor, shown_here}
 use Rattle.session_rules.specs.declared.answers.Reply.TheVariants.{Partly}
-use Rattle.explorer_run.specs.Serving.{IsPrintable}
-use Rattle.explorer_run.specs.Showing.{IsFirst}
-use Rattle.explorer_run.proofs.Stepping.{partly_printable}
+use Rattle.session_turns.specs.Serving.{IsPrintable}
+use Rattle.session_turns.specs.Showing.{IsFirst}
+use Rattle.session_turns.proofs.Stepping.{partly_printable}
 use Rattle.session_turns.specs.Added.{HasServed, HasShownAll}
 use Rattle.hub_turns.proofs.Onward.{went_none, went_then, same_number}
 use Rattle.session_turns.proofs.Answering.{seated_wider}

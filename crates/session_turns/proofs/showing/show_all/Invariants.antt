@@ -1,5 +1,5 @@
 use Rattle.std.proofs.Common.{◌≡◌, ◌≤◌, ◌+◌, ℕ, length, vec_len, vec_capacity}
-use Rattle.explorer_run.specs.Showing.{IsFirst}
+use Rattle.session_turns.specs.Showing.{IsFirst}
 use Rattle.hub_turns.specs.Turned.{WentOn}
 use Rattle.session_turns.specs.Added.{HasShownAll}
 use Rattle.session_turns.specs.Seated.{IsSeated}

@@ -3,10 +3,10 @@ use Rattle.session_rules.specs.States.{top_floor}
 use Rattle.session_words.specs.declared.commands.Command.TheVariants.{All}
 use Rattle.session_rules.specs.declared.answers.Reply.{Reply}
 use Rattle.session_rules.specs.declared.answers.Reply.TheVariants.{Shown, End}
-use Rattle.explorer_run.specs.Serving.{IsPrintable}
-use Rattle.explorer_run.specs.Showing.{IsFirst}
-use Rattle.explorer_run.proofs.ShownScenarios.{number_is, first_stays}
-use Rattle.explorer_run.proofs.Stepping.{list_printable}
+use Rattle.session_turns.specs.Serving.{IsPrintable}
+use Rattle.session_turns.specs.Showing.{IsFirst}
+use Rattle.session_turns.proofs.ShownScenarios.{number_is, first_stays}
+use Rattle.session_turns.proofs.Stepping.{list_printable}
 use Rattle.session_turns.specs.Added.{HasServed, HasShownAll}
 use Rattle.session_turns.proofs.Answering.{seated_wider}
 use Rattle.session_turns.proofs.ShownTogether.{shown_all_more, lists_all, ends_without_memory, comes_to_other}

@@ -3,8 +3,8 @@ use Rattle.script_format.specs.Reading.{asks_step}
 use Rattle.session_rules.specs.States.{top_floor}
 use Rattle.session_rules.specs.declared.answers.Reply.{Reply}
 use Rattle.session_state.specs.Sessions.Fits.{InSession, FitsProblem}
-use Rattle.explorer_run.specs.Serving.{IsOn, IsPrintable}
-use Rattle.explorer_run.proofs.Stepping.{printable, on_after, on_still}
+use Rattle.session_turns.specs.Serving.{IsOn, IsPrintable}
+use Rattle.session_turns.proofs.Stepping.{printable, on_after, on_still}
 use Rattle.session_turns.specs.Added.{HasProposed, HasSettled}
 use Rattle.hub_turns.proofs.Onward.{same_number, went_then}
 use Rattle.session_turns.proofs.Answering.{may_record, answered_settled, answered_cut, shares_cut, shares_settled, seated_answered}
