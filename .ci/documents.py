@@ -55,7 +55,8 @@ class Shown:
         self.base = "", ""   # the last script that was run, and its output
 
     def run(self, words, text):
-        """The output and the status of the program for these words and this input."""
+        """The output and the status of the program for these words and this input, where one worker serves all sessions."""
+        words = [*words, "--workers", "1"] if words == ["run"] else words
         done = subprocess.run([self.folder / "explore", *words], input=text.encode(), cwd=self.folder, capture_output=True)
         return done.stdout.decode(errors="replace"), done.returncode
 

@@ -22,8 +22,8 @@ def library(room):
 
 
 def ran(program, script, **more):
-    """The status and the output of a run."""
-    done = subprocess.run([program, "run"], input=script, capture_output=True, env={**os.environ, **more})
+    """The status and the output of a run by one worker: with several, requests would come in another order each time."""
+    done = subprocess.run([program, "run", "--workers", "1"], input=script, capture_output=True, env={**os.environ, **more})
     return done.returncode, done.stdout
 
 

@@ -1,7 +1,7 @@
 //! The program: it hands its words, its input and its output to the top call, and ends with the status that this gives.
 #![tactic(auto)]
 
-use explorer_cli::explore;
+use explorer_cli::{OpenGate, explore};
 use outside_io::{StdSink, StdSource};
 use std::process::ExitCode;
 use std::{env, io};
@@ -13,10 +13,10 @@ fn main(rt: HostRuntime) -> ExitCode {
     let mut source = StdSource::new(rt.reader());
     let mut sink = StdSink::new(io::writer(&rt));
     let status = match words(&rt) {
-        Ok(words) => explore(rt.alloc(), &words, &mut source, &mut sink),
+        Ok(words) => explore(&rt, rt.alloc(), &words, &mut source, &mut sink, &OpenGate),
         Err(error) if error.kind() == io::ErrorKind::OutOfMemory => NO_MEMORY,
         // A word that isn't UTF-8 is refused as any other wrong word is.
-        Err(_) => explore(rt.alloc(), &[], &mut source, &mut sink),
+        Err(_) => explore(&rt, rt.alloc(), &[], &mut source, &mut sink, &OpenGate),
     };
     tell(&rt, status);
     ExitCode::from(status)

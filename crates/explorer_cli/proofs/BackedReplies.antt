@@ -18,7 +18,8 @@ use Rattle.session_rules.specs.Steps.{MayAnswer, Exchange, MachineRun, state_aft
 use Rattle.session_rules.specs.Transcripts.{showings, Serves, IsTranscript}
 use Rattle.session_rules.specs.Proofs.{Proves, locals_for}
 use Rattle.session_rules.specs.Evidence.{NeedsEvidence, HasEvidence, IsSpentOn}
-use Rattle.explorer_run.specs.Serving.{AreBacked}
+use Rattle.hub_state.specs.Journal.Journal.{IsPool}
+use Rattle.hub_turns.specs.Backed.{AreBacked}
 use Rattle.session_rules.specs.declared.end_proof.ProofKind.TheVariants.{End}
 use Rattle.session_rules.specs.declared.answers.WorkDone.{WorkDone}
 use Rattle.session_rules.specs.declared.answers.Refusal.TheVariants.{Spent}
@@ -48,7 +49,7 @@ module _ (t : Translated) where
   IsProved x = Proves t x.floor End x.proof
 
   -- one run after the other
-  pub backed_apart : (s : State) (xs ys : List Exchange) → AreBacked t [] s (xs ++ ys) → AreBacked t [] s xs × AreBacked t [] (state_after s xs) ys
+  pub backed_apart : (s : State) (xs ys : List Exchange) → AreBacked t s (xs ++ ys) → AreBacked t s xs × AreBacked t (state_after s xs) ys
   backed_apart s [] ys backed = (tt, backed)
   backed_apart s (x ∷ xs) ys backed = let rest = backed_apart (after s x.reply) xs ys backed.1 in ((backed.0, rest.0), rest.1)
 
@@ -56,22 +57,23 @@ module _ (t : Translated) where
   ended_by s proof = record s { ended = s.ended ++ record { floor = top_floor s; proof = proof } ∷ [] }
 
   -- an end makes a proof where the floor had not ended
-  new_proof : (s : State) (x : Step) (number : ℕ) (proof : ProofOfEnd) → MayAnswer t.problem s x (reply.End number proof) → HasEvidence t [] s x (reply.End number proof) → Proves t (top_floor s) End proof
-  new_proof s step.Next number proof may e = e.proves
-  new_proof s step.Offers number proof may e = absurd may
-  new_proof s (step.Augment name names) number proof may e = absurd may
-  new_proof s step.Back number proof may e = absurd may
-  new_proof s (step.Budget budget) number proof may e = absurd may
-  new_proof s step.Proof number proof may e = absurd may
+  new_proof : (pool : List LogStep) (s : State) (x : Step) (number : ℕ) (proof : ProofOfEnd) → MayAnswer t.problem s x (reply.End number proof) → HasEvidence t pool s x (reply.End number proof) → Proves t (top_floor s) End proof
+  new_proof pool s step.Next number proof may e = e.proves
+  new_proof pool s step.Offers number proof may e = absurd may
+  new_proof pool s (step.Augment name names) number proof may e = absurd may
+  new_proof pool s step.Back number proof may e = absurd may
+  new_proof pool s (step.Budget budget) number proof may e = absurd may
+  new_proof pool s step.Proof number proof may e = absurd may
 
-  proofs_after : (s : State) (x : Step) (r : Reply) → MayAnswer t.problem s x r → (NeedsEvidence s r → HasEvidence t [] s x r) → All IsProved s.ended → All IsProved (after s r).ended
+  proofs_after : (s : State) (x : Step) (r : Reply) → MayAnswer t.problem s x r → (NeedsEvidence s r → (pool : List LogStep) × IsPool t pool × HasEvidence t pool s x r) → All IsProved s.ended → All IsProved (after s r).ended
   proofs_after s x (reply.End number proof) may evidence all =
       let at : EndedAt = record { floor = top_floor s; proof = proof } in
       let go : (b : Bool) → has_ended (top_floor s) s ≡ b → All IsProved (if b then s else ended_by s proof).ended =
       λ b. elim b as (λ b. has_ended (top_floor s) s ≡ b → All IsProved (if b then s else ended_by s proof).ended) [
         | true ↦ λ e. all
         | false ↦ λ e.
-            let new = new_proof s x number proof may (evidence (λ is. not_false (has_ended (top_floor s) s) e is)) in
+            let own = evidence (λ is. not_false (has_ended (top_floor s) s) e is) in
+            let new = new_proof own.0 s x number proof may own.2 in
             All-append IsProved s.ended (at ∷ []) all (All-cons IsProved at [] new (All-nil IsProved))
       ] in
       go (has_ended (top_floor s) s) refl
@@ -86,7 +88,7 @@ module _ (t : Translated) where
   proofs_after s x (reply.Refused refusal) may evidence all = all
   proofs_after s x reply.Memory may evidence all = all
 
-  proofs_run : (s : State) (xs : List Exchange) → MachineRun t.problem s xs → AreBacked t [] s xs → All IsProved s.ended → All IsProved (state_after s xs).ended
+  proofs_run : (s : State) (xs : List Exchange) → MachineRun t.problem s xs → AreBacked t s xs → All IsProved s.ended → All IsProved (state_after s xs).ended
   proofs_run s [] run backed all = all
   proofs_run s (x ∷ xs) run backed all = proofs_run (after s x.reply) xs run.1 backed.1 (proofs_after s x.step x.reply run.0 backed.0 all)
 
@@ -97,10 +99,10 @@ module _ (t : Translated) where
     pub command : Command
     pub exchanges : List Exchange
     pub serves : Serves t.problem state command r exchanges
-    pub backed : AreBacked t [] state exchanges
+    pub backed : AreBacked t state exchanges
     pub proofs : All IsProved state.ended
 
-  pub backed_at : (old : State) (cs : List Command) (rs : List Reply) (fs : List (List ℕ)) (xs : List Exchange) → IsTranscript t.problem old cs rs fs xs → AreBacked t [] old xs → All IsProved old.ended
+  pub backed_at : (old : State) (cs : List Command) (rs : List Reply) (fs : List (List ℕ)) (xs : List Exchange) → IsTranscript t.problem old cs rs fs xs → AreBacked t old xs → All IsProved old.ended
       → (place : ℕ) (r : Reply) (f : List ℕ) → IsReplyAt rs fs place r f → IsBackedIn r f
   backed_at old [] [] [] xs h backed all place r f at = absurd (let e = at.0 in cc)
   backed_at old [] [] (g ∷ fs) xs h backed all place r f at = absurd h
@@ -108,7 +110,7 @@ module _ (t : Translated) where
   backed_at old (c ∷ cs) [] fs xs h backed all place r f at = absurd h
   backed_at old (c ∷ cs) (y ∷ rs) [] xs h backed all place r f at = absurd h
   backed_at old (c ∷ cs) (y ∷ rs) (g ∷ fs) xs (here, later, joined, floor, serves, rest) backed all zero r f at =
-      let both = backed_apart old here later (subst (AreBacked t [] old) joined backed) in
+      let both = backed_apart old here later (subst (AreBacked t old) joined backed) in
       record {
         state = old;
         floor_is = sym floor ∙ same_floor g f at.1;
@@ -119,7 +121,7 @@ module _ (t : Translated) where
         proofs = all;
       }
   backed_at old (c ∷ cs) (y ∷ rs) (g ∷ fs) xs (here, later, joined, floor, serves, rest) backed all (suc n) r f at =
-      let both = backed_apart old here later (subst (AreBacked t [] old) joined backed) in
+      let both = backed_apart old here later (subst (AreBacked t old) joined backed) in
       backed_at (state_after old here) cs rs fs later rest both.1 (proofs_run old here serves.run both.0 all) n r f at
 
   -- ---- proofs that are asked for
@@ -143,17 +145,18 @@ module _ (t : Translated) where
 
   -- ---- budgets that are spent
 
-  -- the work of a step at this floor
+  -- the work of a step at this floor, over steps that rest on the translation alone
   abbrev pub WasSpent : WorkDone → List ℕ → Type 0
-  WasSpent done f = (old : State) × (x : Step) × (top_floor old ≡ f) × IsSpentOn t [] old x done
+  WasSpent done f = (old : State) × (x : Step) × (pool : List LogStep) × (top_floor old ≡ f) × IsPool t pool × IsSpentOn t pool old x done
 
-  spent_in : (s : State) (c : Command) (done : WorkDone) (xs : List Exchange) → Serves t.problem s c (reply.Refused (Spent done)) xs → AreBacked t [] s xs → WasSpent done (top_floor s)
-  spent_in s (command.Step x) done xs h backed = let one = subst (AreBacked t [] s) h.read backed in (s, x, refl, one.0 tt)
+  spent_in : (s : State) (c : Command) (done : WorkDone) (xs : List Exchange) → Serves t.problem s c (reply.Refused (Spent done)) xs → AreBacked t s xs → WasSpent done (top_floor s)
+  spent_in s (command.Step x) done xs h backed = let one = subst (AreBacked t s) h.read backed in let own = one.0 tt in (s, x, own.0, refl, own.1, own.2)
   spent_in s (command.All n) done xs h backed =
       let last : Exchange = record { step = step.Next; reply = reply.Refused (Spent done) } in
       let before = showings h.read.first h.read.scenarios in
-      let both = backed_apart s before (last ∷ []) (subst (AreBacked t [] s) h.read.exchanges backed) in
-      (state_after s before, step.Next, top_showings s h.read.first h.read.scenarios, both.1.0 tt)
+      let both = backed_apart s before (last ∷ []) (subst (AreBacked t s) h.read.exchanges backed) in
+      let own = both.1.0 tt in
+      (state_after s before, step.Next, own.0, top_showings s h.read.first h.read.scenarios, own.1, own.2)
 
   pub spent_at : (done : WorkDone) (f : List ℕ) → IsBackedIn (reply.Refused (Spent done)) f → WasSpent done f
   spent_at done f b = subst (WasSpent done) b.floor_is (spent_in b.state b.command done b.exchanges b.serves b.backed)
@@ -221,7 +224,7 @@ module _ (t : Translated) where
       (proves.refutation, refuted (clauses_of_proof t f End proof) (log_of_proof t f End proof) proves.refutation, (locals_for t f End proof.blocked, refl), checkable.accepted)
 
   pub right_print : ((clauses : List (List Lit)) (steps : List LogStep) → IsRefutation clauses steps → (v : ℕ → Bool) → ¬ Satisfies v clauses) → (old : State) (cs : List Command) (rs : List Reply) (fs : List (List ℕ)) (xs : List Exchange)
-      → IsTranscript t.problem old cs rs fs xs → AreBacked t [] old xs → All IsProved old.ended → AllZip (PrintsCheckableProof t) fs rs
+      → IsTranscript t.problem old cs rs fs xs → AreBacked t old xs → All IsProved old.ended → AllZip (PrintsCheckableProof t) fs rs
       → (place : ℕ) (clauses : List (List Lit)) (log : List LogStep) → IsPrintedAt rs fs place (proved clauses log) → IsRightProof clauses log
   right_print refuted old cs rs fs xs run backed all checkable place clauses log h =
       let is = printed_proof h.floor h.reply clauses log h.is in

@@ -1,29 +1,29 @@
--- The command that the words say, its budget, and the statuses of its answers.
+-- The command that the words say, its numbers, and the statuses of its answers.
 use Rattle.std.proofs.Common.{◌≡◌, ◌≤◌, ◌⊎◌, inl, inr, ℕ, List, Option, Some, None, subst, arith}
 use Rattle.std.specs.Prelude.{IfSome, IfNone}
 use Rattle.command_words.specs.declared.reading.Command.{Command}
 use Rattle.command_words.specs.declared.reading.Command.TheVariants.{Run, Distinct, Check, Assert, Facts}
 use Rattle.command_words.specs.Words.{Says, SaysNone, AreOptions, IsBudgetAlone}
-use Rattle.explorer_cli.specs.Outcome.{HasBudgetInRange, HasFailed, IsStatusOf, IsStatus}
+use Rattle.explorer_cli.specs.Outcome.{HasNumbersInRange, HasFailed, IsStatusOf, IsStatus}
 
--- the budget of the words is at most 100,000
-few_of_options : (words : List (List ℕ)) (workers budget : ℕ) → AreOptions words workers budget → budget ≤ 100000
-few_of_options words workers budget (inl none) = let e = none.2 in omega arith
-few_of_options words workers budget (inr (inl one)) = let e = one.1 in omega arith
-few_of_options words workers budget (inr (inr (inl one))) = one.0.most
-few_of_options words workers budget (inr (inr (inr (inl both)))) = both.second.most
-few_of_options words workers budget (inr (inr (inr (inr both)))) = both.first.most
+-- the numbers of the words
+numbers_of_options : (words : List (List ℕ)) (workers budget : ℕ) → AreOptions words workers budget → (1 ≤ workers) × (workers ≤ 16) × (budget ≤ 100000)
+numbers_of_options words workers budget (inl none) = let w = none.1 in let b = none.2 in (omega arith, omega arith, omega arith)
+numbers_of_options words workers budget (inr (inl one)) = let b = one.1 in (one.0.least, one.0.most, omega arith)
+numbers_of_options words workers budget (inr (inr (inl one))) = let w = one.1 in (omega arith, omega arith, one.0.most)
+numbers_of_options words workers budget (inr (inr (inr (inl both)))) = (both.first.least, both.first.most, both.second.most)
+numbers_of_options words workers budget (inr (inr (inr (inr both)))) = (both.second.least, both.second.most, both.first.most)
 
 few_alone : (words : List (List ℕ)) (budget : ℕ) → IsBudgetAlone words budget → budget ≤ 100000
 few_alone words budget (inl none) = let e = none.1 in omega arith
 few_alone words budget (inr one) = one.most
 
-pub budget_in_range : (words : List (List ℕ)) (command : Command) → Says words command → HasBudgetInRange command
-budget_in_range words (Run workers budget) says = few_of_options says.0 workers budget says.2
-budget_in_range words (Distinct workers budget) says = few_of_options says.0 workers budget says.2
-budget_in_range words Check says = tt
-budget_in_range words (Assert budget) says = few_alone says.0 budget says.2
-budget_in_range words (Facts budget) says = few_alone says.0 budget says.2
+pub numbers_in_range : (words : List (List ℕ)) (command : Command) → Says words command → HasNumbersInRange command
+numbers_in_range words (Run workers budget) says = numbers_of_options says.0 workers budget says.2
+numbers_in_range words (Distinct workers budget) says = numbers_of_options says.0 workers budget says.2
+numbers_in_range words Check says = tt
+numbers_in_range words (Assert budget) says = few_alone says.0 budget says.2
+numbers_in_range words (Facts budget) says = few_alone says.0 budget says.2
 
 -- what is answered of the words, where the answer is known
 pub some_said : (words : List (List ℕ)) (said : Option Command) (command : Command) → said ≡ Some command → IfSome said (Says words) → Says words command

@@ -2,13 +2,17 @@ pub mod AnswersBy
 pub mod BackedReplies
 pub mod ClassedReplies
 pub mod Commands
+pub mod FewCommands
 pub mod FloorsBehind
 pub mod Fronts
+pub mod KeyedProblems
 pub mod OneOutput
 pub mod Problems
 pub mod ProperReplies
 pub mod Replied
 pub mod ReportAnswers
+pub mod RunsTogether
+pub mod Servables
 pub mod ServedOutputs
 pub mod ShowingReplies
 pub mod Statuses

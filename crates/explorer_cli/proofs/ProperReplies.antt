@@ -43,7 +43,7 @@ use Rattle.script_text.specs.Printable.{IsWritable, IsSmallStep, IsProper, MayPr
 use Rattle.script_text.specs.Proofs.Printed.{clauses_of_proof, log_of_proof}
 use Rattle.script_text.specs.Replies.{PrintedSession, PrintsCheckableProof}
 use Rattle.script_text.proofs.Cuts.{digits_written}
-use Rattle.explorer_run.proofs.Stepping.{shows_few}
+use Rattle.session_turns.proofs.Stepping.{shows_few}
 use Rattle.explorer_cli.specs.Runs.{IsProblemAt, Translations, IsRunAmong}
 use Rattle.explorer_cli.proofs.Problems.{OneProblem, one_problem_at}
 use Rattle.explorer_cli.proofs.ShowingReplies.{reached_on, showings_here}

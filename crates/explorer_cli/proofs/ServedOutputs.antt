@@ -1,115 +1,109 @@
--- The texts of sessions, one session more; and on the problems of models.
-use Rattle.std.proofs.Common.{◌≡◌, ℕ, ◌+◌, ◌<◌, ◌≤◌, List, [], ◌∷◌, ◌++◌, length, take, get_or, All, Some, refl, sym, ap, subst, ◌∙◌, append-nil, append_assoc}
+-- The texts of sessions, one session more; and the runs that they tell.
+use Rattle.std.proofs.Common.{◌≡◌, ℕ, zero, suc, ◌+◌, ◌<◌, ◌≤◌, List, [], ◌∷◌, ◌++◌, length, take, get_or, All, Some, refl, sym, ap, subst, ◌∙◌, arith, add-one, append-nil, append_assoc}
+use Rattle.std.specs.Prelude.{slice_get}
 use Rattle.std.specs.Global.{Vec}
-use Rattle.std.specs.List.{AllZip}
-use Rattle.std.proofs.lemmas.List.{take_more}
-use Rattle.std.proofs.lemmas.List.Elements.{All-nil, All-cons}
-use Rattle.translation_rules.specs.Translation.{Translated}
-use Rattle.translation.specs.Kept.{IsTranslation}
+use Rattle.std.specs.List.{AllZip, AllByRecursion}
+use Rattle.std.specs.declared.sync.Arc.{Arc}
+use Rattle.std.proofs.lemmas.List.{length-map, get_or-map}
+use Rattle.std.proofs.lemmas.Option.{get_or_from_slice_get, slice_get_within}
+use Rattle.std.proofs.lemmas.List.Elements.{All-nil, All-cons, recursion_from_All}
+use Rattle.rel_formula.specs.Bounds.{Bounded}
+use Rattle.translation_rules.specs.Translation.{Translated, StandsFor}
 use Rattle.session_words.specs.declared.commands.Command.{Command}
 use Rattle.session_rules.specs.States.{Start}
-use Rattle.session_rules.specs.Steps.{Exchange}
 use Rattle.session_rules.specs.Transcripts.{IsTranscript}
 use Rattle.session_rules.specs.declared.answers.Reply.{Reply}
+use Rattle.session_rules.specs.declared.script.SessionScript.{SessionScript}
+use Rattle.session_rules.specs.declared.script.Transcript.{Transcript}
 use Rattle.script_format.specs.declared.entries.Script.{Script}
 use Rattle.script_format.specs.declared.entries.ModelEntry.{ModelEntry}
 use Rattle.script_format.specs.declared.entries.SessionEntry.{SessionEntry}
 use Rattle.script_text.specs.Limits.{most_output}
 use Rattle.script_text.specs.Printed.{all_printed}
-use Rattle.script_text.specs.Replies.{PrintedSession, NamesCellsOf, PrintsRightProof, PrintsCheckableProof, IsOutput}
-use Rattle.explorer_run.specs.Serving.{AreBacked, IsPrintable}
+use Rattle.script_text.specs.Replies.{PrintedSession, NamesCellsOf, PrintsRightProof, IsOutput}
+use Rattle.hub_state.specs.Journal.Noted.{Noted}
+use Rattle.hub_state.specs.Journal.Journal.{IsPublished, IsLegal}
+use Rattle.hub_state.specs.Journal.Told.{IsTold}
+use Rattle.hub_turns.specs.Backed.{AreBacked}
+use Rattle.hub_turns.specs.Interleaved.{IsServedBy, IsInterleaving}
+use Rattle.session_turns.specs.Serving.{IsPrintable}
+use Rattle.session_turns.specs.Served.{IsServedScript}
+use Rattle.explorer_run.specs.Served.{AreServedFrom, values_of, translations_of}
 use Rattle.named_model.specs.Model.{NamedTree}
 use Rattle.served_models.specs.declared.purposes.Purpose.{Purpose}
 use Rattle.served_models.specs.declared.purposes.Purpose.TheVariants.{Lists, Classes}
 use Rattle.served_models.specs.declared.commands.ServedCommand.{ServedCommand}
-use Rattle.served_models.specs.Served.{AreUsed}
-use Rattle.explorer_cli.specs.Runs.{IsRunOn, IsProblemAt, IsRunAmong, IsServedAt}
-use Rattle.explorer_cli.specs.Classes.{AreClassedRuns, IsToldText, IsRunText, IsServedText, AreServedTexts}
+use Rattle.served_models.specs.Served.{AreUsed, AreAllMade}
+use Rattle.explorer_cli.specs.declared.sessions.Ran.{Ran}
+use Rattle.explorer_cli.specs.Runs.{IsRunOn, IsProblemAt, Translations, IsRunAmong, Together, TellsRun, TellsRuns, IsServed}
+use Rattle.explorer_cli.specs.Keys.{problems_of, key_of, IsScriptOf, WereServed}
+use Rattle.explorer_cli.specs.Classes.{AreClassedRuns, IsToldText, IsTranscriptText, AreTranscriptTexts}
 use Rattle.explorer_cli.specs.Outcome.{AreToldRuns, WritesRuns}
-use Rattle.explorer_cli.proofs.Usables.{problem_at, translation_of, translation_there}
+use Rattle.explorer_cli.proofs.KeyedProblems.{problem_there}
+use Rattle.explorer_cli.proofs.Usables.{problem_at}
 
--- ---- the texts of sessions, one session more
+-- ---- the texts of transcripts, one transcript more
 
-texts_push : (purpose : Purpose) (budget : ℕ) (ts : List (Vec ServedCommand)) (sessions : List SessionEntry) (x : SessionEntry) (text lines : List ℕ)
-    → AreServedTexts purpose budget ts sessions text → IsServedText purpose budget ts x lines → AreServedTexts purpose budget ts (sessions ++ x ∷ []) (text ++ lines)
-texts_push purpose budget ts [] x text lines e is = (lines, [], is, refl, ap (λ (t : List ℕ). t ++ lines) e ∙ sym (append-nil lines))
-texts_push purpose budget ts (y ∷ ys) x text lines h is =
-    (h.0, h.1 ++ lines, h.2, texts_push purpose budget ts ys x h.1 lines h.3 is, ap (λ (t : List ℕ). t ++ lines) h.4 ∙ append_assoc h.0 h.1 lines)
+-- the text of a transcript over the translation of a key
+abbrev IsTextAt : Purpose → List Translated → SessionScript → Transcript → List ℕ → Type 0
+IsTextAt purpose ts x y text = (t : Translated) × (slice_get ts x.key ≡ Some t) × IsTranscriptText purpose t x.name y text
 
--- the turn of the loop that serves sessions
-pub texts_more : (purpose : Purpose) (budget : ℕ) (sessions : List SessionEntry) (ts : List (Vec ServedCommand)) (i : ℕ) (x : SessionEntry) (t : Translated) (old new lines : List ℕ)
-    → i < length sessions → x ≡ get_or sessions i x → IsServedAt ts x t → new ≡ old ++ lines
-    → AreServedTexts purpose budget ts (take i sessions) old → IsRunText purpose budget t x lines → AreServedTexts purpose budget ts (take (i + 1) sessions) new
-texts_more purpose budget sessions ts i x t old new lines l item at added are served =
-    let more : take (i + 1) sessions ≡ take i sessions ++ x ∷ [] = take_more sessions i x l ∙ ap (λ (y : SessionEntry). take i sessions ++ y ∷ []) (sym item) in
-    subst (λ (ys : List SessionEntry). AreServedTexts purpose budget ts ys new) (sym more)
-    (subst (AreServedTexts purpose budget ts (take i sessions ++ x ∷ [])) (sym added) (texts_push purpose budget ts (take i sessions) x old lines are (t, at, served)))
+texts_suc : (purpose : Purpose) (ts : List Translated) (xs : List SessionScript) (ys : List Transcript) (i : ℕ) (x : SessionScript) (y : Transcript) (text lines : List ℕ) → i < length xs → i < length ys
+    → AreTranscriptTexts purpose ts (take i xs) (take i ys) text → IsTextAt purpose ts (get_or xs i x) (get_or ys i y) lines
+    → AreTranscriptTexts purpose ts (take (suc i) xs) (take (suc i) ys) (text ++ lines)
+texts_suc purpose ts [] ys i x y text lines l m h is = absurd (omega arith)
+texts_suc purpose ts (a ∷ xs) [] i x y text lines l m h is = absurd (omega arith)
+texts_suc purpose ts (a ∷ xs) (b ∷ ys) zero x y text lines l m h is = (lines, [], is, refl, ap (λ (t : List ℕ). t ++ lines) h ∙ sym (append-nil lines))
+texts_suc purpose ts (a ∷ xs) (b ∷ ys) (suc i) x y text lines l m h is =
+    (h.0, h.1 ++ lines, h.2, texts_suc purpose ts xs ys i x y h.1 lines (omega arith) (omega arith) h.3 is, ap (λ (t : List ℕ). t ++ lines) h.4 ∙ append_assoc h.0 h.1 lines)
 
-zip_on : {X Y : Type 0} (R S : X → Y → Type 0) → ((x : X) (y : Y) → R x y → S x y) → (xs : List X) (ys : List Y) → AllZip R xs ys → AllZip S xs ys
-zip_on R S f [] [] zip = tt
-zip_on R S f [] (y ∷ ys) zip = absurd zip
-zip_on R S f (x ∷ xs) [] zip = absurd zip
-zip_on R S f (x ∷ xs) (y ∷ ys) zip = (f x y zip.0, zip_on R S f xs ys zip.1)
+-- the turn of the loop that tells transcripts
+pub texts_more : (purpose : Purpose) (ts : List Translated) (xs : List SessionScript) (ys : List Transcript) (i : ℕ) (x : SessionScript) (y : Transcript) (old new lines : List ℕ)
+    → i < length xs → i < length ys → x ≡ get_or xs i x → y ≡ get_or ys i y → new ≡ old ++ lines
+    → AreTranscriptTexts purpose ts (take i xs) (take i ys) old → IsTextAt purpose ts x y lines → AreTranscriptTexts purpose ts (take (i + 1) xs) (take (i + 1) ys) new
+texts_more purpose ts xs ys i x y old new lines l m item other added are is =
+    let there = subst (λ (a : SessionScript). IsTextAt purpose ts a (get_or ys i y) lines) item (subst (λ (b : Transcript). IsTextAt purpose ts x b lines) other is) in
+    subst (AreTranscriptTexts purpose ts (take (i + 1) xs) (take (i + 1) ys)) (sym added)
+    (subst (λ (k : ℕ). AreTranscriptTexts purpose ts (take k xs) (take k ys) (old ++ lines)) (sym (add-one i)) (texts_suc purpose ts xs ys i x y old lines l m are there))
 
--- ---- texts over the translations of commands are those of runs on the commands' problems
+-- ---- what was served, at a place
 
--- the translations that are served are those of the commands of these models
-abbrev IsServedOn : List NamedTree → List (Vec ServedCommand) → Type 0
-IsServedOn ms ts = (x : SessionEntry) (t : Translated) → IsServedAt ts x t → (translation_of ts x.model x.number ≡ Some t) × IsProblemAt ms x t.problem
+pub as_many : (problems : List Bounded) (journal : List Noted) (ts : List Translated) (number : ℕ) (xs : List SessionScript) (ys : List Transcript) → AreServedFrom problems journal ts number xs ys → length xs ≡ length ys
+as_many problems journal ts number [] [] are = refl
+as_many problems journal ts number [] (y ∷ ys) are = absurd are
+as_many problems journal ts number (x ∷ xs) [] are = absurd are
+as_many problems journal ts number (x ∷ xs) (y ∷ ys) are = let rest = as_many problems journal ts (number + 1) xs ys are.1 in omega arith
 
-module _ (budget : ℕ) (ms : List NamedTree) (ts : List (Vec ServedCommand)) (on : IsServedOn ms ts) where
-  whole_runs : (sessions : List SessionEntry) (text : List ℕ) → AreServedTexts Lists budget ts sessions text
-      → (runs : List PrintedSession) × AllZip (IsRunAmong budget ms (translation_of ts)) sessions runs × IsOutput runs text
-  whole_runs [] text e = ([], tt, e)
-  whole_runs (x ∷ sessions) text (first, rest, (t, at, (s, run, is)), others, e) =
-      let more = whole_runs sessions rest others in
-      let there = on x t at in
-      (s ∷ more.0, ((t, there.0, there.1, run), more.1), (first, rest, is, more.2, e))
+-- the session was served under some number over the translation of its key
+abbrev pub IsServedThere : List Bounded → List Noted → List Translated → SessionScript → Transcript → Type 0
+IsServedThere problems journal ts x y = (t : Translated) × (slice_get ts x.key ≡ Some t) × ((number : ℕ) × IsServedScript problems journal t number x.key x.budget x.commands y)
 
-  classed_runs : (sessions : List SessionEntry) (text : List ℕ) → AreServedTexts Classes budget ts sessions text → AreClassedRuns budget ms (translation_of ts) sessions text
-  classed_runs [] text e = e
-  classed_runs (x ∷ sessions) text (first, rest, (t, at, (s, run, is)), others, e) =
-      let there = on x t at in
-      (first, rest, (s, (t, there.0, there.1, run), is), classed_runs sessions rest others, e)
+pub served_there : (problems : List Bounded) (journal : List Noted) (ts : List Translated) (number : ℕ) (xs : List SessionScript) (ys : List Transcript) (i : ℕ) (x : SessionScript) (y : Transcript)
+    → AreServedFrom problems journal ts number xs ys → i < length xs → x ≡ get_or xs i x → y ≡ get_or ys i y → IsServedThere problems journal ts x y
+served_there problems journal ts number [] [] i x y are l item other = absurd (omega arith)
+served_there problems journal ts number [] (b ∷ ys) i x y are l item other = absurd are
+served_there problems journal ts number (a ∷ xs) [] i x y are l item other = absurd are
+served_there problems journal ts number (a ∷ xs) (b ∷ ys) zero x y are l item other =
+    subst (λ (z : SessionScript). IsServedThere problems journal ts z y) (sym item) (subst (IsServedThere problems journal ts a) (sym other) (are.0.0, are.0.1, (number, are.0.2)))
+served_there problems journal ts number (a ∷ xs) (b ∷ ys) (suc i) x y are l item other = served_there problems journal ts (number + 1) xs ys i x y are.1 (omega arith) item other
 
-  told_runs : (purpose : Purpose) (sessions : List SessionEntry) (text : List ℕ) → AreServedTexts purpose budget ts sessions text → length text ≤ most_output → AreToldRuns purpose budget sessions ms text
-  told_runs Lists sessions text are fits = let whole = whole_runs sessions text are in (whole.0, (translation_of ts, whole.1), whole.2, fits)
-  told_runs Classes sessions text are fits = (translation_of ts, classed_runs sessions text are, fits)
+-- the key of each session has a translation
+pub key_there : (problems : List Bounded) (journal : List Noted) (ts : List Translated) (number : ℕ) (xs : List SessionScript) (ys : List Transcript) (i : ℕ) (x : SessionScript)
+    → AreServedFrom problems journal ts number xs ys → i < length xs → x ≡ get_or xs i x → (t : Translated) × (slice_get ts x.key ≡ Some t)
+key_there problems journal ts number [] [] i x are l item = absurd (omega arith)
+key_there problems journal ts number [] (b ∷ ys) i x are l item = absurd are
+key_there problems journal ts number (a ∷ xs) [] i x are l item = absurd are
+key_there problems journal ts number (a ∷ xs) (b ∷ ys) zero x are l item = subst (λ (z : SessionScript). (t : Translated) × (slice_get ts z.key ≡ Some t)) (sym item) (are.0.0, are.0.1)
+key_there problems journal ts number (a ∷ xs) (b ∷ ys) (suc i) x are l item = key_there problems journal ts (number + 1) xs ys i x are.1 (omega arith) item
 
--- what was found of the models of a script, and the texts of its sessions over that, make its answer
-pub runs_answer_of : (purpose : Purpose) (budget : ℕ) (s : Script) (sessions : List SessionEntry) (entries : List ModelEntry) (ts us : List (Vec ServedCommand)) (text : List ℕ) → sessions ≡ s.sessions → entries ≡ s.models
-    → us ≡ ts → AreUsed purpose sessions entries ts → AreServedTexts purpose budget us sessions text → length text ≤ most_output → WritesRuns purpose budget s text
-runs_answer_of purpose budget s sessions entries ts us text e f g used texts fits =
-    let u = subst (λ (es : List ModelEntry). AreUsed purpose s.sessions es ts) f (subst (λ (xs : List SessionEntry). AreUsed purpose xs entries ts) e used) in
-    let r = subst (λ (vs : List (Vec ServedCommand)). AreServedTexts purpose budget vs s.sessions text) g (subst (λ (xs : List SessionEntry). AreServedTexts purpose budget us xs text) e texts) in
-    let on : IsServedOn u.0 ts = λ x t at. (translation_there purpose s.sessions u.0 ts x t u.2 at, problem_at purpose s.sessions u.0 ts x t u.2 at) in
-    (u.0, u.1, told_runs budget u.0 ts on purpose s.sessions text r fits)
+-- the translation to which the pointer of a key points
+pub inside : {A : Type 0} (items : List (Arc Translated A)) (key : ℕ) (t : Translated) → slice_get (values_of items) key ≡ Some t → key < length items
+inside items key t at = let l = slice_get_within (values_of items) key t at in let long = length-map items (λ a. a.value) in omega (arith, l, long)
 
--- ---- one session
-
--- what is printed of a session over a translation
-abbrev pub session_of : Translated → SessionEntry → List (List ℕ) → List Reply → PrintedSession
-session_of t x floors replies = record { problem = t.problem; name = x.name; replies = all_printed t floors replies }
-
--- a transcript over a translation, and its text
-module _ (budget : ℕ) (x : SessionEntry) (t : Translated) (commands : List Command) (name : List ℕ) (replies : List Reply) (floors : List (List ℕ)) (text : List ℕ) (well : IsTranslation t)
-    (commands_are : commands ≡ x.commands) (name_is : name ≡ x.name)
-    (run : (xs : List Exchange) × IsTranscript t.problem (Start budget) commands replies floors xs × AreBacked t [] (Start budget) xs) (checkable : AllZip (PrintsCheckableProof t) floors replies) where
-  is_run : IsRunOn t budget x (session_of t x floors replies)
-  is_run = record {
-    made = well;
-    replies = replies;
-    floors = floors;
-    exchanges = run.0;
-    transcript = subst (λ (cs : List Command). IsTranscript t.problem (Start budget) cs replies floors run.0) commands_are run.1;
-    backed = run.2;
-    checkable = checkable;
-    is = refl;
-  }
-
-  pub run_text : (purpose : Purpose) → IsToldText purpose t.problem name floors (all_printed t floors replies) text → IsRunText purpose budget t x text
-  unfolding is_run
-  run_text purpose is = (session_of t x floors replies, is_run, subst (λ (n : List ℕ). IsToldText purpose t.problem n floors (all_printed t floors replies) text) name_is is)
+pub pointed : {A : Type 0} (items : List (Arc Translated A)) (key : ℕ) (t : Translated) (a : Arc Translated A) → slice_get (values_of items) key ≡ Some t → a ≡ get_or items key a → a.value ≡ t
+pointed {A} items key t a at item =
+    let own : get_or (values_of items) key t ≡ (get_or items key a).value = get_or-map (λ (b : Arc Translated A). b.value) items key a t (inside items key t at) in
+    ap (λ (b : Arc Translated A). b.value) item ∙ sym own ∙ get_or_from_slice_get (values_of items) key t t at
 
 -- replies that can be printed name cells of the problem, and print proofs of their floors' ends
 pub name_cells : (t : Translated) (floors : List (List ℕ)) (replies : List Reply) → AllZip (IsPrintable t) floors replies → All (NamesCellsOf t.problem) replies
@@ -119,4 +113,148 @@ name_cells t (f ∷ fs) [] zip = absurd zip
 name_cells t (f ∷ fs) (r ∷ rs) zip = All-cons (NamesCellsOf t.problem) r rs zip.0.cells (name_cells t fs rs zip.1)
 
 pub right_proofs : (t : Translated) (floors : List (List ℕ)) (replies : List Reply) → AllZip (IsPrintable t) floors replies → AllZip (PrintsRightProof t) floors replies
-right_proofs t floors replies zip = zip_on (IsPrintable t) (PrintsRightProof t) (λ f r is. is.proof) floors replies zip
+right_proofs t [] [] zip = tt
+right_proofs t [] (r ∷ rs) zip = absurd zip
+right_proofs t (f ∷ fs) [] zip = absurd zip
+right_proofs t (f ∷ fs) (r ∷ rs) zip = (zip.0.proof, right_proofs t fs rs zip.1)
+
+-- ---- the run of one session
+
+-- what the laws of journals say, as they are used here
+abbrev pub Stands : Type 0
+Stands = (problems : List Bounded) (journal : List Noted) → IsLegal problems journal → (key : ℕ) (t : Translated) → IsPublished journal key t → (slice_get problems key ≡ Some t.problem) × StandsFor t.problem t
+
+abbrev pub ToldAreBacked : Type 0
+ToldAreBacked = (problems : List Bounded) (journal : List Noted) → IsLegal problems journal → (number key budget : ℕ) (commands : List Command) (replies : List Reply) (floors : List (List ℕ))
+    → (told : IsTold problems journal number key budget commands replies floors) → (t : Translated) → IsPublished journal key t → AreBacked t (Start budget) told.exchanges
+
+same_problem : (p q : Bounded) → Some p ≡ Some q → p ≡ q
+same_problem p q e = cc
+
+same_translation : (u t : Translated) → Some u ≡ Some t → u ≡ t
+same_translation u t e = cc
+
+-- what is printed of a session over a translation
+abbrev session_of : Translated → List ℕ → Transcript → PrintedSession
+session_of t name y = record { problem = t.problem; name = name; replies = all_printed t y.floors y.replies }
+
+-- the translation of each command is that of its key
+abbrev over : List (Vec ServedCommand) → List Translated → Translations
+over models ts model number = slice_get ts (key_of models model number)
+
+abbrev together : List (Vec ServedCommand) → List Noted → Together
+together models journal = record { problems = problems_of models; key_of = key_of models; journal = journal }
+
+zip_length : {X Y : Type 0} (R : X → Y → Type 0) (xs : List X) (ys : List Y) → AllZip R xs ys → length xs ≡ length ys
+zip_length R [] [] zip = refl
+zip_length R [] (y ∷ ys) zip = absurd zip
+zip_length R (x ∷ xs) [] zip = absurd zip
+zip_length R (x ∷ xs) (y ∷ ys) zip = let rest = zip_length R xs ys zip.1 in omega arith
+
+module _ (stands : Stands) (backed : ToldAreBacked) (purpose : Purpose) (budget : ℕ) (ms : List NamedTree) (models : List (Vec ServedCommand)) (ts : List Translated) (journal : List Noted)
+    (legal : IsLegal (problems_of models) journal) (of_model : (x : SessionEntry) → IsServed models x → (p : Bounded) → slice_get (problems_of models) (key_of models x.model x.number) ≡ Some p → IsProblemAt ms x p) where
+  run_on : (number : ℕ) (x : SessionEntry) (t : Translated) (y : Transcript) (text : List ℕ) → IsTranscriptText purpose t x.name y text
+      → (served : IsServedBy (problems_of models) journal t number (key_of models x.model x.number) budget x.commands y.replies y.floors) → IsRunOn t budget x (session_of t x.name y)
+  run_on number x t y text is served =
+      let told = served.told in
+      let key = key_of models x.model x.number in
+      let same : told.problem ≡ t.problem = same_problem told.problem t.problem (sym told.of_key ∙ (stands (problems_of models) journal legal key t served.published).0) in
+      record {
+        made = is.made;
+        replies = y.replies;
+        floors = y.floors;
+        exchanges = told.exchanges;
+        transcript = subst (λ (p : Bounded). IsTranscript p (Start budget) x.commands y.replies y.floors told.exchanges) same told.transcript;
+        backed = backed (problems_of models) journal legal number key budget x.commands y.replies y.floors told t served.published;
+        checkable = is.checkable;
+        is = refl;
+      }
+
+  -- a session with its text, as the journal tells it
+  record IsToldRun (number : ℕ) (x : SessionEntry) (text : List ℕ) : Type 0 where
+    pub printed : PrintedSession
+    pub run : IsRunAmong budget ms (over models ts) x printed
+    pub tells : TellsRun (together models journal) number budget ms (over models ts) x printed run
+    pub told : IsToldText purpose printed.problem printed.name run.3.floors printed.replies text
+
+  told_run : (number : ℕ) (x : SessionEntry) (y : SessionScript) (z : Transcript) (text : List ℕ) → IsServed models x → IsScriptOf models budget x y
+      → (t : Translated) → slice_get ts y.key ≡ Some t → IsServedScript (problems_of models) journal t number y.key y.budget y.commands z → IsTextAt purpose ts y z text → IsToldRun number x text
+  unfolding run_on
+  told_run number x y z text on script t at is (u, there, told) =
+      let key = key_of models x.model x.number in
+      let same : u ≡ t = same_translation u t (sym there ∙ at) in
+      let text_is : IsTranscriptText purpose t x.name z text = subst (λ (w : Translated). IsTranscriptText purpose w x.name z text) same (subst (λ (n : List ℕ). IsTranscriptText purpose u n z text) script.name told) in
+      let on_key = subst (λ (k : ℕ). IsServedBy (problems_of models) journal t number k y.budget y.commands z.replies z.floors) script.key is.served in
+      let from = subst (λ (b : ℕ). IsServedBy (problems_of models) journal t number key b y.commands z.replies z.floors) script.budget_is on_key in
+      let served : IsServedBy (problems_of models) journal t number key budget x.commands z.replies z.floors =
+      subst (λ (cs : List Command). IsServedBy (problems_of models) journal t number key budget cs z.replies z.floors) script.commands from in
+      let of_key = (stands (problems_of models) journal legal key t served.published).0 in
+      record {
+        printed = session_of t x.name z;
+        run = (t, subst (λ (k : ℕ). slice_get ts k ≡ Some t) script.key at, of_model x on t.problem of_key, run_on number x t z text text_is served);
+        tells = served;
+        told = text_is.told;
+      }
+
+  -- ---- those of all sessions
+
+  whole_runs : (number : ℕ) (sessions : List SessionEntry) (xs : List SessionScript) (ys : List Transcript) (text : List ℕ) → AllByRecursion (IsServed models) sessions → AllZip (IsScriptOf models budget) sessions xs
+      → AreServedFrom (problems_of models) journal ts number xs ys → AreTranscriptTexts purpose ts xs ys text → purpose ≡ Lists
+      → (runs : List PrintedSession) × TellsRuns (together models journal) number budget ms (over models ts) sessions runs × IsOutput runs text
+  whole_runs number [] [] [] text on scripts served are lists = ([], tt, are)
+  whole_runs number [] [] (y ∷ ys) text on scripts served are lists = absurd are
+  whole_runs number [] (x ∷ xs) ys text on scripts served are lists = absurd scripts
+  whole_runs number (a ∷ sessions) [] ys text on scripts served are lists = absurd scripts
+  whole_runs number (a ∷ sessions) (x ∷ xs) [] text on scripts served are lists = absurd are
+  whole_runs number (a ∷ sessions) (x ∷ xs) (y ∷ ys) text on scripts served (first, rest, is, others, e) lists =
+      let own = told_run number a x y first on.0 scripts.0 served.0.0 served.0.1 served.0.2 is in
+      let more = whole_runs (number + 1) sessions xs ys rest on.1 scripts.1 served.1 others lists in
+      let told = subst (λ (q : Purpose). IsToldText q own.printed.problem own.printed.name own.run.3.floors own.printed.replies first) lists own.told in
+      (own.printed ∷ more.0, ((own.run, own.tells), more.1), (first, rest, told, more.2, e))
+
+  classed_runs : (number : ℕ) (sessions : List SessionEntry) (xs : List SessionScript) (ys : List Transcript) (text : List ℕ) → AllByRecursion (IsServed models) sessions → AllZip (IsScriptOf models budget) sessions xs
+      → AreServedFrom (problems_of models) journal ts number xs ys → AreTranscriptTexts purpose ts xs ys text → purpose ≡ Classes → AreClassedRuns (together models journal) number budget ms (over models ts) sessions text
+  classed_runs number [] [] [] text on scripts served are classes = are
+  classed_runs number [] [] (y ∷ ys) text on scripts served are classes = absurd are
+  classed_runs number [] (x ∷ xs) ys text on scripts served are classes = absurd scripts
+  classed_runs number (a ∷ sessions) [] ys text on scripts served are classes = absurd scripts
+  classed_runs number (a ∷ sessions) (x ∷ xs) [] text on scripts served are classes = absurd are
+  classed_runs number (a ∷ sessions) (x ∷ xs) (y ∷ ys) text on scripts served (first, rest, is, others, e) classes =
+      let own = told_run number a x y first on.0 scripts.0 served.0.0 served.0.1 served.0.2 is in
+      let more = classed_runs (number + 1) sessions xs ys rest on.1 scripts.1 served.1 others classes in
+      let told = subst (λ (q : Purpose). IsToldText q own.printed.problem own.printed.name own.run.3.floors own.printed.replies first) classes own.told in
+      (first, rest, ((own.printed, own.run, told), own.tells), more, e)
+
+-- what was found of the models of a script, what its sessions were answered on that, and the texts of it make the script's answer
+module _ (stands : Stands) (backed : ToldAreBacked) (purpose : Purpose) (budget : ℕ) where
+  told_runs : (sessions : List SessionEntry) (ms : List NamedTree) (models : List (Vec ServedCommand)) (ran : Ran) (text : List ℕ) → AreAllMade purpose sessions 0 ms models → All (IsServed models) sessions
+      → WereServed models budget sessions ran → AreTranscriptTexts purpose (translations_of ran.served) ran.scripts.items ran.served.transcripts.items text → length text ≤ most_output → AreToldRuns purpose budget sessions ms text
+  told_runs sessions ms models ran text made on were are fits =
+      let served = were.served in
+      let scripts = ran.scripts.items in
+      let transcripts = ran.served.transcripts.items in
+      let ts = translations_of ran.served in
+      let journal = served.journal in
+      let of_model : (x : SessionEntry) → IsServed models x → (p : Bounded) → slice_get (problems_of models) (key_of models x.model x.number) ≡ Some p → IsProblemAt ms x p =
+      λ x is p at. problem_at purpose sessions ms models x p made (problem_there models x p is at) in
+      let each = recursion_from_All (IsServed models) sessions on in
+      let interleaving : IsInterleaving (problems_of models) journal (length sessions) = subst (IsInterleaving (problems_of models) journal) (sym (zip_length (IsScriptOf models budget) sessions scripts were.scripts)) served.interleaving in
+      let go : (q : Purpose) → purpose ≡ q → AreToldRuns q budget sessions ms text =
+      λ q. elim q as (λ q. purpose ≡ q → AreToldRuns q budget sessions ms text) [
+        | Lists ↦ λ lists.
+            let whole = whole_runs stands backed purpose budget ms models ts journal interleaving.legal of_model 1 sessions scripts transcripts text each were.scripts served.sessions are lists in
+            (whole.0, (over models ts, together models journal, interleaving, whole.1), whole.2, fits)
+        | Classes ↦ λ classes.
+            let told = classed_runs stands backed purpose budget ms models ts journal interleaving.legal of_model 1 sessions scripts transcripts text each were.scripts served.sessions are classes in
+            (over models ts, together models journal, interleaving, told, fits)
+      ] in
+      go purpose refl
+
+  pub runs_answer_of : (s : Script) (sessions : List SessionEntry) (entries : List ModelEntry) (models : List (Vec ServedCommand)) (ran : Ran) (text : List ℕ) → sessions ≡ s.sessions → entries ≡ s.models
+      → AreUsed purpose sessions entries models → All (IsServed models) sessions → WereServed models budget sessions ran
+      → AreTranscriptTexts purpose (translations_of ran.served) ran.scripts.items ran.served.transcripts.items text → length text ≤ most_output → WritesRuns purpose budget s text
+  runs_answer_of s sessions entries models ran text e f used on were are fits =
+      let u = subst (λ (es : List ModelEntry). AreUsed purpose s.sessions es models) f (subst (λ (xs : List SessionEntry). AreUsed purpose xs entries models) e used) in
+      let served = subst (λ (xs : List SessionEntry). All (IsServed models) xs) e on in
+      let all_were = subst (λ (xs : List SessionEntry). WereServed models budget xs ran) e were in
+      (u.0, u.1, told_runs s.sessions u.0 models ran text u.2 served all_were are fits)

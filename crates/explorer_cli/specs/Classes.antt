@@ -1,6 +1,6 @@
 -- What `distinct` prints of runs: as `run` does, but that a list which ends the bottom floor is told by classes of renamings.
-use Rattle.std.specs.Prelude.{◌≡◌, ◌↔◌, ◌≤◌, ℕ, List, [], ◌∷◌, ◌++◌, length, codes, decimal, AllPairs, Contains}
-use Rattle.std.specs.Global.{Vec}
+use Rattle.std.specs.Prelude.{◌≡◌, ◌↔◌, ◌≤◌, ◌+◌, ℕ, List, [], ◌∷◌, ◌++◌, length, codes, decimal, AllPairs, Contains, Some, slice_get}
+use Rattle.std.specs.List.{AllZip}
 use Rattle.rel_formula.specs.Bounds.{Bounded}
 use Rattle.rel_formula.specs.Instance.{IsMinimalAbove}
 use Rattle.rel_formula.specs.Renaming.{IsRenamingOf}
@@ -8,15 +8,18 @@ use Rattle.swap_symmetry.specs.Order.{IsEarlier}
 use Rattle.renaming_classes.specs.Least.{IsLeast}
 use Rattle.renaming_classes.specs.Classes.{AreClasses}
 use Rattle.translation_rules.specs.Translation.{Translated}
+use Rattle.translation.specs.Kept.{IsTranslation}
+use Rattle.session_rules.specs.declared.script.SessionScript.{SessionScript}
+use Rattle.session_rules.specs.declared.script.Transcript.{Transcript}
 use Rattle.script_text.specs.Limits.{most_output}
-use Rattle.script_text.specs.Printed.{Printed, listed}
-use Rattle.script_text.specs.Replies.{PrintedSession, AreNumbered, IsReplyText, IsSessionText}
+use Rattle.script_text.specs.Printed.{Printed, listed, all_printed}
+use Rattle.script_text.specs.Replies.{PrintedSession, PrintsCheckableProof, AreNumbered, IsReplyText, IsSessionText}
 use Rattle.script_format.specs.declared.entries.SessionEntry.{SessionEntry}
 use Rattle.named_model.specs.Model.{NamedTree}
 use Rattle.served_models.specs.declared.purposes.Purpose.{Purpose}
 use Rattle.served_models.specs.declared.purposes.Purpose.TheVariants.{Lists, Classes}
-use Rattle.served_models.specs.declared.commands.ServedCommand.{ServedCommand}
-use Rattle.explorer_cli.specs.Runs.{IsRunOn, Translations, IsRunAmong, IsServedAt}
+use Rattle.hub_turns.specs.Interleaved.{IsInterleaving}
+use Rattle.explorer_cli.specs.Runs.{Translations, IsRunAmong, Together, TellsRun}
 
 -- scenarios that are numbered from 1, and how many they are
 abbrev pub AreClassLines : Bounded → List (List ℕ) → List ℕ → Type 0
@@ -47,16 +50,19 @@ IsClassedSession p name floors replies text = (lines : List ℕ) × AreClassedRe
 abbrev pub IsClassedRun : ℕ → List NamedTree → Translations → SessionEntry → List ℕ → Type 0
 IsClassedRun budget models over x text = (s : PrintedSession) × (run : IsRunAmong budget models over x s) × IsClassedSession s.problem s.name run.3.floors s.replies text
 
--- the texts of runs of the sessions, one after the other
-abbrev pub AreClassedRuns : ℕ → List NamedTree → Translations → List SessionEntry → List ℕ → Type 0
-AreClassedRuns budget models over [] text = text ≡ []
-AreClassedRuns budget models over (x ∷ sessions) text =
-    (first : List ℕ) × (rest : List ℕ) × IsClassedRun budget models over x first × AreClassedRuns budget models over sessions rest × (text ≡ first ++ rest)
+-- the texts of runs of the sessions, one after the other; the journal tells the runs, which have the numbers from this one on
+abbrev pub AreClassedRuns : Together → ℕ → ℕ → List NamedTree → Translations → List SessionEntry → List ℕ → Type 0
+AreClassedRuns all number budget models over [] text = text ≡ []
+AreClassedRuns all number budget models over (x ∷ sessions) text =
+    (first : List ℕ) × (rest : List ℕ) × ((run : IsClassedRun budget models over x first) × TellsRun all number budget models over x run.0 run.1)
+    × AreClassedRuns all (number + 1) budget models over sessions rest × (text ≡ first ++ rest)
 
--- the text is that of runs of the sessions, in order, by classes; those on one command are over one translation; and it is no
--- longer than an output may be
+-- the text is that of runs of the sessions, in order, by classes; those on one command are over one translation; one journal, legal
+-- and an interleaving of what so many sessions did, tells the transcript of each; and it is no longer than an output may be
 abbrev pub AreClassedRunsOf : ℕ → List SessionEntry → List NamedTree → List ℕ → Type 0
-AreClassedRunsOf budget sessions models text = (over : Translations) × AreClassedRuns budget models over sessions text × (length text ≤ most_output)
+AreClassedRunsOf budget sessions models text =
+    (over : Translations) × (all : Together) × IsInterleaving all.problems all.journal (length sessions)
+    × AreClassedRuns all 1 budget models over sessions text × (length text ≤ most_output)
 
 -- ---- what is told of the bottom floor
 
@@ -81,16 +87,17 @@ abbrev pub IsToldText : Purpose → Bounded → List ℕ → List (List ℕ) →
 IsToldText Lists p name floors replies text = IsSessionText p name replies text
 IsToldText Classes p name floors replies text = IsClassedSession p name floors replies text
 
--- a run of the session over this translation, and its text
-abbrev pub IsRunText : Purpose → ℕ → Translated → SessionEntry → List ℕ → Type 0
-IsRunText purpose budget t x text = (s : PrintedSession) × (run : IsRunOn t budget x s) × IsToldText purpose s.problem s.name run.floors s.replies text
+-- the text of a session's transcript over a translation, as the purpose has it; `check` accepts the proofs that are printed
+pub record IsTranscriptText (purpose : Purpose) (t : Translated) (name : List ℕ) (y : Transcript) (text : List ℕ) : Type 0 where
+  pub made : IsTranslation t
+  pub told : IsToldText purpose t.problem name y.floors (all_printed t y.floors y.replies) text
+  pub checkable : AllZip (PrintsCheckableProof t) y.floors y.replies
 
--- that of a run over the translation that is served to the session
-abbrev pub IsServedText : Purpose → ℕ → List (Vec ServedCommand) → SessionEntry → List ℕ → Type 0
-IsServedText purpose budget models x text = (t : Translated) × IsServedAt models x t × IsRunText purpose budget t x text
-
--- the texts of the sessions, one after the other
-abbrev pub AreServedTexts : Purpose → ℕ → List (Vec ServedCommand) → List SessionEntry → List ℕ → Type 0
-AreServedTexts purpose budget models [] text = text ≡ []
-AreServedTexts purpose budget models (x ∷ sessions) text =
-    (first : List ℕ) × (rest : List ℕ) × IsServedText purpose budget models x first × AreServedTexts purpose budget models sessions rest × (text ≡ first ++ rest)
+-- the texts of the transcripts, one after the other, each over the translation of its session's key
+abbrev pub AreTranscriptTexts : Purpose → List Translated → List SessionScript → List Transcript → List ℕ → Type 0
+AreTranscriptTexts purpose translations [] [] text = text ≡ []
+AreTranscriptTexts purpose translations [] (y ∷ transcripts) text = ⊥
+AreTranscriptTexts purpose translations (x ∷ scripts) [] text = ⊥
+AreTranscriptTexts purpose translations (x ∷ scripts) (y ∷ transcripts) text =
+    (first : List ℕ) × (rest : List ℕ) × ((t : Translated) × (slice_get translations x.key ≡ Some t) × IsTranscriptText purpose t x.name y first)
+    × AreTranscriptTexts purpose translations scripts transcripts rest × (text ≡ first ++ rest)

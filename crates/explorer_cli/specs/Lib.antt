@@ -1,4 +1,5 @@
 pub mod Outcome
 pub mod Runs
+pub mod Keys
 pub mod Classes
 pub mod Shown

@@ -93,13 +93,13 @@ IsStatus n = (n ≡ 0) ⊎ (n ≡ 1) ⊎ (n ≡ 2) ⊎ (n ≡ 3) ⊎ (n ≡ 4) �
 
 -- ---- what the code requires
 
--- the budget is one that the words can say
-abbrev pub HasBudgetInRange : Command → Type 0
-HasBudgetInRange (Run workers budget) = budget ≤ 100000
-HasBudgetInRange (Distinct workers budget) = budget ≤ 100000
-HasBudgetInRange Check = Unit {0}
-HasBudgetInRange (Assert budget) = budget ≤ 100000
-HasBudgetInRange (Facts budget) = budget ≤ 100000
+-- the numbers are such as the words can say
+abbrev pub HasNumbersInRange : Command → Type 0
+HasNumbersInRange (Run workers budget) = (1 ≤ workers) × (workers ≤ 16) × (budget ≤ 100000)
+HasNumbersInRange (Distinct workers budget) = (1 ≤ workers) × (workers ≤ 16) × (budget ≤ 100000)
+HasNumbersInRange Check = Unit {0}
+HasNumbersInRange (Assert budget) = budget ≤ 100000
+HasNumbersInRange (Facts budget) = budget ≤ 100000
 
 -- ---- what is answered where sessions are run
 

@@ -2,22 +2,27 @@
 ghost use Rattle.std.specs.Prelude.{◌≡◌, ◌≢◌, ◌⊎◌, ◌+◌, ℕ, List};
 ghost use Rattle.outside_io.specs.Count.{Rose};
 ghost use Rattle.proof_command.specs.Inputs.{AnswersInput, IsWritten};
-ghost use Rattle.explorer_cli.specs.Outcome.{HasBudgetInRange, HasFailed, IsStatusOf, IsAnswerTo, limit_of};
+ghost use Rattle.explorer_cli.specs.Outcome.{HasNumbersInRange, HasFailed, IsStatusOf, IsAnswerTo, limit_of};
 
 use crate::answer::answer_to;
 use command_words::Command;
+use explorer_run::Gate;
 use outside_io::{ReadFault, Sink, Source, finish, read_all};
 use std::alloc::Global;
+use std::sync::Wait;
+use std::thread::Threads;
 
 /// Reads the input to the source's end, answers it as this command does, and writes that. Gives the status: that of the
 /// answer, or 5 the source failed, 6 the sink failed, 7 want of memory.
-pub fn do_command<S: Source, K: Sink>(
+pub fn do_command<R: Threads + Wait + Sync, S: Source, K: Sink, G: Gate + Sync>(
+    rt: &R,
     alloc: Global,
     command: Command,
     source: &mut S,
     sink: &mut K,
+    gate: &G,
 ) -> u8
-    requires { HasBudgetInRange command }
+    requires numbers { HasNumbersInRange command }
     ensures status { HasFailed result ⊎ IsStatusOf command result }
     ensures source_failed { result ≡ 5 → Rose (S.faults source.old) (S.faults source.new) × (sink.new ≡ sink.old) }
     ensures sink_failed { result ≡ 6 → Rose (K.faults sink.old) (K.faults sink.new) }
@@ -26,7 +31,7 @@ pub fn do_command<S: Source, K: Sink>(
         (K.tells sink.old) (K.written sink.old) (K.written sink.new) result }
 {
     match read_all(alloc, source, most_bytes(command)) {
-        Ok(bytes) => write_answer(alloc, command, &bytes, sink),
+        Ok(bytes) => write_answer(rt, alloc, command, &bytes, sink, gate),
         Err(ReadFault::Failed) => 5,
         Err(ReadFault::Memory) => 7,
     }
@@ -46,8 +51,15 @@ fn most_bytes(command: Command) -> usize
 }
 
 // Writes the answer to what was read.
-fn write_answer<K: Sink>(alloc: Global, command: Command, bytes: &[u8], sink: &mut K) -> u8
-    requires { HasBudgetInRange command }
+fn write_answer<R: Threads + Wait + Sync, K: Sink, G: Gate + Sync>(
+    rt: &R,
+    alloc: Global,
+    command: Command,
+    bytes: &[u8],
+    sink: &mut K,
+    gate: &G,
+) -> u8
+    requires numbers { HasNumbersInRange command }
     ensures status { (result ≡ 6) ⊎ (result ≡ 7) ⊎ IsStatusOf command result }
     ensures was_read { result ≢ 5 }
     ensures failed { result ≡ 6 → Rose (K.faults sink.old) (K.faults sink.new) }
@@ -55,7 +67,7 @@ fn write_answer<K: Sink>(alloc: Global, command: Command, bytes: &[u8], sink: &m
     ensures answer { (result ≡ 7) ⊎ ((status : ℕ) × (text : List ℕ) × IsAnswerTo command bytes.now status text
         × IsWritten status text (K.tells sink.old) (K.written sink.old) (K.written sink.new) result) }
 {
-    match answer_to(alloc, command, bytes) {
+    match answer_to(rt, alloc, gate, command, bytes) {
         Ok(answer) => finish(sink, answer.status, &answer.text),
         Err(_) => 7,
     }

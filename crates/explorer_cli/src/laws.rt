@@ -3,7 +3,7 @@ ghost use Rattle.std.specs.Prelude.{◌≡◌, ◌≢◌, ◌↔◌, ◌<◌, �
 ghost use Rattle.cnf_core.specs.declared.literal.Lit.{Lit as LitData};
 ghost use Rattle.cnf_core.specs.Valuation.{Satisfies};
 ghost use Rattle.refutation_check.specs.declared.log.Step.{Step as LogStep};
-ghost use Rattle.refutation_check.specs.Chain.{IsRefutation};
+ghost use Rattle.refutation_check.specs.Chain.{IsRefutation, EachEntailed};
 ghost use Rattle.refutation_check.specs.WrittenProof.{proof_text};
 ghost use Rattle.alloy_syntax.specs.declared.tree.CommandKind.TheVariants as kind;
 ghost use Rattle.command_words.specs.declared.reading.Command.TheVariants.{Run, Distinct, Assert, Facts};
@@ -26,6 +26,8 @@ ghost use Rattle.session_rules.specs.declared.answers.WorkDone.{WorkDone};
 ghost use Rattle.session_rules.specs.declared.answers.Refusal.TheVariants.{NoInstance, Spent};
 ghost use Rattle.session_rules.specs.declared.answers.Reply.{Reply};
 ghost use Rattle.session_rules.specs.declared.answers.Reply.TheVariants.{End, Offers, Augmented, Back, All as AllShown, Partly, Refused};
+ghost use Rattle.hub_state.specs.Journal.Journal.{IsPool, pool_of};
+ghost use Rattle.hub_turns.specs.Interleaved.{IsInterleaving};
 ghost use Rattle.script_format.specs.declared.entries.Script.{Script as ScriptData};
 ghost use Rattle.script_format.specs.declared.entries.SessionEntry.{SessionEntry as SessionData};
 ghost use Rattle.script_format.specs.declared.fault.ScriptFault.{ScriptFault as ScriptFaultData};
@@ -43,11 +45,12 @@ ghost use Rattle.decision_reports.specs.Taken.{IsFirstRefusedFor};
 ghost use Rattle.decision_reports.specs.Reports.{AreAssertionsOf};
 ghost use Rattle.decision_reports.specs.FactReports.{AreFactSetsOf};
 ghost use Rattle.explorer_cli.specs.Outcome.{IsAnswerTo};
-ghost use Rattle.explorer_cli.specs.Runs.{AreRepliesOn, IsRunOn, IsProblemAt, Translations, IsRunAmong, AreRuns, AreRunsOf};
+ghost use Rattle.explorer_cli.specs.Runs.{AreRepliesOn, IsRunOn, IsProblemAt, Translations, IsRunAmong, Together, TellsRun, AreRuns, AreRunsOf};
 ghost use Rattle.explorer_cli.specs.Classes.{IsClassedRun, AreClassedRunsOf, HasClasses};
 ghost use Rattle.explorer_cli.specs.Shown.{AllKeepFloors, IsReplyAt, Shows, ShowsNew, EndsAt, OffersAt, AsksAt, AsksForList, IsListed};
 
 use decision_reports::laws::reports_are_one_way;
+use hub_state::journal_rules::laws::a_pool_rests_on_the_translation_alone;
 use lowering_rules::laws::problems_are_symmetric;
 use refutation_check::accepted_is_entailed;
 use renaming_classes::laws::{
@@ -215,11 +218,23 @@ pub fn printed_proofs_are_right()
     accepted_is_entailed();
 }
 
-/// A budget that is told as spent was spent: the work of a step at that floor, over the translation, has exactly so many units.
+/// A budget that is told as spent was spent: the work of a step at that floor, over the translation and steps that rest on it
+/// alone, has exactly so many units.
 pub fn spent_budgets_were_spent()
     ensures { (t : Translated) (budget : ℕ) (x : SessionData) (s : PrintedSession) → (run : IsRunOn t budget x s) → (place : ℕ) (done : WorkDone) (floor : List ℕ)
-        → IsReplyAt run.replies run.floors place (Refused (Spent done)) floor → (old : State) × (step : StepData) × (top_floor old ≡ floor) × IsSpentOn t [] old step done }
+        → IsReplyAt run.replies run.floors place (Refused (Spent done)) floor
+        → (old : State) × (step : StepData) × (pool : List LogStep) × (top_floor old ≡ floor) × IsPool t pool × IsSpentOn t pool old step done }
 {}
+
+/// What a session may have learnt from others rests on the translation alone: the clauses of its command's translation entail each
+/// step that any session shared for the command's key.
+pub fn what_is_shared_rests_on_the_translation()
+    ensures { (all : Together) (sessions : ℕ) → IsInterleaving all.problems all.journal sessions
+        → (number budget : ℕ) (models : List NamedTree) (over : Translations) (x : SessionData) (s : PrintedSession) → (run : IsRunAmong budget models over x s) → TellsRun all number budget models over x s run
+        → EachEntailed run.0.cnf.clauses (pool_of (all.key_of x.model x.number) all.journal) }
+{
+    a_pool_rests_on_the_translation_alone();
+}
 
 /// The output begins with the line of the first session's name.
 pub fn outputs_begin_with_a_name()

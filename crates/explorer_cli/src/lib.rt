@@ -1,14 +1,16 @@
-//! The top call of the program: it does what the words say. It reads a script, runs its sessions and writes the replies, where
-//! lists may be told by classes of renamings, or decides its models' assertions, or finds facts that can't all be true, or reads a
+//! The top call of the program: it does what the words say. It reads a script, runs its sessions side by side and writes the
+//! replies, where lists may be told by classes of renamings, or decides its models' assertions, or finds facts that can't all be true, or reads a
 //! proof text and checks it.
 #![tactic(auto)]
 
 mod answer;
 mod classed_sessions;
 mod command;
+mod keys;
 pub mod laws;
 mod reports;
 mod sessions;
 mod top_call;
 
 pub use crate::top_call::explore;
+pub use explorer_run::{Gate, OpenGate};

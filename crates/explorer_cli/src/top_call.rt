@@ -10,18 +10,26 @@ ghost use Rattle.explorer_cli.specs.Outcome.{IsStatus, HasFailed, IsStatusOf, Is
 
 use crate::command::do_command;
 use command_words::command_of;
+use explorer_run::Gate;
 use outside_io::{Sink, Source, finish};
 use std::alloc::Global;
+use std::sync::Wait;
+use std::thread::Threads;
 
 /// Reads what the source has, does what the words say, writes to the sink, and gives the program's status: 0 done, or
 /// accepted; 1 a proof text isn't accepted; 2 the words are refused, 3 the script or the proof text is, 4 a model is; 5 the
 /// source failed, 6 the sink failed, 7 want of memory. Where the source or the sink doesn't tell its bytes, the clauses say
 /// nothing of these.
-pub fn explore<S: Source, K: Sink>(
+///
+/// Sessions run side by side, by as many workers as the words say, each in a thread of its own; a worker waits for its turn, and at
+/// the gate before each command. What the clauses say holds where the call returns.
+pub fn explore<R: Threads + Wait + Sync, S: Source, K: Sink, G: Gate + Sync>(
+    rt: &R,
     alloc: Global,
     words: &[String],
     source: &mut S,
     sink: &mut K,
+    gate: &G,
 ) -> u8
     ensures status { IsStatus result }
 
@@ -47,6 +55,6 @@ pub fn explore<S: Source, K: Sink>(
     match command_of(alloc, words) {
         Err(_) => 7,
         Ok(None) => finish(sink, 2, b"fault words\n"),
-        Ok(Some(command)) => do_command(alloc, command, source, sink),
+        Ok(Some(command)) => do_command(rt, alloc, command, source, sink, gate),
     }
 }

@@ -8,7 +8,7 @@ use std::test::Fail;
 
 // The number of a command, and how many cells its problem has.
 fn push_command(text: &mut String, command: &ServedCommand) -> Result<(), Fail> {
-    let cells = command.translation.problem().cells();
+    let cells = command.problem.cells();
     Ok(write!(text, "{} with {cells};", command.number)?)
 }
 

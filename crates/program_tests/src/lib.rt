@@ -26,4 +26,6 @@ mod of_sessions;
 #[cfg(test)]
 mod of_words;
 #[cfg(test)]
+mod of_workers;
+#[cfg(test)]
 mod running;

@@ -2,11 +2,13 @@
 use crate::running::ends;
 use std::alloc::Global;
 use std::process::Abort;
+use std::sync::Wait;
 use std::test::Fail;
+use std::thread::Threads;
 
 // Whether these words on scripts of one model each have these lines.
-fn decides(
-    rt: &impl Abort,
+fn decides<R: Threads + Wait + Abort + Sync>(
+    rt: &R,
     alloc: Global,
     words: &[&str],
     rows: &[(&str, &str)],
@@ -95,7 +97,11 @@ fn a_budget_may_be_spent(rt: HostRuntime) -> Result<(), Fail> {
 }
 
 // Whether `assert` on these scripts has these statuses and outputs.
-fn answers(rt: &impl Abort, alloc: Global, rows: &[(&str, u8, &str)]) -> Result<(), Fail> {
+fn answers<R: Threads + Wait + Abort + Sync>(
+    rt: &R,
+    alloc: Global,
+    rows: &[(&str, u8, &str)],
+) -> Result<(), Fail> {
     for (script, status, expected) in rows {
         ends(rt, alloc, &["assert"], script.as_bytes(), *status, expected)?;
     }

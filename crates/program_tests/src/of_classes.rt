@@ -2,11 +2,13 @@
 use crate::running::{ends, explored};
 use std::alloc::Global;
 use std::process::Abort;
+use std::sync::Wait;
 use std::test::Fail;
+use std::thread::Threads;
 
 // Whether a session on this model that is given these commands has these lines of output under `distinct`.
-fn tells(
-    rt: &impl Abort,
+fn tells<R: Threads + Wait + Abort + Sync>(
+    rt: &R,
     alloc: Global,
     model: &str,
     commands: &str,
@@ -18,7 +20,11 @@ fn tells(
 }
 
 // Whether these scripts are refused under `distinct` with these lines.
-fn refuses(rt: &impl Abort, alloc: Global, rows: &[(&str, &str)]) -> Result<(), Fail> {
+fn refuses<R: Threads + Wait + Abort + Sync>(
+    rt: &R,
+    alloc: Global,
+    rows: &[(&str, &str)],
+) -> Result<(), Fail> {
     for (script, line) in rows {
         ends(rt, alloc, &["distinct"], script.as_bytes(), 4, line)?;
     }
@@ -26,19 +32,28 @@ fn refuses(rt: &impl Abort, alloc: Global, rows: &[(&str, &str)]) -> Result<(), 
 }
 
 // The last line that this word writes for a list of the model's first command.
-fn last_line(alloc: Global, word: &str, model: &str) -> Result<String, Fail> {
+fn last_line<R: Threads + Wait + Abort + Sync>(
+    rt: &R,
+    alloc: Global,
+    word: &str,
+    model: &str,
+) -> Result<String, Fail> {
     let script = format!(in alloc; "== model m\n{model}\n== session a m 1\nall 1000\n")?;
-    let (_, text) = explored(alloc, &[word], script.as_bytes(), &[], &[])?;
+    let (_, text) = explored(rt, alloc, &[word], script.as_bytes(), &[], &[])?;
     let line = text.lines().last().unwrap_or("nothing");
     Ok(String::from_str(alloc, line)?)
 }
 
 // Whether the lists of these models end with these lines, whole and by classes.
-fn counts(rt: &impl Abort, alloc: Global, rows: &[(&str, &str, &str)]) -> Result<(), Fail> {
+fn counts<R: Threads + Wait + Abort + Sync>(
+    rt: &R,
+    alloc: Global,
+    rows: &[(&str, &str, &str)],
+) -> Result<(), Fail> {
     for (model, whole, by_class) in rows {
-        let line = last_line(alloc, "run", model)?;
+        let line = last_line(rt, alloc, "run", model)?;
         assert_eq!(rt; line.as_str(), *whole, "{model}");
-        let line = last_line(alloc, "distinct", model)?;
+        let line = last_line(rt, alloc, "distinct", model)?;
         assert_eq!(rt; line.as_str(), *by_class, "{model}");
     }
     Ok(())

@@ -2,10 +2,16 @@
 use crate::running::{answered, answers, ends, grown, run, served, serves};
 use std::alloc::{AllocError, Global};
 use std::process::Abort;
+use std::sync::Wait;
 use std::test::Fail;
+use std::thread::Threads;
 
 // Whether sessions on these models show these lines when they are asked twice.
-fn shows(rt: &impl Abort, alloc: Global, rows: &[(&str, &str)]) -> Result<(), Fail> {
+fn shows<R: Threads + Wait + Abort + Sync>(
+    rt: &R,
+    alloc: Global,
+    rows: &[(&str, &str)],
+) -> Result<(), Fail> {
     for (model, lines) in rows {
         served(rt, alloc, model, "next\nnext\n", lines)?;
     }
@@ -55,7 +61,11 @@ fn shows_minimal_scenarios_and_then_an_end(rt: HostRuntime) -> Result<(), Fail> 
 }
 
 // Whether these models have these faults.
-fn refuses(rt: &impl Abort, alloc: Global, rows: &[(&str, &str)]) -> Result<(), Fail> {
+fn refuses<R: Threads + Wait + Abort + Sync>(
+    rt: &R,
+    alloc: Global,
+    rows: &[(&str, &str)],
+) -> Result<(), Fail> {
     for (model, fault) in rows {
         let script = format!(in alloc; "== model m_1\n{model}\n== session a m_1 1\nnext\n")?;
         let expected = format!(in alloc; "fault model m_1 {fault}\n")?;
@@ -210,8 +220,8 @@ fn tells_the_first_fault_of_a_script(rt: HostRuntime) -> Result<(), Fail> {
 }
 
 // Whether a script that grew like this has this fault.
-fn outgrows(
-    rt: &impl Abort,
+fn outgrows<R: Threads + Wait + Abort + Sync>(
+    rt: &R,
     alloc: Global,
     front: &str,
     line: (&str, bool, &str),
@@ -219,7 +229,7 @@ fn outgrows(
     fault: &str,
 ) -> Result<(), Fail> {
     let script = grown(alloc, front, line, count)?;
-    let (status, text) = run(alloc, &script)?;
+    let (status, text) = run(rt, alloc, &script)?;
     let expected = format!(in alloc; "fault script {fault}\n")?;
     assert_eq!(rt; text.as_str(), expected.as_str());
     assert_eq!(rt; status, 3);

@@ -2,11 +2,13 @@
 use crate::running::ends;
 use std::alloc::Global;
 use std::process::Abort;
+use std::sync::Wait;
 use std::test::Fail;
+use std::thread::Threads;
 
 // Whether `facts` on scripts of one model each has these statuses and outputs.
-fn finds(
-    rt: &impl Abort,
+fn finds<R: Threads + Wait + Abort + Sync>(
+    rt: &R,
     alloc: Global,
     words: &[&str],
     rows: &[(&str, u8, &str)],

@@ -4,7 +4,9 @@ use crate::running::{answered, ends, explored_widely, grown};
 use std::alloc::Global;
 use std::fmt::Write;
 use std::process::Abort;
+use std::sync::Wait;
 use std::test::Fail;
+use std::thread::Threads;
 
 const FILE_SYSTEM: &str =
     "== model m\nsig FSObject { parent: lone Dir } sig Dir extends FSObject { contents: set FSObject } sig File extends FSObject {} one sig Root extends Dir {} fact { File + Dir = FSObject } fact { all d: Dir, o: d.contents | o.parent = d } fact { no Root.parent FSObject in Root.*contents } run {} for 3\n== session a m 1\nnext\naugment File FSObject$1\nall 10\n";
@@ -13,13 +15,20 @@ const FILE_SYSTEM_LINES: &str =
     "== a\nscenario 1\nFSObject = {FSObject$0}\nDir = {FSObject$0}\nFile = {}\nRoot = {FSObject$0}\nparent = {}\ncontents = {}\naugmented\nlisted 1\nFSObject = {FSObject$0, FSObject$1, FSObject$2}\nDir = {FSObject$0, FSObject$2}\nFile = {FSObject$1}\nRoot = {FSObject$0}\nparent = {FSObject$1->FSObject$2, FSObject$2->FSObject$0}\ncontents = {FSObject$0->FSObject$2, FSObject$2->FSObject$1}\nlisted 2\nFSObject = {FSObject$0, FSObject$1}\nDir = {FSObject$0}\nFile = {FSObject$1}\nRoot = {FSObject$0}\nparent = {FSObject$1->FSObject$0}\ncontents = {FSObject$0->FSObject$1}\nend 2\n";
 
 // Whether the file system has this status and, of its lines, so many bytes at the front, where the calls of these numbers fail.
-fn grows(
-    rt: &impl Abort,
+fn grows<R: Threads + Wait + Abort + Sync>(
+    rt: &R,
     alloc: Global,
     (reads, writes): (&[u32], &[u32]),
     (status, size): (u8, usize),
 ) -> Result<(), Fail> {
-    let (found, text) = explored_widely(alloc, &["run"], FILE_SYSTEM.as_bytes(), reads, writes)?;
+    let (found, text) = explored_widely(
+        rt,
+        alloc,
+        &["run"],
+        FILE_SYSTEM.as_bytes(),
+        reads,
+        writes,
+    )?;
     assert_eq!(rt; found, status);
     assert_eq!(rt; text.len(), size);
     assert!(rt; FILE_SYSTEM_LINES.starts_with(text.as_str()));
@@ -87,8 +96,8 @@ fn a_script_ends_anywhere(rt: HostRuntime) -> Result<(), Fail> {
 }
 
 // Whether so many lines behind a model, and behind the line of a session where it is wanted, are answered by so many copies.
-fn takes(
-    rt: &impl Abort,
+fn takes<R: Threads + Wait + Abort + Sync>(
+    rt: &R,
     alloc: Global,
     session: &str,
     (line, count): ((&str, bool, &str), u32),
@@ -148,8 +157,8 @@ fn each_number_of_workers_writes_the_same(rt: HostRuntime) -> Result<(), Fail> {
 }
 
 // The output for a model that begins so, goes on with so many copies and ends with a command, where a session asks for a scenario.
-fn large(
-    rt: &impl Abort,
+fn large<R: Threads + Wait + Abort + Sync>(
+    rt: &R,
     alloc: Global,
     front: &str,
     (copy, count): (&str, u32),

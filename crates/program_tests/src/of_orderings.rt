@@ -70,7 +70,7 @@ fn lists_each_order_of_named_atoms(rt: HostRuntime) -> Result<(), Fail> {
         let script = format!(in rt.alloc();
             "== model m\nopen util/ordering[T] as o sig T {{}} {names} run {{ {formula} }} for {scope}\n== session a m 1\nall 30\n"
         )?;
-        let (status, text) = run(rt.alloc(), &script)?;
+        let (status, text) = run(&rt, rt.alloc(), &script)?;
         let end = format!(in rt.alloc(); "\nend {orders}\n")?;
         assert!(rt; text.as_str().ends_with(end.as_str()), "{text}");
         assert_eq!(rt; status, 0, "{text}");

@@ -2,16 +2,24 @@
 use crate::running::{ends, explored, run};
 use std::alloc::Global;
 use std::process::Abort;
+use std::sync::Wait;
 use std::test::Fail;
+use std::thread::Threads;
 
 // Whether the word `check` has this status and this line for a proof text.
-fn checks(rt: &impl Abort, alloc: Global, text: &str, status: u8, line: &str) -> Result<(), Fail> {
+fn checks<R: Threads + Wait + Abort + Sync>(
+    rt: &R,
+    alloc: Global,
+    text: &str,
+    status: u8,
+    line: &str,
+) -> Result<(), Fail> {
     ends(rt, alloc, &["check"], text.as_bytes(), status, line)
 }
 
 // The same of a square of clauses and a step, between these lines.
-fn checks_square(
-    rt: &impl Abort,
+fn checks_square<R: Threads + Wait + Abort + Sync>(
+    rt: &R,
     alloc: Global,
     (first, last): (&str, &str),
     status: u8,
@@ -83,9 +91,9 @@ fn tells_faults_of_proof_texts(rt: HostRuntime) -> Result<(), Fail> {
 #[test]
 fn tells_what_failed_of_proof_texts(rt: HostRuntime) -> Result<(), Fail> {
     let alloc = rt.alloc();
-    let (found, written) = explored(alloc, &["check"], b"c 0\ns 0 1 0\n", &[2], &[])?;
+    let (found, written) = explored(&rt, alloc, &["check"], b"c 0\ns 0 1 0\n", &[2], &[])?;
     assert_eq!(rt; (found, written.as_str()), (5, ""));
-    let (found, written) = explored(alloc, &["check"], b"c 0 \ns 0 1 0\n", &[], &[1])?;
+    let (found, written) = explored(&rt, alloc, &["check"], b"c 0 \ns 0 1 0\n", &[], &[1])?;
     assert_eq!(rt; (found, written.as_str()), (6, ""));
     Ok(())
 }
@@ -104,7 +112,12 @@ fn has_lines(alloc: Global, text: &str, count: &str) -> Result<bool, Fail> {
 }
 
 // Whether a text is these lines, and a proof that the program accepts behind them.
-fn ends_in_proof(rt: &impl Abort, alloc: Global, text: &str, lines: &str) -> Result<(), Fail> {
+fn ends_in_proof<R: Threads + Wait + Abort + Sync>(
+    rt: &R,
+    alloc: Global,
+    text: &str,
+    lines: &str,
+) -> Result<(), Fail> {
     let Some((front, count, proof)) = parts_of(text) else {
         return Ok(assert!(rt; false));
     };
@@ -114,8 +127,8 @@ fn ends_in_proof(rt: &impl Abort, alloc: Global, text: &str, lines: &str) -> Res
 }
 
 // Whether a session on this model has these lines of output and then a proof.
-fn prints_proof(
-    rt: &impl Abort,
+fn prints_proof<R: Threads + Wait + Abort + Sync>(
+    rt: &R,
     alloc: Global,
     model: &str,
     commands: &str,
@@ -123,7 +136,7 @@ fn prints_proof(
 ) -> Result<(), Fail> {
     let script = format!(in alloc; "== model m\n{model}\n== session a m 1\n{commands}proof\n")?;
     let expected = format!(in alloc; "== a\n{lines}")?;
-    let (status, text) = run(alloc, &script)?;
+    let (status, text) = run(rt, alloc, &script)?;
     assert_eq!(rt; status, 0);
     ends_in_proof(rt, alloc, &text, &expected)
 }

@@ -146,7 +146,7 @@ fn lines_that_are(text: &str, wanted: &str) -> u32 {
 #[test]
 fn has_64_floors(rt: HostRuntime) -> Result<(), Fail> {
     let script = rising(rt.alloc())?;
-    let (_, text) = run(rt.alloc(), &script)?;
+    let (_, text) = run(&rt, rt.alloc(), &script)?;
     assert_eq!(rt; lines_that_are(&text, "augmented"), 64);
     assert!(rt; text.as_str().ends_with("refused deep\nback\nend 1\n"));
     Ok(())
@@ -156,7 +156,7 @@ fn has_64_floors(rt: HostRuntime) -> Result<(), Fail> {
 fn lists_20_000_scenarios(rt: HostRuntime) -> Result<(), Fail> {
     let front = "== model m\nsig A { f: set A } run { some A } for 4\n== session a m 1\n";
     let script = grown(rt.alloc(), front, ("all 1000\n", false, ""), 20)?;
-    let (status, text) = run(rt.alloc(), &script)?;
+    let (status, text) = run(&rt, rt.alloc(), &script)?;
     assert_eq!(rt; (status, lines_that_are(&text, "end 1")), (0, 20));
     Ok(())
 }

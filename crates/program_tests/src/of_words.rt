@@ -2,11 +2,13 @@
 use crate::running::{ends, explored};
 use std::alloc::{AllocError, Global};
 use std::process::Abort;
+use std::sync::Wait;
 use std::test::Fail;
+use std::thread::Threads;
 
 // Whether these words have this status and this output with a script of two steps, where the calls of these numbers fail.
-fn fails(
-    rt: &impl Abort,
+fn fails<R: Threads + Wait + Abort + Sync>(
+    rt: &R,
     alloc: Global,
     words: &[&str],
     (reads, writes): (&[u32], &[u32]),
@@ -14,7 +16,7 @@ fn fails(
     expected: &str,
 ) -> Result<(), Fail> {
     let script = b"== model m\nsig A {} run {} for 2\n== session a m 1\nnext\nnext\n";
-    let (found, text) = explored(alloc, words, script, reads, writes)?;
+    let (found, text) = explored(rt, alloc, words, script, reads, writes)?;
     assert_eq!(rt; text.as_str(), expected);
     assert_eq!(rt; found, status);
     Ok(())
@@ -50,8 +52,8 @@ fn reads_nothing_for_other_words(rt: HostRuntime) -> Result<(), Fail> {
 }
 
 // Whether the word `run` has this status and this output for these bytes, filled up with number signs to a size.
-fn reads(
-    rt: &impl Abort,
+fn reads<R: Threads + Wait + Abort + Sync>(
+    rt: &R,
     alloc: Global,
     front: &[u8],
     size: usize,
@@ -95,8 +97,12 @@ fn reads_a_mebibyte_without_effect(rt: HostRuntime) -> Result<(), Fail> {
 }
 
 // Whether the words are refused, and nothing is read, where the first read would fail.
-fn is_refused(alloc: Global, words: &[&str]) -> Result<bool, AllocError> {
-    let (status, text) = explored(alloc, words, b"== model m\n", &[1], &[])?;
+fn is_refused<R: Threads + Wait + Abort + Sync>(
+    rt: &R,
+    alloc: Global,
+    words: &[&str],
+) -> Result<bool, AllocError> {
+    let (status, text) = explored(rt, alloc, words, b"== model m\n", &[1], &[])?;
     Ok(status == 2 && text.as_str() == "fault words\n")
 }
 
@@ -111,18 +117,18 @@ fn takes_options_of_run(rt: HostRuntime) -> Result<(), Fail> {
 #[test]
 fn refuses_other_options(rt: HostRuntime) -> Result<(), Fail> {
     let alloc = rt.alloc();
-    assert!(rt; is_refused(alloc, &["run", "--workers", "4", "--workers", "4"])?);
-    assert!(rt; is_refused(alloc, &["run", "--"])?);
-    assert!(rt; is_refused(alloc, &["run", "-h"])?);
-    assert!(rt; is_refused(alloc, &["help"])?);
+    assert!(rt; is_refused(&rt, alloc, &["run", "--workers", "4", "--workers", "4"])?);
+    assert!(rt; is_refused(&rt, alloc, &["run", "--"])?);
+    assert!(rt; is_refused(&rt, alloc, &["run", "-h"])?);
+    assert!(rt; is_refused(&rt, alloc, &["help"])?);
     Ok(())
 }
 
 #[test]
 fn refuses_other_numbers_of_workers(rt: HostRuntime) -> Result<(), Fail> {
     let alloc = rt.alloc();
-    assert!(rt; is_refused(alloc, &["run", "--workers", "0"])?);
-    assert!(rt; is_refused(alloc, &["run", "--workers="])?);
-    assert!(rt; is_refused(alloc, &[])?);
+    assert!(rt; is_refused(&rt, alloc, &["run", "--workers", "0"])?);
+    assert!(rt; is_refused(&rt, alloc, &["run", "--workers="])?);
+    assert!(rt; is_refused(&rt, alloc, &[])?);
     Ok(())
 }

@@ -1,10 +1,12 @@
 // Runs of the program over sources and sinks in memory.
-use explorer_cli::explore;
+use explorer_cli::{Gate, OpenGate, explore};
 use outside_io::{MemSink, MemSource};
 use std::alloc::{AllocError, Global};
 use std::fmt::Write;
 use std::process::Abort;
+use std::sync::Wait;
 use std::test::Fail;
+use std::thread::Threads;
 
 fn owned(alloc: Global, words: &[&str]) -> Result<Vec<String>, AllocError> {
     let mut owned = Vec::new(alloc);
@@ -41,12 +43,19 @@ fn wide_sink(alloc: Global, failing: &[u32]) -> Result<MemSink, AllocError> {
 }
 
 // The program's status.
-fn status(alloc: Global, words: &[String], source: &mut MemSource, sink: &mut MemSink) -> u8 {
-    explore(alloc, words, source, sink)
+fn status<R: Threads + Wait + Abort + Sync>(
+    rt: &R,
+    alloc: Global,
+    words: &[String],
+    source: &mut MemSource,
+    sink: &mut MemSink,
+) -> u8 {
+    explore(rt, alloc, words, source, sink, &OpenGate)
 }
 
 /// The status and the output for these words and this script, where the calls of these numbers fail.
-pub fn explored(
+pub fn explored<R: Threads + Wait + Abort + Sync>(
+    rt: &R,
     alloc: Global,
     words: &[&str],
     script: &[u8],
@@ -56,12 +65,13 @@ pub fn explored(
     let owned = owned(alloc, words)?;
     let mut source = source(alloc, script, failing_reads)?;
     let mut sink = sink(alloc, failing_writes)?;
-    let status = status(alloc, &owned, &mut source, &mut sink);
+    let status = status(rt, alloc, &owned, &mut source, &mut sink);
     Ok((status, String::from_utf8_lossy(alloc, sink.bytes())?))
 }
 
 /// The same with sixteen bytes a call.
-pub fn explored_widely(
+pub fn explored_widely<R: Threads + Wait + Abort + Sync>(
+    rt: &R,
     alloc: Global,
     words: &[&str],
     script: &[u8],
@@ -71,47 +81,67 @@ pub fn explored_widely(
     let owned = owned(alloc, words)?;
     let mut source = wide_source(alloc, script, failing_reads)?;
     let mut sink = wide_sink(alloc, failing_writes)?;
-    let status = status(alloc, &owned, &mut source, &mut sink);
+    let status = status(rt, alloc, &owned, &mut source, &mut sink);
+    Ok((status, String::from_utf8_lossy(alloc, sink.bytes())?))
+}
+
+/// The status and the output for `run` with so many workers, who pass this gate, and this script.
+pub fn run_through<R: Threads + Wait + Abort + Sync, G: Gate + Sync>(
+    rt: &R,
+    alloc: Global,
+    gate: &G,
+    workers: u32,
+    script: &str,
+) -> Result<(u8, String), AllocError> {
+    let workers = format!(in alloc; "{workers}")?;
+    let words = owned(alloc, &["run", "--workers", &workers])?;
+    let mut source = wide_source(alloc, script.as_bytes(), &[])?;
+    let mut sink = wide_sink(alloc, &[])?;
+    let status = explore(rt, alloc, &words, &mut source, &mut sink, gate);
     Ok((status, String::from_utf8_lossy(alloc, sink.bytes())?))
 }
 
 /// The status and the output for the word `run` and this script.
-pub fn run(alloc: Global, script: &str) -> Result<(u8, String), AllocError> {
-    explored(alloc, &["run"], script.as_bytes(), &[], &[])
+pub fn run<R: Threads + Wait + Abort + Sync>(
+    rt: &R,
+    alloc: Global,
+    script: &str,
+) -> Result<(u8, String), AllocError> {
+    explored(rt, alloc, &["run"], script.as_bytes(), &[], &[])
 }
 
 /// Whether these words with these bytes to read have this status and this output.
-pub fn ends(
-    rt: &impl Abort,
+pub fn ends<R: Threads + Wait + Abort + Sync>(
+    rt: &R,
     alloc: Global,
     words: &[&str],
     script: &[u8],
     status: u8,
     expected: &str,
 ) -> Result<(), Fail> {
-    let (found, text) = explored(alloc, words, script, &[], &[])?;
+    let (found, text) = explored(rt, alloc, words, script, &[], &[])?;
     assert_eq!(rt; text.as_str(), expected);
     assert_eq!(rt; found, status);
     Ok(())
 }
 
 /// Whether this script has this status and this output.
-pub fn answered(
-    rt: &impl Abort,
+pub fn answered<R: Threads + Wait + Abort + Sync>(
+    rt: &R,
     alloc: Global,
     script: &str,
     status: u8,
     expected: &str,
 ) -> Result<(), Fail> {
-    let (found, text) = run(alloc, script)?;
+    let (found, text) = run(rt, alloc, script)?;
     assert_eq!(rt; text.as_str(), expected, "{script}");
     assert_eq!(rt; found, status, "{script}");
     Ok(())
 }
 
 /// Whether these scripts have this status and these outputs.
-pub fn answers(
-    rt: &impl Abort,
+pub fn answers<R: Threads + Wait + Abort + Sync>(
+    rt: &R,
     alloc: Global,
     status: u8,
     rows: &[(&str, &str)],
@@ -123,8 +153,8 @@ pub fn answers(
 }
 
 /// Whether a session on this model that is given these commands has these lines of output.
-pub fn served(
-    rt: &impl Abort,
+pub fn served<R: Threads + Wait + Abort + Sync>(
+    rt: &R,
     alloc: Global,
     model: &str,
     commands: &str,
@@ -136,7 +166,11 @@ pub fn served(
 }
 
 /// Whether sessions on these models that are given these commands have these lines of output.
-pub fn serves(rt: &impl Abort, alloc: Global, rows: &[(&str, &str, &str)]) -> Result<(), Fail> {
+pub fn serves<R: Threads + Wait + Abort + Sync>(
+    rt: &R,
+    alloc: Global,
+    rows: &[(&str, &str, &str)],
+) -> Result<(), Fail> {
     for (model, commands, lines) in rows {
         served(rt, alloc, model, commands, lines)?;
     }

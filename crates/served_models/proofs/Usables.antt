@@ -19,9 +19,9 @@ use Rattle.served_models.specs.Served.{IsAsked, IsProblemOf, Fits, IsUnfit, rena
 
 -- ---- one command
 
--- its problem is translated, or it can't be used for this
+-- its problem is made, or it can't be used for this
 pub served_or_unfit : (purpose : Purpose) (m : NamedTree) (number : ℕ) (p : Bounded) (found : Result ServedCommand (Vec ℕ Global)) → IsProblemOf m number p
-    → MatchResult found (λ (x : ServedCommand). (x.number ≡ number) × (x.translation.problem ≡ p) × Fits purpose p) (λ (words : Vec ℕ Global). IsUnfit purpose p × (words.items ≡ renamings_words number))
+    → MatchResult found (λ (x : ServedCommand). (x.number ≡ number) × (x.problem ≡ p) × Fits purpose p) (λ (words : Vec ℕ Global). IsUnfit purpose p × (words.items ≡ renamings_words number))
     → MatchResult found (IsServedFor purpose m number) (λ (words : Vec ℕ Global). IsUnusable purpose m number words.items)
 served_or_unfit purpose m number p (Ok x) is h = (h.0, subst (IsProblemOf m number) (sym h.1) is, subst (Fits purpose) (sym h.1) h.2)
 served_or_unfit purpose m number p (Err words) is h = inr (record { problem = p; is = is; unfit = h.0; words_are = h.1 })
@@ -40,8 +40,8 @@ module _ (purpose : Purpose) (sessions : List SessionEntry) (place : ℕ) (m : N
 
   pub none_made : IsMadeBelow 0 []
   none_made = record {
-    each = All-nil (λ (x : ServedCommand). IsProblemOf m x.number x.translation.problem);
-    fit = All-nil (λ (x : ServedCommand). Fits purpose x.translation.problem);
+    each = All-nil (λ (x : ServedCommand). IsProblemOf m x.number x.problem);
+    fit = All-nil (λ (x : ServedCommand). Fits purpose x.problem);
     asked = All-nil (λ (x : ServedCommand). IsAsked sessions place x.number);
     below = All-nil (λ (x : ServedCommand). x.number < 0);
     all = λ number asked l. absurd (omega arith);
@@ -55,11 +55,11 @@ module _ (purpose : Purpose) (sessions : List SessionEntry) (place : ℕ) (m : N
   pub made_more : (from number : ℕ) (made new : List ServedCommand) (x : ServedCommand) → new ≡ made ++ x ∷ [] → IsLeastAsked sessions place from number → IsServedFor purpose m number x
       → IsMadeBelow from made → IsMadeBelow (number + 1) new
   made_more from number made new x pushed least served below =
-      let IsOf : ServedCommand → Type 0 = λ (y : ServedCommand). IsProblemOf m y.number y.translation.problem in
-      let this : IsOf x = subst (λ (n : ℕ). IsProblemOf m n x.translation.problem) (sym served.0) served.1 in
+      let IsOf : ServedCommand → Type 0 = λ (y : ServedCommand). IsProblemOf m y.number y.problem in
+      let this : IsOf x = subst (λ (n : ℕ). IsProblemOf m n x.problem) (sym served.0) served.1 in
       subst (IsMadeBelow (number + 1)) (sym pushed) (record {
         each = All-append IsOf made (x ∷ []) below.each (All-cons IsOf x [] this (All-nil IsOf));
-        fit = All-push (λ (y : ServedCommand). Fits purpose y.translation.problem) made x below.fit served.2;
+        fit = All-push (λ (y : ServedCommand). Fits purpose y.problem) made x below.fit served.2;
         asked = All-push (λ (y : ServedCommand). IsAsked sessions place y.number) made x below.asked (subst (IsAsked sessions place) (sym served.0) least.asked);
         below = All-push (λ (y : ServedCommand). y.number < number + 1) made x
             (All-weaker (λ (y : ServedCommand). y.number < from) (λ (y : ServedCommand). y.number < number + 1) (λ y l. let behind = least.behind in omega arith) made below.below)
@@ -78,9 +78,9 @@ module _ (purpose : Purpose) (sessions : List SessionEntry) (place : ℕ) (m : N
   -- a command for which one is made has a problem
   has_problem : (made : List ServedCommand) (number : ℕ) → AreOf m made → AreFit purpose made → HasMade made number → HasProblem purpose m number
   has_problem made number each fit (x, in', is) = (
-    x.translation.problem,
-    subst (λ (n : ℕ). IsProblemOf m n x.translation.problem) is (All-contains (λ (y : ServedCommand). IsProblemOf m y.number y.translation.problem) made x each in'),
-    All-contains (λ (y : ServedCommand). Fits purpose y.translation.problem) made x fit in',
+    x.problem,
+    subst (λ (n : ℕ). IsProblemOf m n x.problem) is (All-contains (λ (y : ServedCommand). IsProblemOf m y.number y.problem) made x each in'),
+    All-contains (λ (y : ServedCommand). Fits purpose y.problem) made x fit in',
   )
 
   -- so each with a lower number has one

@@ -124,23 +124,23 @@ pub record IsLeastAsked (sessions : List SessionEntry) (place from number : ℕ)
 abbrev pub IsNext : List SessionEntry → ℕ → ℕ → Option ℕ → Type 0
 IsNext sessions place from found = MatchOption found ((n : ℕ) → IsAsked sessions place n → n < from) (IsLeastAsked sessions place from)
 
--- this is the translation of the problem of the command of this number, which can be used for this
+-- this is the problem of the command of this number, which can be used for this
 abbrev pub IsServedFor : Purpose → NamedTree → ℕ → ServedCommand → Type 0
-IsServedFor purpose m number x = (x.number ≡ number) × IsProblemOf m number x.translation.problem × Fits purpose x.translation.problem
+IsServedFor purpose m number x = (x.number ≡ number) × IsProblemOf m number x.problem × Fits purpose x.problem
 
--- each of these is the translation of a command's problem
+-- each of these is a command's problem
 abbrev pub AreOf : NamedTree → List ServedCommand → Type 0
-AreOf m made = All (λ (x : ServedCommand). IsProblemOf m x.number x.translation.problem) made
+AreOf m made = All (λ (x : ServedCommand). IsProblemOf m x.number x.problem) made
 
 -- and can be used for this
 abbrev pub AreFit : Purpose → List ServedCommand → Type 0
-AreFit purpose made = All (λ (x : ServedCommand). Fits purpose x.translation.problem) made
+AreFit purpose made = All (λ (x : ServedCommand). Fits purpose x.problem) made
 
 -- one of these is that of the command of this number
 abbrev pub HasMade : List ServedCommand → ℕ → Type 0
 HasMade made number = (x : ServedCommand) × Contains made x × (x.number ≡ number)
 
--- these are translations of the problems of a model's commands, of just those on which sessions are, in rising order
+-- these are the problems of a model's commands, of just those on which sessions are, in rising order
 pub record AreMade (purpose : Purpose) (sessions : List SessionEntry) (place : ℕ) (m : NamedTree) (made : List ServedCommand) : Type 0 where
   pub each : AreOf m made
   pub fit : AreFit purpose made

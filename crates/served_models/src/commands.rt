@@ -1,27 +1,23 @@
 // The commands of a model on which sessions are.
 ghost use Rattle.std.specs.Prelude.{◌≡◌, IfOk, MatchResult};
-ghost use Rattle.rel_formula.specs.Renaming.{IsSymmetric};
-ghost use Rattle.rel_terms.specs.Terms.{IsTranslatable};
 ghost use Rattle.named_model.specs.View.{named_view};
 ghost use Rattle.rel_lower.specs.Lowered.{IsTyped};
 ghost use Rattle.served_models.specs.Served.{AreServed, Fits, IsUnfit, IsProblemOf, IsServedFor, LacksProblem, IsUnusable, renamings_words};
 
 use crate::numbers::next_asked;
 use crate::purposes::{Purpose, fits, renamings_words};
-use lowering_rules::laws::problems_are_symmetric;
 use model_texts::fault_words::command_words;
 use named_model::Named;
 use rel_formula::Problem;
 use rel_lower::lower;
 use script_format::SessionEntry;
 use std::alloc::{AllocError, Global};
-use translation::Translation;
 
-/// The translation of the problem of a model's command of this number.
+/// The problem of a model's command of this number.
 #[derive(Drop)]
 pub struct ServedCommand {
     pub number: u32,
-    pub translation: Translation,
+    pub problem: Problem,
 }
 
 /// What was found of the commands of a model on which sessions are.
@@ -33,7 +29,7 @@ pub enum Commands {
     Refused(Vec<u8>),
 }
 
-/// Translates the problems of just the commands of the model at this place on which sessions are, in rising order of their numbers.
+/// The problems of just the commands of the model at this place on which sessions are, in rising order of their numbers.
 pub fn served(
     alloc: Global,
     purpose: Purpose,
@@ -47,7 +43,7 @@ pub fn served(
     let mut made = Vec::new(alloc);
     let mut from = 0;
     'asked: while let Some(number) = next_asked(sessions, place, from) {
-        match translated(alloc, purpose, model, number)? {
+        match served_command(alloc, purpose, model, number)? {
             Ok(command) => made.push(command)?,
             Err(words) => return Ok(Commands::Refused(words)),
         }
@@ -56,8 +52,8 @@ pub fn served(
     Ok(Commands::Ready(made))
 }
 
-// The translation of the problem of the model's command of this number, or the words that tell why it can't be used.
-fn translated(
+// The problem of the model's command of this number, or the words that tell why it can't be used.
+fn served_command(
     alloc: Global,
     purpose: Purpose,
     model: &Named,
@@ -66,7 +62,6 @@ fn translated(
     requires { IsTyped (named_view model.now) }
     ensures { IfOk result (λ found. MatchResult found (IsServedFor purpose (named_view model.now) number) (λ words. IsUnusable purpose (named_view model.now) number words.items)) }
 {
-    problems_are_symmetric();
     match problem_of(alloc, model, number)? {
         Ok(problem) => Ok(with_problem(alloc, purpose, number, problem)?),
         Err(words) => Ok(Err(words)),
@@ -92,24 +87,18 @@ pub fn problem_of(
     }
 }
 
-// The translation of the problem of the command of this number, or the words that tell that it can't be used for this.
+// The problem of the command of this number, or the words that tell that it can't be used for this.
 fn with_problem(
     alloc: Global,
     purpose: Purpose,
     number: u32,
     problem: Problem,
 ) -> Result<Result<ServedCommand, Vec<u8>>, AllocError>
-    requires translatable { IsTranslatable problem }
-    requires symmetric { IsSymmetric problem }
-    ensures { IfOk result (λ found. MatchResult found (λ x. (x.number ≡ number) × (x.translation.problem ≡ problem) × Fits purpose problem)
+    ensures { IfOk result (λ found. MatchResult found (λ x. (x.number ≡ number) × (x.problem ≡ problem) × Fits purpose problem)
         (λ words. IsUnfit purpose problem × (words.items ≡ renamings_words number))) }
 {
     if fits(purpose, &problem) {
-        let translation = Translation::build(alloc, problem)?;
-        return Ok(Ok(ServedCommand {
-            number,
-            translation,
-        }));
+        return Ok(Ok(ServedCommand { number, problem }));
     }
     Ok(Err(renamings_words(alloc, number)?))
 }

@@ -1,4 +1,4 @@
-//! The models of a script, and the translations of the problems on which its sessions are.
+//! The models of a script, and the problems on which its sessions are.
 #![tactic(auto)]
 
 mod commands;

@@ -11,14 +11,14 @@ use std::alloc::{AllocError, Global};
 /// What the models of a script are.
 #[derive(Drop)]
 pub enum Models {
-    /// Models in order, in which each command on which sessions are has a problem that can be used: of each model the translations
-    /// of these.
+    /// Models in order, in which each command on which sessions are has a problem that can be used: of each model the problems of
+    /// these.
     Ready(Vec<Vec<ServedCommand>>),
     /// One of them can't be used: the line that refuses the first of these.
     Refused(Vec<u8>),
 }
 
-/// Reads the models of a script, whose texts have at most 1,048,576 bytes, in order, used or not, and translates the problems of
+/// Reads the models of a script, whose texts have at most 1,048,576 bytes, in order, used or not, and gives the problems of
 /// commands on which sessions are. A command whose problem can't be used for this is refused as one that has none.
 pub fn read_models(
     alloc: Global,

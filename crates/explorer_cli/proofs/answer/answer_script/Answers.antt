@@ -1,37 +1,52 @@
-use Rattle.std.proofs.Common.{◌≤◌, ◌<◌, inr, List, All, length, refl, sym, subst}
-use Rattle.std.specs.Global.{Vec}
-use Rattle.script_format.specs.Limits.{asked_by}
-use Rattle.script_format.specs.declared.entries.SessionEntry.{SessionEntry}
+use Rattle.std.proofs.Common.{◌≤◌, inr, List, All, length, refl, sym, subst}
 use Rattle.script_format.specs.declared.entries.ModelEntry.{ModelEntry}
-use Rattle.served_models.specs.declared.commands.ServedCommand.{ServedCommand}
+use Rattle.session_rules.specs.declared.script.SessionScript.{SessionScript}
 use Rattle.served_models.specs.declared.models.Models.{Models}
-use Rattle.served_models.specs.Served.{AreUsed, AreFound}
-use Rattle.explorer_cli.specs.Runs.{IsServed}
+use Rattle.served_models.specs.Served.{AreFound}
+use Rattle.explorer_run.specs.Served.{translations_of}
+use Rattle.explorer_cli.specs.Classes.{AreTranscriptTexts}
+use Rattle.explorer_cli.proofs.Servables.{problems_are_servable, all_on, all_can_be_served, few_sessions}
 use Rattle.explorer_cli.proofs.ServedOutputs.{runs_answer_of}
-use Rattle.explorer_cli.proofs.Usables.{all_served, asked_each}
 use Rattle.explorer_cli.proofs.answer.answer_script.Goals as goal
 
-pub text_of_sessions-requires-clause-served : goal.text_of_sessions-requires-clause-served
-text_of_sessions-requires-clause-served c =
+pub read_models-requires : goal.read_models-requires
+read_models-requires g c = subst (λ (es : List ModelEntry). All (λ (m : ModelEntry). length m.text ≤ 1048576) es) (sym c.entries.ensures) c.requires.limits.small
+
+pub run_sessions-requires-clause-problems : goal.run_sessions-requires-clause-problems
+run_sessions-requires-clause-problems g c κs within =
     let sessions = c.entries-sessions.result.now in
     let entries = c.entries.result.now in
-    let used : AreUsed c.args.purpose sessions entries c.in-Ready.models.items = subst (λ (m : Models). AreFound c.args.purpose sessions entries m) c.in-Ready.is c.in_ok-models.ensures in
-    let named : All (λ (x : SessionEntry). x.model < length entries) sessions =
-    subst (λ (es : List ModelEntry). All (λ (x : SessionEntry). x.model < length es) sessions) (sym c.entries.ensures)
-    (subst (λ (xs : List SessionEntry). All (λ (x : SessionEntry). x.model < length c.args.script.now.models) xs) (sym c.entries-sessions.ensures) c.requires.named) in
-    subst (λ (ts : List (Vec ServedCommand)). All (IsServed ts) sessions) (sym c.deref.ensures.value) (all_served c.args.purpose sessions entries c.in-Ready.models.items used named)
+    let used = subst (λ (m : Models). AreFound c.args.purpose sessions entries m) c.in-Ready.is c.in_ok-models.ensures in
+    problems_are_servable c.args.purpose c.args.script.now sessions entries c.in-Ready.models.items c.entries-sessions.ensures c.entries.ensures used c.requires.limits c.problems_are_symmetric.ensures
 
-pub text_of_sessions-requires-clause-asked : goal.text_of_sessions-requires-clause-asked
-text_of_sessions-requires-clause-asked c =
-    subst (λ (xs : List SessionEntry). All (λ (x : SessionEntry). asked_by x.commands ≤ 20000) xs) (sym c.entries-sessions.ensures) (asked_each c.args.script.now.sessions 20000 c.requires.asked)
+pub run_sessions-requires-clause-sessions : goal.run_sessions-requires-clause-sessions
+run_sessions-requires-clause-sessions g c κs within =
+    let sessions = c.entries-sessions.result.now in
+    let entries = c.entries.result.now in
+    let used = subst (λ (m : Models). AreFound c.args.purpose sessions entries m) c.in-Ready.is c.in_ok-models.ensures in
+    all_can_be_served c.args.purpose c.args.script.now sessions entries c.in-Ready.models.items c.entries-sessions.ensures c.entries.ensures used c.requires.limits
+
+pub run_sessions-requires-clause-few : goal.run_sessions-requires-clause-few
+run_sessions-requires-clause-few g c κs within =
+    let sessions = c.entries-sessions.result.now in
+    let entries = c.entries.result.now in
+    let used = subst (λ (m : Models). AreFound c.args.purpose sessions entries m) c.in-Ready.is c.in_ok-models.ensures in
+    few_sessions c.args.purpose c.args.script.now sessions entries c.in-Ready.models.items c.entries-sessions.ensures c.entries.ensures used c.requires.limits
 
 pub returns-in_ok-text_of_sessions-in-Ready-clause-answer : goal.returns-in_ok-text_of_sessions-in-Ready-clause-answer
-returns-in_ok-text_of_sessions-in-Ready-clause-answer c =
+returns-in_ok-text_of_sessions-in-Ready-clause-answer g c =
     let sessions = c.entries-sessions.result.now in
     let entries = c.entries.result.now in
-    let used : AreUsed c.args.purpose sessions entries c.in-Ready.models.items = subst (λ (m : Models). AreFound c.args.purpose sessions entries m) c.in-Ready.is c.in_ok-models.ensures in
+    let models = c.in-Ready.models.items in
+    let used = subst (λ (m : Models). AreFound c.args.purpose sessions entries m) c.in-Ready.is c.in_ok-models.ensures in
+    let on = all_on c.args.purpose c.args.script.now sessions entries models c.entries-sessions.ensures c.entries.ensures used c.requires.limits in
+    let ran = c.in_ok-ran-in-Ready.ran in
+    let text = c.in_ok-text_of_sessions-in-Ready.field-0.items in
+    let texts = subst (λ (scripts : List SessionScript). AreTranscriptTexts c.args.purpose (translations_of ran.served) scripts ran.served.transcripts.items text) c.deref.ensures.value
+    c.in_ok-text_of_sessions-in-Ready.ensures.texts in
     inr (
       refl,
-      runs_answer_of c.args.purpose c.args.budget c.args.script.now sessions entries c.in-Ready.models.items c.deref.result.now c.in_ok-text_of_sessions-in-Ready.field-0.items
-          c.entries-sessions.ensures c.entries.ensures c.deref.ensures.value used c.in_ok-text_of_sessions-in-Ready.ensures.texts c.in_ok-text_of_sessions-in-Ready.ensures.fits,
+      runs_answer_of c.what_was_published_stands.ensures c.a_told_session_is_backed.ensures c.args.purpose c.args.budget c.args.script.now sessions entries models ran
+          text c.entries-sessions.ensures c.entries.ensures used on c.in_ok-ran-in-Ready.ensures
+          texts c.in_ok-text_of_sessions-in-Ready.ensures.fits,
     )

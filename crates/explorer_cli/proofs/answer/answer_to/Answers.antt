@@ -5,36 +5,36 @@ use Rattle.explorer_cli.specs.Outcome.{IsStatusOf, IsAnswerTo}
 use Rattle.explorer_cli.proofs.answer.answer_to.Goals as goal
 
 pub returns-in-Run-clause-answer : goal.returns-in-Run-clause-answer
-returns-in-Run-clause-answer c =
+returns-in-Run-clause-answer g c =
     subst (λ (x : Command). IfOk c.answer_of_runs.result (λ a. IsAnswerTo x c.args.bytes.now a.status a.text.items)) (sym c.in-Run.is) c.answer_of_runs.ensures.answer
 
 pub returns-in-Run-clause-status : goal.returns-in-Run-clause-status
-returns-in-Run-clause-status c = subst (λ (x : Command). IfOk c.answer_of_runs.result (λ a. IsStatusOf x a.status)) (sym c.in-Run.is) c.answer_of_runs.ensures.status
+returns-in-Run-clause-status g c = subst (λ (x : Command). IfOk c.answer_of_runs.result (λ a. IsStatusOf x a.status)) (sym c.in-Run.is) c.answer_of_runs.ensures.status
 
 pub returns-in-Distinct-clause-answer : goal.returns-in-Distinct-clause-answer
-returns-in-Distinct-clause-answer c =
+returns-in-Distinct-clause-answer g c =
     subst (λ (x : Command). IfOk c.answer_of_runs-in-Distinct.result (λ a. IsAnswerTo x c.args.bytes.now a.status a.text.items)) (sym c.in-Distinct.is) c.answer_of_runs-in-Distinct.ensures.answer
 
 pub returns-in-Distinct-clause-status : goal.returns-in-Distinct-clause-status
-returns-in-Distinct-clause-status c = subst (λ (x : Command). IfOk c.answer_of_runs-in-Distinct.result (λ a. IsStatusOf x a.status)) (sym c.in-Distinct.is) c.answer_of_runs-in-Distinct.ensures.status
+returns-in-Distinct-clause-status g c = subst (λ (x : Command). IfOk c.answer_of_runs-in-Distinct.result (λ a. IsStatusOf x a.status)) (sym c.in-Distinct.is) c.answer_of_runs-in-Distinct.ensures.status
 
 pub returns-in-Check-clause-answer : goal.returns-in-Check-clause-answer
-returns-in-Check-clause-answer c =
+returns-in-Check-clause-answer g c =
     subst (λ (x : Command). IfOk c.answer_to.result (λ a. IsAnswerTo x c.args.bytes.now a.status a.text.items)) (sym c.in-Check.is) c.answer_to.ensures.answer
 
 pub returns-in-Check-clause-status : goal.returns-in-Check-clause-status
-returns-in-Check-clause-status c = subst (λ (x : Command). IfOk c.answer_to.result (λ a. IsStatusOf x a.status)) (sym c.in-Check.is) c.answer_to.ensures.status
+returns-in-Check-clause-status g c = subst (λ (x : Command). IfOk c.answer_to.result (λ a. IsStatusOf x a.status)) (sym c.in-Check.is) c.answer_to.ensures.status
 
 pub returns-in-Assert-clause-answer : goal.returns-in-Assert-clause-answer
-returns-in-Assert-clause-answer c =
+returns-in-Assert-clause-answer g c =
     subst (λ (x : Command). IfOk c.answer_of_assert.result (λ a. IsAnswerTo x c.args.bytes.now a.status a.text.items)) (sym c.in-Assert.is) c.answer_of_assert.ensures.answer
 
 pub returns-in-Assert-clause-status : goal.returns-in-Assert-clause-status
-returns-in-Assert-clause-status c = subst (λ (x : Command). IfOk c.answer_of_assert.result (λ a. IsStatusOf x a.status)) (sym c.in-Assert.is) c.answer_of_assert.ensures.status
+returns-in-Assert-clause-status g c = subst (λ (x : Command). IfOk c.answer_of_assert.result (λ a. IsStatusOf x a.status)) (sym c.in-Assert.is) c.answer_of_assert.ensures.status
 
 pub returns-in-Facts-clause-answer : goal.returns-in-Facts-clause-answer
-returns-in-Facts-clause-answer c =
+returns-in-Facts-clause-answer g c =
     subst (λ (x : Command). IfOk c.answer_of_facts.result (λ a. IsAnswerTo x c.args.bytes.now a.status a.text.items)) (sym c.in-Facts.is) c.answer_of_facts.ensures.answer
 
 pub returns-in-Facts-clause-status : goal.returns-in-Facts-clause-status
-returns-in-Facts-clause-status c = subst (λ (x : Command). IfOk c.answer_of_facts.result (λ a. IsStatusOf x a.status)) (sym c.in-Facts.is) c.answer_of_facts.ensures.status
+returns-in-Facts-clause-status g c = subst (λ (x : Command). IfOk c.answer_of_facts.result (λ a. IsStatusOf x a.status)) (sym c.in-Facts.is) c.answer_of_facts.ensures.status

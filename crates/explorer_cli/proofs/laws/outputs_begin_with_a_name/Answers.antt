@@ -4,6 +4,7 @@ use Rattle.named_model.specs.Model.{NamedTree}
 use Rattle.script_format.specs.declared.entries.SessionEntry.{SessionEntry}
 use Rattle.script_text.specs.Replies.{PrintedSession, IsOutput}
 use Rattle.explorer_cli.specs.Runs.{Translations, IsRunAmong}
+use Rattle.explorer_cli.proofs.RunsTogether.{all_among}
 use Rattle.explorer_cli.proofs.laws.outputs_begin_with_a_name.Goals as goal
 
 begins : (budget : ℕ) (models : List NamedTree) (over : Translations) (x : SessionEntry) (sessions : List SessionEntry) (runs : List PrintedSession) (text : List ℕ)
@@ -16,4 +17,5 @@ begins budget models over x sessions (s ∷ runs) text zip is = (
 )
 
 pub returns : goal.returns
-returns c budget x sessions models text are = begins budget models are.1.0 x sessions are.0 text are.1.1 are.2
+returns c budget x sessions models text are =
+    begins budget models are.1.0 x sessions are.0 text (all_among are.1.1 1 budget models are.1.0 (x ∷ sessions) are.0 are.1.3) are.2

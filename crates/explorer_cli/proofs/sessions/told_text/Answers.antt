@@ -16,3 +16,9 @@ returns-in-Classes-clause-text c =
     let t = c.args.translation.now in
     let s = c.args.transcript.now in
     subst (λ (purpose : Purpose). IfOk c.classed_text.result (λ text. IsToldText purpose t.problem c.args.name.now s.floors (all_printed t s.floors s.replies) text.items)) (sym c.in-Classes.is) c.classed_text.ensures.text
+
+pub returns-in-Lists-clause-made : goal.returns-in-Lists-clause-made
+returns-in-Lists-clause-made c = c.problem.ensures.well
+
+pub returns-in-Classes-clause-made : goal.returns-in-Classes-clause-made
+returns-in-Classes-clause-made c = c.problem.ensures.well

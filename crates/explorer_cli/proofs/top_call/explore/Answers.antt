@@ -4,7 +4,7 @@ use Rattle.command_words.specs.declared.reading.Command.{Command}
 use Rattle.command_words.proofs.CommandLemmas.{one_command}
 use Rattle.proof_command.specs.Inputs.{AnswersInput}
 use Rattle.explorer_cli.specs.Outcome.{HasFailed, IsStatusOf, IsAnswerTo, limit_of}
-use Rattle.explorer_cli.proofs.Commands.{some_said, none_said, budget_in_range, is_status, never_two}
+use Rattle.explorer_cli.proofs.Commands.{some_said, none_said, numbers_in_range, is_status, never_two}
 use Rattle.explorer_cli.proofs.top_call.explore.Goals as goal
 
 -- words that say no command
@@ -23,10 +23,10 @@ returns-in-Ok-None-clause-answer g c = λ said says. absurd (none_said (texts c.
 
 -- words that say one
 
-pub do_command-requires : goal.do_command-requires
-do_command-requires g c =
+pub do_command-requires-clause-numbers : goal.do_command-requires-clause-numbers
+do_command-requires-clause-numbers g c κs within =
     let words = texts c.args.words.now in
-    budget_in_range words c.in-Ok-Some.command (some_said words c.in-Ok-Some.field-0 c.in-Ok-Some.command c.in-Ok-Some.field-0-is c.in-Ok-Some.ensures.some)
+    numbers_in_range words c.in-Ok-Some.command (some_said words c.in-Ok-Some.field-0 c.in-Ok-Some.command c.in-Ok-Some.field-0-is c.in-Ok-Some.ensures.some)
 
 pub returns-in-Ok-Some-clause-status : goal.returns-in-Ok-Some-clause-status
 returns-in-Ok-Some-clause-status g c = is_status c.in-Ok-Some.command c.do_command.result c.do_command.ensures.status

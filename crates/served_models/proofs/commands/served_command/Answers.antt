@@ -3,22 +3,9 @@ use Rattle.std.specs.Prelude.{Vec, MatchResult}
 use Rattle.std.specs.declared.alloc.Global.{Global}
 use Rattle.rel_formula.specs.Bounds.{Bounded}
 use Rattle.named_model.specs.View.{named_view}
-use Rattle.lowering_rules.specs.Formula.{all_facts}
 use Rattle.served_models.specs.Served.{IsProblemOf, LacksProblem}
 use Rattle.served_models.proofs.Usables.{served_or_unfit}
-use Rattle.served_models.proofs.commands.translated.Goals as goal
-
-pub with_problem-requires-clause-translatable : goal.with_problem-requires-clause-translatable
-with_problem-requires-clause-translatable c =
-    let m = named_view c.args.model.now in
-    let found = subst (λ (r : Result Bounded (Vec ℕ Global)). MatchResult r (IsProblemOf m c.args.number) (λ (words : Vec ℕ Global). LacksProblem m c.args.number words.items)) c.in-Ok.is c.in_ok-problem.ensures in
-    found.lowered.translatable
-
-pub with_problem-requires-clause-symmetric : goal.with_problem-requires-clause-symmetric
-with_problem-requires-clause-symmetric c =
-    let m = named_view c.args.model.now in
-    let found = subst (λ (r : Result Bounded (Vec ℕ Global)). MatchResult r (IsProblemOf m c.args.number) (λ (words : Vec ℕ Global). LacksProblem m c.args.number words.items)) c.in-Ok.is c.in_ok-problem.ensures in
-    c.problems_are_symmetric.ensures m c.args.number (all_facts m) c.in-Ok.problem found.lowered.is
+use Rattle.served_models.proofs.commands.served_command.Goals as goal
 
 pub returns-in_ok-with_problem-in-Ok : goal.returns-in_ok-with_problem-in-Ok
 returns-in_ok-with_problem-in-Ok c =
