@@ -1,6 +1,7 @@
 """What the gate looks at beside `rt ci`: that the examples are the ones that are run, that no edit is dead, that the documents show
 what the program prints, that DEFINITIONS has what the promises lead to, that the program in prebuilt/ is the one that was built
-here, that the script ./explore and the shell tools/scenes do what they say, and how the program ends where memory is refused.
+here, that the script ./explore, the shell tools/scenes and tools/spread do what they say, and how the program ends where memory is
+refused.
 
 Called with the log of `rt ci` and its status. Prints a line for each check that fails, and last `N passed, M failed`, in
 which what `rt ci` counted is added to these checks.
@@ -17,6 +18,7 @@ from documents import documents  # noqa: E402
 from prebuilt import prebuilt, program, script  # noqa: E402
 from refusals import refusals  # noqa: E402
 from scenes import scenes  # noqa: E402
+from spread import spread  # noqa: E402
 
 RUNNER = Path("crates/run_examples")
 
@@ -112,7 +114,7 @@ def main():
     if sys.argv[2] != "0":
         failed = max(failed, 1)
     checks = [*examples(), *edits(log), *documents(), *definitions(), *wrong_bodies()]
-    checks += [*prebuilt(sys.argv[2]), *script(), *memory(), *scenes()]
+    checks += [*prebuilt(sys.argv[2]), *script(), *memory(), *scenes(), *spread()]
     own = 0
     for what, holds in checks:
         if holds:
