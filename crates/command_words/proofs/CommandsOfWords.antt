@@ -2,7 +2,6 @@
 use Rattle.std.proofs.Common.{◌≡◌, ◌≤◌, ◌∙◌, ◌⊎◌, ◌&&◌, ◌||◌, ℕ, Bool, cond, not, true, false, List, [], ◌∷◌, ◌++◌, codes, pos, Option, Some, None, IfNone, IfSome, refl, sym, ap, ap₂, subst, inl, inr, arith, append-nil}
 use Rattle.std.specs.Str.{bytes_eq}
 use Rattle.clap.specs.Kinds.{Kinds, IsAmong, or_else}
-use Rattle.clap.specs.Lexer.{without_minus}
 use Rattle.clap.specs.ValueTests.{accepts}
 use Rattle.clap.specs.Walk.{Row, Text, first_of, has_row, one_of}
 use Rattle.clap.specs.Simple.{subcommand_of}
@@ -11,15 +10,18 @@ use Rattle.clap.specs.declared.error.kind.ErrorKind.{ErrorKind}
 use Rattle.clap.specs.declared.error.kind.ErrorKind.TheVariants.{ArgumentConflict, ValueValidation}
 use Rattle.clap.specs.declared.builder.value_parser.ValueParser.{ValueParser}
 use Rattle.clap.specs.declared.builder.value_parser.ValueParser.TheVariants.{Signed}
-use Rattle.command_words.specs.Words.{AreOptions, IsBehind, IsBudget, IsBudgetAlone, IsNumber, IsWorkers, Says, SaysNone, number_after}
-use Rattle.command_words.specs.Program.{ReadsBudget, ReadsNumber, ReadsOptions, ReadsWithBudget, ReadsWithOptions, program}
+use Rattle.command_words.specs.Words.{AreOptions, IsBehind, IsBudget, IsBudgetAlone, IsNumber, IsWorkers, Says, SaysNone}
+use Rattle.command_words.specs.Program.{ReadsBudget, ReadsLoad, ReadsNumber, ReadsOptions, ReadsWithBudget, ReadsWithOptions, program}
 use Rattle.command_words.specs.declared.reading.Command.{Command}
-use Rattle.command_words.specs.declared.reading.Command.TheVariants.{Run, Check, Distinct, Assert, Facts}
+use Rattle.command_words.specs.declared.reading.Command.TheVariants.{Run, Check, Distinct, Assert, Facts, Load}
 use Rattle.command_words.proofs.CommandLemmas.{first_word, is_first_word, name_said, second_byte}
 use Rattle.command_words.proofs.LongWords.{dashes}
-use Rattle.command_words.proofs.Numbers.{accepted_number, minus_off, number_in_range, number_plain}
+use Rattle.command_words.proofs.Numbers.{accepted_number, number_in_range, number_plain}
+use Rattle.command_words.proofs.LoadParts.{all_words, parts_rows}
 use Rattle.command_words.proofs.Options.{AllPlain, Pass, Use, all_written, has_dashes, name_of, spelled, use_kinds, use_rows, used_all, written}
-use Rattle.command_words.proofs.Program.{HasUses, WithOptions, run, distinct, asserts, facts, accepted, check_passes, check_rows, name_with, rows_of_options, uses_pass}
+use Rattle.command_words.proofs.ReadOptions.{IsTaken, absent, number_here, taken}
+use Rattle.command_words.proofs.LoadCommand.{load_clean, load_is_read, read_load}
+use Rattle.command_words.proofs.Program.{HasParts, HasUses, WithOptions, run, distinct, asserts, facts, accepted, check_passes, check_rows, name_with, rows_of_load, rows_of_options, uses_pass}
 
 -- ---- one use
 
@@ -56,23 +58,6 @@ abbrev matched : List Use → List Row
 matched uses = rows_of_options (used_all [] uses)
 
 -- ---- what is read of the matches
-
-record IsTaken (v : Text) (n : ℕ) : Type 0 where
-  pub number : IsNumber v
-  pub is : n ≡ number_after 0 v
-
-taken : (default n : ℕ) (name : Text) (rows : List Row) (v : Text) → first_of name rows ≡ Some v → one_of name rows ≡ Some (without_minus v) → ReadsNumber default name rows (Some n) → IsTaken v n
-taken default n name rows v first one (inl none) = let bad : Some v ≡ None = sym first ∙ none.0 in absurd (cc)
-taken default n name rows v first one (inr some) =
-    let both : Some some.0 ≡ Some v = sym some.1 ∙ first in
-    let same : some.0 ≡ v = cc in
-    let number = subst IsNumber same some.2 in
-    let text = one ∙ ap Some (minus_off v number) in
-    record { number = number; is = some.3 (text ∙ ap Some (sym same)) ∙ ap (number_after 0) same }
-
-absent : (default n : ℕ) (name : Text) (rows : List Row) → first_of name rows ≡ None → ReadsNumber default name rows (Some n) → n ≡ default
-absent default n name rows first (inl none) = none.1
-absent default n name rows first (inr some) = let bad : None ≡ Some some.0 = sym first ∙ some.1 in absurd (cc)
 
 is_workers : (joined : Bool) (v : Text) (n : ℕ) (rows : List Row) → IsTaken v n → IsFresh true v rows → IsWorkers (written (record { which = true; joined = joined; value = v })) n
 is_workers joined v n rows t f =
@@ -181,9 +166,6 @@ record IsGood (options : List Text) : Type 0 where
   pub plain : AllPlain uses
   pub pass : Pass [] uses
   pub numbers : HasNumbers (matched uses)
-
-number_here : (v text : Text) → IsNumber v → Some v ≡ Some text → IsNumber text × (Some (without_minus v) ≡ Some text)
-number_here v text is e = let same : v ≡ text = cc in (subst IsNumber same is, ap Some (minus_off v is ∙ same))
 
 no_number : (text : Text) {P : Type 0} → None ≡ Some text → P
 no_number text e = absurd (cc)
@@ -318,6 +300,7 @@ says_clean words Check says = record { safe = ap has_dashes says; passes = ap (f
 says_clean words (Distinct workers budget) says = options_clean distinct words says.0 says.1 (good_options says.0 workers budget says.2)
 says_clean words (Assert budget) says = options_clean asserts words says.0 says.1 (good_budget says.0 budget says.2).good
 says_clean words (Facts budget) says = options_clean facts words says.0 says.1 (good_budget says.0 budget says.2).good
+says_clean words (Load number workers) says = let clean = load_clean words number workers says in record { safe = clean.safe; passes = clean.passes }
 
 pub escape_says_none : (words : List Text) → has_dashes words ≡ true → SaysNone words
 escape_says_none words e c says = let safe = (says_clean words c says).safe in absurd (cc (e, safe))
@@ -381,21 +364,25 @@ none_said run words is reads Check says e = absurd (omega (arith, ap second_byte
 none_said run words is reads (Distinct workers budget) says e = absurd (omega (arith, ap second_byte e))
 none_said run words is reads (Assert budget) says e = absurd (omega (arith, ap second_byte e))
 none_said run words is reads (Facts budget) says e = absurd (omega (arith, ap second_byte e))
+none_said run words is reads (Load number workers) says e = absurd (omega (arith, ap second_byte e))
 none_said distinct words is reads (Run workers budget) says e = absurd (omega (arith, ap second_byte e))
 none_said distinct words is reads Check says e = absurd (omega (arith, ap second_byte e))
 none_said distinct words is reads (Distinct workers budget) says e = read_at_all distinct words is reads workers budget says
 none_said distinct words is reads (Assert budget) says e = absurd (omega (arith, ap second_byte e))
 none_said distinct words is reads (Facts budget) says e = absurd (omega (arith, ap second_byte e))
+none_said distinct words is reads (Load number workers) says e = absurd (omega (arith, ap second_byte e))
 none_said asserts words is reads (Run workers budget) says e = absurd (omega (arith, ap second_byte e))
 none_said asserts words is reads Check says e = absurd (omega (arith, ap second_byte e))
 none_said asserts words is reads (Distinct workers budget) says e = absurd (omega (arith, ap second_byte e))
 none_said asserts words is reads (Assert budget) says e = budget_at_all asserts words is reads budget says
 none_said asserts words is reads (Facts budget) says e = absurd (omega (arith, ap second_byte e))
+none_said asserts words is reads (Load number workers) says e = absurd (omega (arith, ap second_byte e))
 none_said facts words is reads (Run workers budget) says e = absurd (omega (arith, ap second_byte e))
 none_said facts words is reads Check says e = absurd (omega (arith, ap second_byte e))
 none_said facts words is reads (Distinct workers budget) says e = absurd (omega (arith, ap second_byte e))
 none_said facts words is reads (Assert budget) says e = absurd (omega (arith, ap second_byte e))
 none_said facts words is reads (Facts budget) says e = budget_at_all facts words is reads budget says
+none_said facts words is reads (Load number workers) says e = absurd (omega (arith, ap second_byte e))
 
 some_said : (c : WithOptions) (words : List Text) (is : HasUses (name_with c) words) (d : Command) → Reads c (matched is.uses) (Some d) → Says words d
 some_said run words is d reads = subst (Says words) (sym reads.2) (all_written is.uses, is.are, read_options is.uses is.pass reads.0.workers reads.0.budget reads.1.0 reads.1.1)
@@ -410,14 +397,34 @@ said_with c words None is reads = record {
 }
 said_with c words (Some d) is reads = record { none = tt; some = some_said c words is d reads }
 
+-- the same of `load`
+no_load_said : (words : List Text) (is : HasParts words) → ReadsLoad (rows_of_load (parts_rows [] is.parts)) None → (d : Command) → Says words d → name_said d ≡ codes "load" → ⊥
+no_load_said words is reads (Run workers budget) says e = absurd (omega (arith, ap second_byte e))
+no_load_said words is reads Check says e = absurd (omega (arith, ap second_byte e))
+no_load_said words is reads (Distinct workers budget) says e = absurd (omega (arith, ap second_byte e))
+no_load_said words is reads (Assert budget) says e = absurd (omega (arith, ap second_byte e))
+no_load_said words is reads (Facts budget) says e = absurd (omega (arith, ap second_byte e))
+no_load_said words is reads (Load number workers) says e = load_is_read words is reads number workers says
+
+said_load : (words : List Text) (said : Option Command) (is : HasParts words) → ReadsLoad (rows_of_load (parts_rows [] is.parts)) said → IsSaid words said
+said_load words None is reads = record {
+  none = λ d says. no_load_said words is reads d says (sym (is_first_word words d says) ∙ ap first_word is.are);
+  some = tt;
+}
+said_load words (Some d) is reads = record {
+  none = tt;
+  some = subst (Says words) (sym reads.4) (all_words is.parts, is.are, read_load is.parts is.pass reads.0 reads.1 reads.2 reads.3);
+}
+
 pub is_said : (words : List Text) (found : Found) (said : Option Command) → has_dashes words ≡ false → fault_of program words ≡ [] → found ≡ subcommand_of program words
     → ((rows : List Row) → found ≡ Some (codes "run", rows) → ReadsWithOptions Run rows said) → ((rows : List Row) → found ≡ Some (codes "distinct", rows) → ReadsWithOptions Distinct rows said)
     → ((rows : List Row) → found ≡ Some (codes "assert", rows) → ReadsWithBudget Assert rows said) → ((rows : List Row) → found ≡ Some (codes "facts", rows) → ReadsWithBudget Facts rows said)
-    → ((rows : List Row) → found ≡ Some (codes "check", rows) → said ≡ Some Check) → IsSaid words said
-is_said words found said safe none is by_run by_distinct by_assert by_facts check =
+    → ((rows : List Row) → found ≡ Some (codes "load", rows) → ReadsLoad rows said) → ((rows : List Row) → found ≡ Some (codes "check", rows) → said ≡ Some Check) → IsSaid words said
+is_said words found said safe none is by_run by_distinct by_assert by_facts by_load check =
     elim (accepted words safe none) [
       | inl e ↦ said_check words said e (check [] (is ∙ ap (subcommand_of program) e ∙ check_rows))
-      | inr r ↦ said_with r.0 words said r.1 (reads r.0 (matched r.1.uses) (is ∙ r.1.rows))
+      | inr (inl l) ↦ said_load words said l (by_load (rows_of_load (parts_rows [] l.parts)) (is ∙ l.rows))
+      | inr (inr r) ↦ said_with r.0 words said r.1 (reads r.0 (matched r.1.uses) (is ∙ r.1.rows))
     ]
   where
     reads : (c : WithOptions) (rows : List Row) → found ≡ Some (name_with c, rows) → Reads c rows said

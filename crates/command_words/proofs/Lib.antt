@@ -2,7 +2,10 @@ pub mod OptionLemmas
 pub mod CommandLemmas
 pub mod LongWords
 pub mod Options
+pub mod LoadParts
 pub mod Program
 pub mod Numbers
+pub mod ReadOptions
+pub mod LoadCommand
 pub mod CommandsOfWords
 pub mod ReadNumber

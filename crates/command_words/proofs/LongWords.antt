@@ -1,7 +1,7 @@
 -- How `clap` reads a word where it has long options alone.
-use Rattle.std.proofs.Common.{◌≡◌, ◌∙◌, ◌+◌, ℕ, zero, suc, Bool, cond, not, true, false, ◌||◌, List, [], ◌∷◌, ◌++◌, length, take, drop, Option, Some, None, refl, sym, ap, ap₂, arith, eqb-true, is_some}
+use Rattle.std.proofs.Common.{◌≡◌, ◌∙◌, ◌+◌, ◌⊎◌, ℕ, zero, suc, Bool, cond, not, true, false, ◌||◌, List, [], ◌∷◌, ◌++◌, length, take, drop, Option, Some, None, refl, sym, ap, ap₂, arith, eqb-true, is_some, inl, inr}
 use Rattle.std.specs.Prelude.{encode_utf8, slice_get, option_and_then, ◌==◌}
-use Rattle.std.specs.List.{position_or_len, before_first, after_first}
+use Rattle.std.specs.List.{fold, position_or_len, before_first, after_first}
 use Rattle.std.specs.Option.{option_map_or}
 use Rattle.std.specs.Str.{bytes_eq, chars}
 use Rattle.clap.specs.Lexer.{has_byte, long_of, long_of_rest, name_and_value, short_of, strip_byte}
@@ -10,21 +10,29 @@ use Rattle.clap.specs.Walk.{Held, Names, Row, Rule, Step, Text, Waiting, Walk, a
 use Rattle.clap.specs.Simple.{Shape}
 use Rattle.clap.specs.declared.error.kind.ErrorKind.TheVariants.{TooManyValues, UnknownArgument}
 use Rattle.clap.specs.declared.error.kind.ErrorKind.{ErrorKind}
-use Rattle.clap.specs.Faults.{bundle_fault, bundle_step_fault, flag_word_fault, flags_fault, long_fault, option_fault, other_fault, positional_fault, react_fault, settle_fault, short_fault, step_fault, stray_fault, turn_fault}
+use Rattle.clap.specs.Faults.{bundle_fault, bundle_step_fault, flag_word_fault, flags_fault, long_fault, option_fault, other_fault, positional_fault, react_fault, settle_fault, short_fault, step_fault, stray_fault, turn_fault, walk_fault}
 
 abbrev pub dashes : Text
 dashes = 45 ∷ 45 ∷ []
 
--- no option has a short name, and no word goes by its place
-pub record HasLongAlone (s : Shape) : Type 0 where
-  pub no_short : (x : ℕ) → arg_by_short s.rules x ≡ None
-  pub no_place : arg_by_index s.rules 1 ≡ None
+-- no option has a short name
+abbrev pub HasNoShort : Shape → Type 0
+HasNoShort s = (x : ℕ) → arg_by_short s.rules x ≡ None
+
+-- and no word goes by this place
+pub record HasLongAlone (s : Shape) (place : ℕ) : Type 0 where
+  pub no_short : HasNoShort s
+  pub no_place : arg_by_index s.rules place ≡ None
 
 abbrev pub held : List Row → Option (Text × List Text) → Held
 held rows pending = record { rows = rows; pending = pending; skip = 0 }
 
+-- where the next word that goes by its place has this one
+abbrev pub walk_on : ℕ → List Row → Option (Text × List Text) → Waiting → Walk
+walk_on place rows pending waiting = record { held = held rows pending; waiting = waiting; position = place; is_trailing = false; stopped = None }
+
 abbrev pub walk_at : List Row → Option (Text × List Text) → Waiting → Walk
-walk_at rows pending waiting = record { held = held rows pending; waiting = waiting; position = 1; is_trailing = false; stopped = None }
+walk_at = walk_on 1
 
 -- ---- faults
 
@@ -46,13 +54,13 @@ stray s e = go s.is_leaf e
     go false bad = absurd (cc)
 
 -- a word that goes by its place is refused
-pub placed : (s : Shape) (h : Held) → HasLongAlone s → step_fault s 1 h value ≡ [] → ⊥
-placed s h long e =
+pub placed : (s : Shape) (place : ℕ) (h : Held) → HasLongAlone s place → step_fault s place h value ≡ [] → ⊥
+placed s place h long e =
     stray s (ap (λ o. option_map_or (λ a. positional_fault s.rules s.args_override_self a h) o (stray_fault s)) (sym long.no_place) ∙ e)
 
 -- ---- words that are no long options
 
-module _ (s : Shape) (long : HasLongAlone s) (rows : List Row) (pending : Option (Text × List Text)) (waiting : Waiting) (word : Text) where
+module _ (s : Shape) (no_short : HasNoShort s) (rows : List Row) (pending : Option (Text × List Text)) (waiting : Waiting) (word : Text) where
   first_flag : (k : ℕ) (flags : Text) (o : Option ℕ) → bundle_step_fault s.rules s.args_override_self o flags 0 (held rows pending) (flags_fault s.rules s.args_override_self k) ≡ []
       → after_flag s.rules waiting word (bundle_step s.rules o flags 0 plain (held rows pending) (bundle_met s.rules k)).0 (bundle_step s.rules o flags 0 plain (held rows pending) (bundle_met s.rules k)).1
       ≡ plain_word s.rules waiting word (held rows pending)
@@ -60,7 +68,7 @@ module _ (s : Shape) (long : HasLongAlone s) (rows : List Row) (pending : Option
   first_flag k flags (Some x) e =
       let rest = drop (length (encode_utf8 x)) flags in
       let refused : UnknownArgument ∷ [] ≡ [] =
-      ap (λ o. short_fault s.rules s.args_override_self o rest (held rows pending) (flags_fault s.rules s.args_override_self k rest 0)) (sym (long.no_short x)) ∙ e in
+      ap (λ o. short_fault s.rules s.args_override_self o rest (held rows pending) (flags_fault s.rules s.args_override_self k rest 0)) (sym (no_short x)) ∙ e in
       absurd (some_kind UnknownArgument [] refused)
 
   flags_plain : (k : ℕ) (flags : Text) → flags_fault s.rules s.args_override_self k flags 0 (held rows pending) ≡ []
@@ -78,32 +86,32 @@ module _ (s : Shape) (long : HasLongAlone s) (rows : List Row) (pending : Option
 
 -- ---- what a word comes to, by its reading as a long option
 
-module _ (s : Shape) (names : Names) (rows : List Row) (pending : Option (Text × List Text)) (waiting : Waiting) (word : Text) where
+module _ (s : Shape) (names : Names) (place : ℕ) (rows : List Row) (pending : Option (Text × List Text)) (waiting : Waiting) (word : Text) where
   abbrev step_with : Option Text → Held × Step
-  step_with o = subcommand_or_other s.rules o waiting 1 word (held rows pending)
+  step_with o = subcommand_or_other s.rules o waiting place word (held rows pending)
 
   abbrev step_unless : Bool → Held × Step
-  step_unless b = cond b (held rows pending, trailing 1) (long_or_other s.rules waiting word (long_of word) (held rows pending))
+  step_unless b = cond b (held rows pending, trailing place) (long_or_other s.rules waiting word (long_of word) (held rows pending))
 
   abbrev fault_unless : Bool → Kinds
   fault_unless b = cond b [] (flag_word_fault s.rules s.args_override_self (long_of word) word (held rows pending))
 
   pub met_is : subcommand_met names waiting word ≡ None → bytes_eq word dashes ≡ false
-      → word_met s.rules names false waiting 1 word (held rows pending) ≡ long_or_other s.rules waiting word (long_of word) (held rows pending)
+      → word_met s.rules names false waiting place word (held rows pending) ≡ long_or_other s.rules waiting word (long_of word) (held rows pending)
   met_is none safe = ap step_with none ∙ ap step_unless safe
 
   pub turn_is : subcommand_met names waiting word ≡ None → bytes_eq word dashes ≡ false
-      → turn_fault s names (walk_at rows pending waiting) word
+      → turn_fault s names (walk_on place rows pending waiting) word
       ≡ or_else (flag_word_fault s.rules s.args_override_self (long_of word) word (held rows pending))
-      (step_fault s 1 (long_or_other s.rules waiting word (long_of word) (held rows pending)).0 (long_or_other s.rules waiting word (long_of word) (held rows pending)).1)
+      (step_fault s place (long_or_other s.rules waiting word (long_of word) (held rows pending)).0 (long_or_other s.rules waiting word (long_of word) (held rows pending)).1)
   turn_is none safe =
-      ap (λ o. or_else (other_fault s o word (held rows pending)) (step_fault s 1 (step_with o).0 (step_with o).1)) none
-      ∙ ap (λ b. or_else (fault_unless b) (step_fault s 1 (step_unless b).0 (step_unless b).1)) safe
+      ap (λ o. or_else (other_fault s o word (held rows pending)) (step_fault s place (step_with o).0 (step_with o).1)) none
+      ∙ ap (λ b. or_else (fault_unless b) (step_fault s place (step_unless b).0 (step_unless b).1)) safe
 
-  pub walked_is : (h : Held) (step : Step) → word_met s.rules names false waiting 1 word (held rows pending) ≡ (h, step)
-      → walked s.rules names (walk_at rows pending waiting) word ≡ after_step s.rules word (walk_at rows pending waiting) h step
+  pub walked_is : (h : Held) (step : Step) → word_met s.rules names false waiting place word (held rows pending) ≡ (h, step)
+      → walked s.rules names (walk_on place rows pending waiting) word ≡ after_step s.rules word (walk_on place rows pending waiting) h step
   unfolding walked
-  walked_is h step met = ap (λ (m : Held × Step). after_step s.rules word (walk_at rows pending waiting) m.0 m.1) met
+  walked_is h step met = ap (λ (m : Held × Step). after_step s.rules word (walk_on place rows pending waiting) m.0 m.1) met
 
 -- where nothing waits, a word with no fault is a long option that there is
 pub record IsLong (s : Shape) (word : Text) : Type 0 where
@@ -113,34 +121,49 @@ pub record IsLong (s : Shape) (word : Text) : Type 0 where
   pub reads : long_of word ≡ Some (name, given)
   pub found : arg_by_long s.rules name ≡ Some rule
 
-module _ (s : Shape) (names : Names) (long : HasLongAlone s) (rows : List Row) (pending : Option (Text × List Text)) (word : Text) where
+-- where nothing waits, a word with no fault is such an option, or goes by its place
+abbrev pub GoesByPlace : Shape → ℕ → List Row → Option (Text × List Text) → Text → Type 0
+GoesByPlace s place rows pending word =
+    (long_of word ≡ None) × (long_or_other s.rules idle word (long_of word) (held rows pending) ≡ (held rows pending, value)) × (step_fault s place (held rows pending) value ≡ [])
+
+module _ (s : Shape) (names : Names) (no_short : HasNoShort s) (place : ℕ) (rows : List Row) (pending : Option (Text × List Text)) (word : Text) where
+  abbrev idle_step : Option (Text × Option Text) → Held × Step
+  idle_step o = long_or_other s.rules idle word o (held rows pending)
+
   abbrev idle_fault : Option (Text × Option Text) → Kinds
-  idle_fault o =
-      or_else (flag_word_fault s.rules s.args_override_self o word (held rows pending))
-      (step_fault s 1 (long_or_other s.rules idle word o (held rows pending)).0 (long_or_other s.rules idle word o (held rows pending)).1)
+  idle_fault o = or_else (flag_word_fault s.rules s.args_override_self o word (held rows pending)) (step_fault s place (idle_step o).0 (idle_step o).1)
 
   abbrev named_fault : Option Text → Option Rule → Kinds
   named_fault v o = long_fault s.rules s.args_override_self o v (held rows pending)
 
-  not_plain : idle_fault None ≡ [] → ⊥
-  not_plain e =
+  by_place : long_of word ≡ None → idle_fault None ≡ [] → GoesByPlace s place rows pending word
+  by_place is e =
       let parts = both_none _ _ e in
-      let as_plain = read_plain s long rows pending idle word (short_of word) parts.0 in
-      placed s (held rows pending) long (ap (λ (m : Held × Step). step_fault s 1 m.0 m.1) (sym as_plain) ∙ parts.1)
+      let as_plain = read_plain s no_short rows pending idle word (short_of word) parts.0 in
+      (is, ap idle_step is ∙ as_plain, ap (λ (m : Held × Step). step_fault s place m.0 m.1) (sym as_plain) ∙ parts.1)
 
   found_rule : (q : Text × Option Text) → long_of word ≡ Some q → named_fault q.1 (arg_by_long s.rules q.0) ≡ [] → (o : Option Rule) → arg_by_long s.rules q.0 ≡ o → IsLong s word
   found_rule q is e None none = let bad = ap (named_fault q.1) (sym none) ∙ e in absurd (cc)
   found_rule q is e (Some a) found = record { name = q.0; given = q.1; rule = a; reads = is; found = found }
 
-  read_long : (o : Option (Text × Option Text)) → long_of word ≡ o → idle_fault o ≡ [] → IsLong s word
-  read_long None is e = absurd (not_plain e)
-  read_long (Some q) is e = found_rule q is (both_none _ _ e).0 (arg_by_long s.rules q.0) refl
+  read_idle : (o : Option (Text × Option Text)) → long_of word ≡ o → idle_fault o ≡ [] → IsLong s word ⊎ GoesByPlace s place rows pending word
+  read_idle None is e = inr (by_place is e)
+  read_idle (Some q) is e = inl (found_rule q is (both_none _ _ e).0 (arg_by_long s.rules q.0) refl)
 
-  pub idle_turn : subcommand_met names idle word ≡ None → bytes_eq word dashes ≡ false → turn_fault s names (walk_at rows pending idle) word ≡ [] → IsLong s word
-  idle_turn none safe e = read_long (long_of word) refl (sym (turn_is s names rows pending idle word none safe) ∙ e)
+  pub idle_word : subcommand_met names idle word ≡ None → bytes_eq word dashes ≡ false → turn_fault s names (walk_on place rows pending idle) word ≡ [] → IsLong s word ⊎ GoesByPlace s place rows pending word
+  idle_word none safe e = read_idle (long_of word) refl (sym (turn_is s names place rows pending idle word none safe) ∙ e)
+
+-- where there is no such place, it is such an option
+pub idle_turn : (s : Shape) (names : Names) (place : ℕ) (long : HasLongAlone s place) (rows : List Row) (pending : Option (Text × List Text)) (word : Text)
+    → subcommand_met names idle word ≡ None → bytes_eq word dashes ≡ false → turn_fault s names (walk_on place rows pending idle) word ≡ [] → IsLong s word
+idle_turn s names place long rows pending word none safe e =
+    elim (idle_word s names long.no_short place rows pending word none safe e) [
+      | inl is ↦ is
+      | inr goes ↦ absurd (placed s place (held rows pending) long goes.2)
+    ]
 
 -- where a value is wanted, a word with no fault is that value
-module _ (s : Shape) (long : HasLongAlone s) (rows : List Row) (id word : Text) where
+module _ (s : Shape) (no_short : HasNoShort s) (place : ℕ) (rows : List Row) (id word : Text) where
   abbrev wanting : Option (Text × List Text)
   wanting = Some (id, [])
 
@@ -163,17 +186,44 @@ module _ (s : Shape) (long : HasLongAlone s) (rows : List Row) (id word : Text) 
     abbrev wanting_fault : Option (Text × Option Text) → Kinds
     wanting_fault o =
         or_else (flag_word_fault s.rules s.args_override_self o word (held rows wanting))
-        (step_fault s 1 (long_or_other s.rules (option id) word o (held rows wanting)).0 (long_or_other s.rules (option id) word o (held rows wanting)).1)
+        (step_fault s place (long_or_other s.rules (option id) word o (held rows wanting)).0 (long_or_other s.rules (option id) word o (held rows wanting)).1)
 
     as_value : (o : Option (Text × Option Text)) → wanting_fault o ≡ [] → long_or_other s.rules (option id) word o (held rows wanting) ≡ plain_word s.rules (option id) word (held rows wanting)
-    as_value None e = read_plain s long rows wanting (option id) word (short_of word) (both_none _ _ e).0
+    as_value None e = read_plain s no_short rows wanting (option id) word (short_of word) (both_none _ _ e).0
     as_value (Some q) e = absurd (no_long q.1 (arg_by_long s.rules q.0) (both_none _ _ e).0)
 
-    pub wanting_turn : bytes_eq word dashes ≡ false → turn_fault s [] (walk_at rows wanting (option id)) word ≡ []
-        → word_met s.rules [] false (option id) 1 word (held rows wanting) ≡ plain_word s.rules (option id) word (held rows wanting)
+    pub wanting_turn : bytes_eq word dashes ≡ false → turn_fault s [] (walk_on place rows wanting (option id)) word ≡ []
+        → word_met s.rules [] false (option id) place word (held rows wanting) ≡ plain_word s.rules (option id) word (held rows wanting)
     wanting_turn safe e =
-        met_is s [] rows wanting (option id) word refl safe
-        ∙ as_value (long_of word) (sym (turn_is s [] rows wanting (option id) word refl safe) ∙ e)
+        met_is s [] place rows wanting (option id) word refl safe
+        ∙ as_value (long_of word) (sym (turn_is s [] place rows wanting (option id) word refl safe) ∙ e)
+
+-- ---- the words of a command, from where the walk stands
+
+module _ (s : Shape) where
+  abbrev pub held_after : Walk → List Text → Held
+  held_after w words = (fold (walked s.rules []) w words).held
+
+  -- the faults of the walk, and of what waits at its end
+  abbrev pub kinds_from : Walk → List Text → Kinds
+  kinds_from w words = or_else (walk_fault s [] w words) (settle_fault s.rules false (held_after w words))
+
+  pub record Stepped (w : Walk) (word : Text) (rest : List Text) : Type 0 where
+    pub turn : turn_fault s [] w word ≡ []
+    pub more : kinds_from (walked s.rules [] w word) rest ≡ []
+
+  pub one_step : (w : Walk) (word : Text) (rest : List Text) → kinds_from w (word ∷ rest) ≡ [] → Stepped w word rest
+  unfolding walk_fault
+  one_step w word rest e =
+      let outer = both_none _ _ e in
+      let inner = both_none _ _ outer.0 in
+      record { turn = inner.0; more = none_of_both _ _ inner.1 outer.1 }
+
+  pub step_back : (w : Walk) (word : Text) (rest : List Text) → Stepped w word rest → kinds_from w (word ∷ rest) ≡ []
+  unfolding walk_fault
+  step_back w word rest s =
+      let parts = both_none _ _ s.more in
+      none_of_both _ _ (none_of_both _ _ s.turn parts.0) parts.1
 
 -- ---- the word of a long option
 

@@ -51,7 +51,7 @@ begins_once name low high words n m rest others a b =
     record { number_is = a.option.is ∙ ap (number_after 0) once.value_is ∙ sym b.option.is; rest_is = once.rest_is }
 
 -- the first word begins with the option's name
-first_bytes : (name : List ℕ) (words : List (List ℕ)) (value : List ℕ) (rest : List (List ℕ)) → IsValue name words value rest → (behind : List ℕ) × (get_or words 0 [] ≡ name ++ behind)
+pub first_bytes : (name : List ℕ) (words : List (List ℕ)) (value : List ℕ) (rest : List (List ℕ)) → IsValue name words value rest → (behind : List ℕ) × (get_or words 0 [] ≡ name ++ behind)
 first_bytes name words value rest (inl is) = ([], ap (λ (ws : List (List ℕ)). get_or ws 0 []) is ∙ sym (append-nil name))
 first_bytes name words value rest (inr is) = (codes "=" ++ value, ap (λ (ws : List (List ℕ)). get_or ws 0 []) is ∙ append_assoc name (codes "=") value)
 

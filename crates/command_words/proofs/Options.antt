@@ -1,6 +1,6 @@
 -- How `clap` reads the options of a command that has them, whatever its name is.
 use Rattle.std.proofs.Common.{◌≡◌, ◌∙◌, ◌||◌, Bool, cond, true, false, List, [], ◌∷◌, ◌++◌, codes, Option, Some, None, refl, sym, ap, subst}
-use Rattle.std.specs.List.{fold, list_any}
+use Rattle.std.specs.List.{list_any}
 use Rattle.std.specs.Option.{option_map_or}
 use Rattle.std.specs.Str.{bytes_eq}
 use Rattle.std.proofs.lemmas.Slice.Eq.{bytes_eq-Decides}
@@ -10,7 +10,7 @@ use Rattle.clap.specs.Walk.{Held, Row, Rule, Text, Walk, arg_by_long, idle, long
 use Rattle.clap.specs.Simple.{Shape, built_leaf, filled, inherited, marked_built, with_leaf_noted}
 use Rattle.clap.specs.Faults.{bundle_fault, flag_word_fault, settle_fault, step_fault, turn_fault, use_fault, walk_fault}
 use Rattle.command_words.specs.Program.{budget, check_command, command_with_options, program, workers}
-use Rattle.command_words.proofs.LongWords.{HasLongAlone, behind, both_none, dashes, held, idle_turn, long_word_is, met_is, none_of_both, turn_is, walk_at, walked_is, wanting_turn}
+use Rattle.command_words.proofs.LongWords.{HasLongAlone, behind, both_none, dashes, held, held_after, idle_turn, kinds_from, long_word_is, met_is, none_of_both, one_step, step_back, turn_is, walk_at, walked_is, wanting_turn}
 
 -- the commands as they are built
 abbrev pub top : Shape
@@ -110,7 +110,7 @@ pub record IsPlain (v : Text) : Type 0 where
   pub no_short : short_of v ≡ None
 
 abbrev pub end_of : Walk → List Text → Held
-end_of w words = (fold (walked rules []) w words).held
+end_of = held_after (shape_of [])
 
 abbrev pub settled_end : Held → List Row
 settled_end h = settled_at h.rows h.pending
@@ -162,7 +162,7 @@ module _ (command : Text) where
   abbrev shape : Shape
   shape = shape_of command
 
-  long : HasLongAlone shape
+  long : HasLongAlone shape 1
   long = record { no_short = λ x. refl; no_place = refl }
 
   named_fault : (a : Bool) (rows : List Row) (pending : Option (Text × List Text))
@@ -178,8 +178,8 @@ module _ (command : Text) where
   value_walk : (a : Bool) (v : Text) (rows : List Row)
       → word_met rules [] false (option (name_of a)) 1 v (held rows (Some (name_of a, []))) ≡ plain_word rules (option (name_of a)) v (held rows (Some (name_of a, [])))
       → walked rules [] (walk_at rows (Some (name_of a, [])) (option (name_of a))) v ≡ walk_at rows (Some (name_of a, v ∷ [])) idle
-  value_walk true v rows met = walked_is shape [] rows (Some (name_of true, [])) (option (name_of true)) v _ _ met
-  value_walk false v rows met = walked_is shape [] rows (Some (name_of false, [])) (option (name_of false)) v _ _ met
+  value_walk true v rows met = walked_is shape [] 1 rows (Some (name_of true, [])) (option (name_of true)) v _ _ met
+  value_walk false v rows met = walked_is shape [] 1 rows (Some (name_of false, [])) (option (name_of false)) v _ _ met
 
   module _ (a : Bool) (v : Text) (rows : List Row) (plain : IsPlain v) where
     abbrev wanting : Option (Text × List Text)
@@ -187,36 +187,19 @@ module _ (command : Text) where
 
     plain_met : word_met rules [] false (option (name_of a)) 1 v (held rows wanting) ≡ plain_word rules (option (name_of a)) v (held rows wanting)
     plain_met =
-        met_is shape [] rows wanting (option (name_of a)) v refl plain.safe
+        met_is shape [] 1 rows wanting (option (name_of a)) v refl plain.safe
         ∙ ap (λ o. long_or_other rules (option (name_of a)) v o (held rows wanting)) plain.no_long
         ∙ ap (λ o. short_or_plain rules (option (name_of a)) v o (held rows wanting)) plain.no_short
 
     plain_fault : turn_fault shape [] (walk_at rows wanting (option (name_of a))) v ≡ []
     plain_fault =
-        turn_is shape [] rows wanting (option (name_of a)) v refl plain.safe
+        turn_is shape [] 1 rows wanting (option (name_of a)) v refl plain.safe
         ∙ ap (λ o. or_else (flag_word_fault rules false o v (held rows wanting)) (step_fault shape 1 (long_or_other rules (option (name_of a)) v o (held rows wanting)).0 (long_or_other rules (option (name_of a)) v o (held rows wanting)).1)) plain.no_long
         ∙ ap (λ o. or_else (option_map_or (λ flags. bundle_fault rules false flags (held rows wanting)) o [])
         (step_fault shape 1 (short_or_plain rules (option (name_of a)) v o (held rows wanting)).0 (short_or_plain rules (option (name_of a)) v o (held rows wanting)).1)) plain.no_short
 
   abbrev pub rest_kinds : Walk → List Text → Kinds
-  rest_kinds w words = or_else (walk_fault shape [] w words) (settle_kinds (end_of w words).rows (end_of w words).pending)
-
-  pub record Stepped (w : Walk) (word : Text) (rest : List Text) : Type 0 where
-    pub turn : turn_fault shape [] w word ≡ []
-    pub more : rest_kinds (walked rules [] w word) rest ≡ []
-
-  one_step : (w : Walk) (word : Text) (rest : List Text) → rest_kinds w (word ∷ rest) ≡ [] → Stepped w word rest
-  unfolding walk_fault
-  one_step w word rest e =
-      let outer = both_none _ _ e in
-      let inner = both_none _ _ outer.0 in
-      record { turn = inner.0; more = none_of_both _ _ inner.1 outer.1 }
-
-  step_back : (w : Walk) (word : Text) (rest : List Text) → Stepped w word rest → rest_kinds w (word ∷ rest) ≡ []
-  unfolding walk_fault
-  step_back w word rest s =
-      let parts = both_none _ _ s.more in
-      none_of_both _ _ (none_of_both _ _ s.turn parts.0) parts.1
+  rest_kinds = kinds_from shape
 
   -- ---- words that pass are uses of options
 
@@ -227,7 +210,7 @@ module _ (command : Text) where
   joined_first : (a : Bool) (v : Text) (tail : List Text) → Reads tail → Reads (spelled a (Some v) ∷ tail)
   joined_first a v tail ih rows pending safe e =
       let word = spelled a (Some v) in
-      let s = one_step (walk_at rows pending idle) word tail e in
+      let s = one_step shape (walk_at rows pending idle) word tail e in
       let turn = both_none _ _ (both_none _ _ (sym (joined_fault a v rows pending) ∙ s.turn)).0 in
       let walk = joined_walk a v rows pending in
       let after = settled_at rows pending in
@@ -244,12 +227,12 @@ module _ (command : Text) where
   named_first a v tail ih rows pending safe e =
       let word = spelled a None in
       let after = settled_at rows pending in
-      let s = one_step (walk_at rows pending idle) word (v ∷ tail) e in
+      let s = one_step shape (walk_at rows pending idle) word (v ∷ tail) e in
       let settles = (both_none _ _ (sym (named_fault a rows pending) ∙ s.turn)).0 in
       let walk = named_walk a rows pending in
-      let t = one_step (walk_at after (Some (name_of a, [])) (option (name_of a))) v tail (subst (λ (w : Walk). rest_kinds w (v ∷ tail) ≡ []) walk s.more) in
+      let t = one_step shape (walk_at after (Some (name_of a, [])) (option (name_of a))) v tail (subst (λ (w : Walk). rest_kinds w (v ∷ tail) ≡ []) walk s.more) in
       let rest_safe = others_safe word (v ∷ tail) safe in
-      let met = wanting_turn shape long after (name_of a) v (wants_value a after) (first_safe v tail rest_safe) t.turn in
+      let met = wanting_turn shape long.no_short 1 after (name_of a) v (wants_value a after) (first_safe v tail rest_safe) t.turn in
       let value = value_walk a v after met in
       let r = ih after (Some (name_of a, v ∷ [])) (others_safe v tail rest_safe) (subst (λ (w : Walk). rest_kinds w tail ≡ []) value t.more) in
       record {
@@ -264,13 +247,13 @@ module _ (command : Text) where
 
   named_last : (a : Bool) → Reads (spelled a None ∷ [])
   named_last a rows pending safe e =
-      let s = one_step (walk_at rows pending idle) (spelled a None) [] e in
+      let s = one_step shape (walk_at rows pending idle) (spelled a None) [] e in
       let last = (both_none _ _ (subst (λ (w : Walk). rest_kinds w [] ≡ []) (named_walk a rows pending) s.more)).1 in
       absurd (wants_value a (settled_at rows pending) last)
 
   begins : (word : Text) (rows : List Row) (pending : Option (Text × List Text)) → bytes_eq word dashes ≡ false → turn_fault shape [] (walk_at rows pending idle) word ≡ [] → Begins word
   begins word rows pending safe e =
-      let l = idle_turn shape [] long rows pending word refl safe e in
+      let l = idle_turn shape [] 1 long rows pending word refl safe e in
       let a = which_name l.name l.rule l.found in
       record { which = a.0; given = l.given; is = long_word_is word (l.name, l.given) l.reads ∙ ap (λ (n : Text). 45 ∷ 45 ∷ (n ++ behind l.given)) a.1 }
 
@@ -289,11 +272,11 @@ module _ (command : Text) where
   pub read_words : (words : List Text) → Reads words
   read_words [] = read_none
   read_words (word ∷ []) = λ rows pending safe e.
-      let s = one_step (walk_at rows pending idle) word [] e in
+      let s = one_step shape (walk_at rows pending idle) word [] e in
       let b = begins word rows pending (first_safe word [] safe) s.turn in
       subst (λ (w : Text). Reads (w ∷ [])) (sym b.is) (read_last b.which b.given read_none) rows pending safe e
   read_words (word ∷ v ∷ tail) = λ rows pending safe e.
-      let s = one_step (walk_at rows pending idle) word (v ∷ tail) e in
+      let s = one_step shape (walk_at rows pending idle) word (v ∷ tail) e in
       let b = begins word rows pending (first_safe word (v ∷ tail) safe) s.turn in
       subst (λ (w : Text). Reads (w ∷ v ∷ tail)) (sym b.is) (read_next b.which b.given v tail (read_words tail) (read_words (v ∷ tail))) rows pending safe e
 
@@ -314,7 +297,7 @@ module _ (command : Text) where
       let walk = joined_walk a v rows pending in
       let r = ih (use_rows a v after) None refl pass.1 in
       record {
-        passes = step_back (walk_at rows pending idle) word tail (record {
+        passes = step_back shape (walk_at rows pending idle) word tail (record {
           turn = joined_fault a v rows pending ∙ none_of_both _ [] (none_of_both _ _ settles pass.0) refl;
           more = subst (λ (w : Walk). rest_kinds w tail ≡ []) (sym walk) r.passes;
         });
@@ -329,12 +312,12 @@ module _ (command : Text) where
       let walk = named_walk a rows pending in
       let value = value_walk a v after (plain_met a v after plain) in
       let r = ih after (Some (name_of a, v ∷ [])) (settle_named a v after ∙ pass.0) (subst (λ (rs : List Row). Pass rs us) (sym (settled_named a v after)) pass.1) in
-      let second = step_back (walk_at after (Some (name_of a, [])) (option (name_of a))) v tail (record {
+      let second = step_back shape (walk_at after (Some (name_of a, [])) (option (name_of a))) v tail (record {
         turn = plain_fault a v after plain;
         more = subst (λ (w : Walk). rest_kinds w tail ≡ []) (sym value) r.passes;
       }) in
       record {
-        passes = step_back (walk_at rows pending idle) word (v ∷ tail) (record {
+        passes = step_back shape (walk_at rows pending idle) word (v ∷ tail) (record {
           turn = named_fault a rows pending ∙ none_of_both _ [] settles refl;
           more = subst (λ (w : Walk). rest_kinds w (v ∷ tail) ≡ []) (sym walk) second;
         });

@@ -6,6 +6,7 @@ use Rattle.clap.specs.declared.builder.value_parser.ValueParser.{ValueParser}
 use Rattle.clap.specs.declared.builder.value_parser.ValueParser.TheVariants.{Signed}
 use Rattle.command_words.specs.Words.{IsNumber, number_after}
 use Rattle.command_words.specs.declared.reading.Command.{Command}
+use Rattle.command_words.specs.declared.reading.Command.TheVariants.{Load}
 use Rattle.command_words.specs.declared.reading.Options.{Options}
 
 -- an option by its long name, with a number
@@ -22,6 +23,14 @@ budget = number_option (codes "budget") (Signed (pos 0) (pos 100000))
 abbrev pub command_with_options : Text → App
 command_with_options name = with_rule (with_rule (new_app name) workers) budget
 
+-- an argument with no name, which goes by its place: a number, and one is needed
+abbrev pub load_number : Rule
+load_number = record (new_rule (codes "number")) { parser = Some (Signed (pos 1) (pos 16)); required = true }
+
+-- the command that knows such a number and the option of the workers
+abbrev pub load_command : App
+load_command = with_rule (with_rule (new_app (codes "load")) load_number) workers
+
 abbrev pub check_command : App
 check_command = new_app (codes "check")
 
@@ -37,7 +46,15 @@ abbrev pub with_command : Text → App → App
 with_command name a = with_subcommand a (command_with_options name).top
 
 abbrev pub program : App
-program = with_command (codes "facts") (with_command (codes "assert") (with_command (codes "distinct") (with_subcommand (with_command (codes "run") without_commands) check_command.top)))
+program =
+    with_subcommand
+    (with_command (codes "facts") (with_command (codes "assert") (with_command (codes "distinct") (with_subcommand (with_command (codes "run") without_commands) check_command.top)))) load_command.top
+
+-- what is read under a name: the number that its text is
+abbrev pub ReadsGiven : Text → List Row → Option ℕ → Type 0
+ReadsGiven name rows read = MatchOption read
+    ((first_of name rows ≡ None) ⊎ ((text : Text) × (first_of name rows ≡ Some text) × (IsNumber text → one_of name rows ≡ Some text → ⊥)))
+    (λ n. (text : Text) × (first_of name rows ≡ Some text) × IsNumber text × (one_of name rows ≡ Some text → n ≡ number_after 0 text))
 
 -- what is read of an option: its default, or the number that its text is
 abbrev pub ReadsNumber : ℕ → Text → List Row → Option ℕ → Type 0
@@ -64,3 +81,9 @@ ReadsWithOptions make rows said = MatchOption said (ReadsOptions rows None) (λ 
 -- the command with the budget alone, where it is read
 abbrev pub ReadsWithBudget : (ℕ → Command) → List Row → Option Command → Type 0
 ReadsWithBudget make rows said = MatchOption said (ReadsBudget rows None) (λ c. (budget : ℕ) × ReadsBudget rows (Some budget) × (c ≡ make budget))
+
+-- `load` with its number and its workers, where they are read
+abbrev pub ReadsLoad : List Row → Option Command → Type 0
+ReadsLoad rows said = MatchOption said
+    (ReadsGiven (codes "number") rows None ⊎ ReadsNumber 4 (codes "workers") rows None)
+    (λ c. (number : ℕ) × (workers : ℕ) × ReadsGiven (codes "number") rows (Some number) × ReadsNumber 4 (codes "workers") rows (Some workers) × (c ≡ Load number workers))

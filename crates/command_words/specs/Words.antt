@@ -1,7 +1,7 @@
 -- Which words tell the program what to do.
 use Rattle.std.specs.Prelude.{◌≡◌, ◌≤◌, ◌+◌, ◌*◌, ◌-◌, ◌⊎◌, ◌++◌, ◌∷◌, [], ℕ, List, All, codes, length}
 use Rattle.command_words.specs.declared.reading.Command.{Command}
-use Rattle.command_words.specs.declared.reading.Command.TheVariants.{Run, Check, Distinct, Assert, Facts}
+use Rattle.command_words.specs.declared.reading.Command.TheVariants.{Run, Check, Distinct, Assert, Facts, Load}
 
 abbrev pub IsDigit : ℕ → Type 0
 IsDigit b = (48 ≤ b) × (b ≤ 57)
@@ -53,6 +53,22 @@ AreOptions words workers budget =
 abbrev pub IsBudgetAlone : List (List ℕ) → ℕ → Type 0
 IsBudgetAlone words budget = ((words ≡ []) × (budget ≡ 20000)) ⊎ IsBudget words budget
 
+-- a word alone, which is a number from 1 to 16
+pub record IsLoadNumber (words : List (List ℕ)) (n : ℕ) : Type 0 where
+  pub word : List ℕ
+  pub number : IsNumber word
+  pub is : n ≡ number_after 0 word
+  pub least : 1 ≤ n
+  pub most : n ≤ 16
+  pub alone : words ≡ word ∷ []
+
+-- the number of a load, and before it, behind it or not at all the option of the workers
+abbrev pub AreOfLoad : List (List ℕ) → ℕ → ℕ → Type 0
+AreOfLoad words number workers =
+    (IsLoadNumber words number × (workers ≡ 4))
+    ⊎ AreBoth (λ front. IsLoadNumber front number) (λ back. IsWorkers back workers) words
+    ⊎ AreBoth (λ front. IsWorkers front workers) (λ back. IsLoadNumber back number) words
+
 -- the name of a command, and what stands behind it
 abbrev pub IsBehind : List ℕ → List (List ℕ) → (List (List ℕ) → Type 0) → Type 0
 IsBehind name words Are = (options : List (List ℕ)) × (words ≡ name ∷ options) × Are options
@@ -64,6 +80,7 @@ Says words Check = words ≡ codes "check" ∷ []
 Says words (Distinct workers budget) = IsBehind (codes "distinct") words (λ options. AreOptions options workers budget)
 Says words (Assert budget) = IsBehind (codes "assert") words (λ options. IsBudgetAlone options budget)
 Says words (Facts budget) = IsBehind (codes "facts") words (λ options. IsBudgetAlone options budget)
+Says words (Load number workers) = IsBehind (codes "load") words (λ behind. AreOfLoad behind number workers)
 
 -- no command is said
 abbrev pub SaysNone : List (List ℕ) → Type 0

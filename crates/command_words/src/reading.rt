@@ -4,7 +4,7 @@ ghost use Rattle.clap.specs.Words.{Row, app_of, found_of, rows_of, rule_of, subc
 ghost use Rattle.clap.specs.Simple.{new_app, with_subcommand};
 ghost use Rattle.clap.specs.declared.builder.command.Command.TheViews.{out-Command as fields_of};
 ghost use Rattle.command_words.specs.Words.{IsNumber, Says, SaysNone};
-ghost use Rattle.command_words.specs.Program.{command_with_options, number_option, program, without_commands, ReadsBudget, ReadsNumber, ReadsOptions, ReadsWithBudget, ReadsWithOptions};
+ghost use Rattle.command_words.specs.Program.{command_with_options, load_command, load_number, number_option, program, without_commands, workers, ReadsBudget, ReadsGiven, ReadsLoad, ReadsNumber, ReadsOptions, ReadsWithBudget, ReadsWithOptions};
 ghost use Rattle.command_words.specs.Read.{texts, has_escape};
 ghost use Rattle.command_words.specs.declared.reading.Command.{Command as Said};
 ghost use Rattle.command_words.specs.declared.reading.Command.TheVariants.{Assert, Check, Distinct, Facts, Run};
@@ -27,6 +27,8 @@ pub enum Command {
     Assert { budget: u32 },
     /// Find facts that can't all hold, in a script's models, with a budget of at most 100,000 units a search.
     Facts { budget: u32 },
+    /// Run the script of a number from 1 to 16, which the program makes, by 1 to 16 workers, and count what is shown.
+    Load { number: u32, workers: u32 },
 }
 
 /// What the options of a command say; where one isn't given, its default.
@@ -50,15 +52,42 @@ fn number_option<'a>(alloc: Global, name: &'a str, numbers: ValueParser<'a>) -> 
     Arg::new(alloc, name).long(name).value_parser(numbers)
 }
 
+// The option of the workers.
+fn workers_option<'a>(alloc: Global) -> Arg<'a>
+    ensures rule { rule_of result ≡ workers }
+    ensures local { result.global ≡ false }
+{
+    number_option(alloc, "workers", value_parser!(u32).range(1..=16))
+}
+
 // A command of this name that knows both options.
 fn command_with_options<'a>(alloc: Global, name: &'a str) -> Result<clap::Command<'a>, AllocError>
     ensures { IfOk result (λ c. (app_of c ≡ command_with_options name.entry.now) × ((fields_of c).has_globals ≡ false)) }
 {
-    let workers = value_parser!(u32).range(1..=16);
     let budget = value_parser!(u32).range(0..=100_000);
     let command = clap::Command::new(alloc, name)
-        .arg(number_option(alloc, "workers", workers))?
+        .arg(workers_option(alloc))?
         .arg(number_option(alloc, "budget", budget))?;
+    Ok(command)
+}
+
+// The number of a script that is made, which goes by its place among the words.
+fn load_number<'a>(alloc: Global) -> Arg<'a>
+    ensures rule { rule_of result ≡ load_number }
+    ensures local { result.global ≡ false }
+{
+    Arg::new(alloc, "number")
+        .value_parser(value_parser!(u32).range(1..=16))
+        .required(true)
+}
+
+// The command `load`, which knows a number and the option of the workers.
+fn load_command<'a>(alloc: Global) -> Result<clap::Command<'a>, AllocError>
+    ensures { IfOk result (λ c. (app_of c ≡ load_command) × ((fields_of c).has_globals ≡ false)) }
+{
+    let command = clap::Command::new(alloc, "load")
+        .arg(load_number(alloc))?
+        .arg(workers_option(alloc))?;
     Ok(command)
 }
 
@@ -97,6 +126,14 @@ fn with_command<'a>(
     program.subcommand(command)
 }
 
+// The program with the command `load` more.
+fn with_load<'a>(alloc: Global, program: clap::Command<'a>) -> Result<clap::Command<'a>, AllocError>
+    ensures { IfOk result (λ c. app_of c ≡ with_subcommand (app_of program.entry) load_command.top) }
+{
+    let command = load_command(alloc)?;
+    program.subcommand(command)
+}
+
 // The program and its commands.
 fn program<'a>(alloc: Global) -> Result<clap::Command<'a>, AllocError>
     ensures { IfOk result (λ c. app_of c ≡ program) }
@@ -107,6 +144,7 @@ fn program<'a>(alloc: Global) -> Result<clap::Command<'a>, AllocError>
     let program = with_command(alloc, program, "distinct")?;
     let program = with_command(alloc, program, "assert")?;
     let program = with_command(alloc, program, "facts")?;
+    let program = with_load(alloc, program)?;
     Ok(program)
 }
 
@@ -118,25 +156,40 @@ fn is_number(text: &str) -> bool
     !digits.is_empty() && digits.len() <= 9 && digits.iter().all(|b| b.is_ascii_digit())
 }
 
-// The number of an option, or its default. `clap` would also take a sign, and ten digits.
-fn number_in(options: &ArgMatches<'_>, name: &str, default: u32) -> Option<u32>
-    ensures { ReadsNumber default name.now (rows_of (found_of options.now)) result }
+// The number that is given under this name. `clap` would also take a sign, and ten digits.
+fn number_given(matches: &ArgMatches<'_>, name: &str) -> Option<u32>
+    ensures { ReadsGiven name.now (rows_of (found_of matches.now)) result }
 {
-    let Some(text) = options.get_str(name) else {
-        return Some(default);
-    };
+    let text = matches.get_str(name)?;
     if is_number(text) {
-        options.get_one::<u32>(name)
+        matches.get_one::<u32>(name)
     } else {
         None
     }
+}
+
+// The number of an option, or its default.
+fn number_in(options: &ArgMatches<'_>, name: &str, default: u32) -> Option<u32>
+    ensures { ReadsNumber default name.now (rows_of (found_of options.now)) result }
+{
+    match options.get_str(name) {
+        Some(_) => number_given(options, name),
+        None => Some(default),
+    }
+}
+
+// How many workers there are.
+fn workers_in(matches: &ArgMatches<'_>) -> Option<u32>
+    ensures { ReadsNumber 4 (codes "workers") (rows_of (found_of matches.now)) result }
+{
+    number_in(matches, "workers", DEFAULT_WORKERS)
 }
 
 // The options of a command that has both.
 fn options_in(matches: &ArgMatches<'_>) -> Option<Options>
     ensures { ReadsOptions (rows_of (found_of matches.now)) result }
 {
-    let workers = number_in(matches, "workers", DEFAULT_WORKERS)?;
+    let workers = workers_in(matches)?;
     let budget = number_in(matches, "budget", DEFAULT_BUDGET)?;
     Some(Options { workers, budget })
 }
@@ -186,12 +239,22 @@ fn facts_with(matches: &ArgMatches<'_>) -> Option<Command>
     Some(Command::Facts { budget })
 }
 
+// The command `load` with its number and its workers.
+fn load_with(matches: &ArgMatches<'_>) -> Option<Command>
+    ensures { ReadsLoad (rows_of (found_of matches.now)) result }
+{
+    let number = number_given(matches, "number")?;
+    let workers = workers_in(matches)?;
+    Some(Command::Load { number, workers })
+}
+
 // The command that was matched.
 fn said_by(matches: &ArgMatches<'_>) -> Option<Command>
     ensures run { (rows : List Row) → subcommand_rows_of matches.now ≡ Some (codes "run", rows) → ReadsWithOptions Run rows result }
     ensures distinct { (rows : List Row) → subcommand_rows_of matches.now ≡ Some (codes "distinct", rows) → ReadsWithOptions Distinct rows result }
     ensures asserts { (rows : List Row) → subcommand_rows_of matches.now ≡ Some (codes "assert", rows) → ReadsWithBudget Assert rows result }
     ensures facts { (rows : List Row) → subcommand_rows_of matches.now ≡ Some (codes "facts", rows) → ReadsWithBudget Facts rows result }
+    ensures load { (rows : List Row) → subcommand_rows_of matches.now ≡ Some (codes "load", rows) → ReadsLoad rows result }
     ensures check { (rows : List Row) → subcommand_rows_of matches.now ≡ Some (codes "check", rows) → result ≡ Some Check }
 {
     if let Some(options) = matches.subcommand_matches("run") {
@@ -202,6 +265,8 @@ fn said_by(matches: &ArgMatches<'_>) -> Option<Command>
         assert_with(options)
     } else if let Some(options) = matches.subcommand_matches("facts") {
         facts_with(options)
+    } else if let Some(words) = matches.subcommand_matches("load") {
+        load_with(words)
     } else {
         Some(Command::Check)
     }
@@ -215,8 +280,9 @@ fn has_escape(words: &[String]) -> bool
 }
 
 /// What the words say: `run` or `distinct` with the options `--workers N` and `--budget N` in any order, each at most once,
-/// `assert` or `facts` with `--budget N` at most, or `check` alone. A number is one to nine digits, and may stand behind `=`
-/// in its option's word. None where the words aren't so, and an error where memory is wanting.
+/// `assert` or `facts` with `--budget N` at most, `load` with a number from 1 to 16 and `--workers N` at most, before or behind
+/// it, or `check` alone. A number is one to nine digits, and may stand behind `=` in its option's word. None where the words aren't
+/// so, and an error where memory is wanting.
 pub fn command_of(alloc: Global, words: &[String]) -> Result<Option<Command>, AllocError>
     ensures none { IfOk result (λ said. IfNone said (SaysNone (texts words.now))) }
     ensures some { IfOk result (λ said. IfSome said (Says (texts words.now))) }

@@ -17,3 +17,8 @@ pub mod ServedOutputs
 pub mod ShowingReplies
 pub mod Statuses
 pub mod Usables
+pub mod Sums
+pub mod Summaries
+pub mod SummedRuns
+pub mod LoadAnswers
+pub mod Unread

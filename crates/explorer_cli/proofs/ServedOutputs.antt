@@ -20,7 +20,7 @@ use Rattle.script_format.specs.declared.entries.ModelEntry.{ModelEntry}
 use Rattle.script_format.specs.declared.entries.SessionEntry.{SessionEntry}
 use Rattle.script_text.specs.Limits.{most_output}
 use Rattle.script_text.specs.Printed.{all_printed}
-use Rattle.script_text.specs.Replies.{PrintedSession, NamesCellsOf, PrintsRightProof, IsOutput}
+use Rattle.script_text.specs.Replies.{PrintedSession, NamesCellsOf, PrintsRightProof, PrintsCheckableProof, IsOutput}
 use Rattle.hub_state.specs.Journal.Noted.{Noted}
 use Rattle.hub_state.specs.Journal.Journal.{IsPublished, IsLegal}
 use Rattle.hub_state.specs.Journal.Told.{IsTold}
@@ -35,7 +35,7 @@ use Rattle.served_models.specs.declared.purposes.Purpose.TheVariants.{Lists, Cla
 use Rattle.served_models.specs.declared.commands.ServedCommand.{ServedCommand}
 use Rattle.served_models.specs.Served.{AreUsed, AreAllMade}
 use Rattle.explorer_cli.specs.declared.sessions.Ran.{Ran}
-use Rattle.explorer_cli.specs.Runs.{IsRunOn, IsProblemAt, Translations, IsRunAmong, Together, TellsRun, TellsRuns, IsServed}
+use Rattle.explorer_cli.specs.Runs.{IsRunOn, IsProblemAt, Translations, IsRunAmong, AreRuns, Together, TellsRun, TellsRuns, IsServed}
 use Rattle.explorer_cli.specs.Keys.{problems_of, key_of, IsScriptOf, WereServed}
 use Rattle.explorer_cli.specs.Classes.{AreClassedRuns, IsToldText, IsTranscriptText, AreTranscriptTexts}
 use Rattle.explorer_cli.specs.Outcome.{AreToldRuns, WritesRuns}
@@ -145,11 +145,15 @@ over models ts model number = slice_get ts (key_of models model number)
 abbrev together : List (Vec ServedCommand) → List Noted → Together
 together models journal = record { problems = problems_of models; key_of = key_of models; journal = journal }
 
-zip_length : {X Y : Type 0} (R : X → Y → Type 0) (xs : List X) (ys : List Y) → AllZip R xs ys → length xs ≡ length ys
+pub zip_length : {X Y : Type 0} (R : X → Y → Type 0) (xs : List X) (ys : List Y) → AllZip R xs ys → length xs ≡ length ys
 zip_length R [] [] zip = refl
 zip_length R [] (y ∷ ys) zip = absurd zip
 zip_length R (x ∷ xs) [] zip = absurd zip
 zip_length R (x ∷ xs) (y ∷ ys) zip = let rest = zip_length R xs ys zip.1 in omega arith
+
+-- this is printed of the transcript
+abbrev pub Prints : Transcript → PrintedSession → Type 0
+Prints y s = (t : Translated) × AllZip (PrintsCheckableProof t) y.floors y.replies × (s.replies ≡ all_printed t y.floors y.replies)
 
 module _ (stands : Stands) (backed : ToldAreBacked) (purpose : Purpose) (budget : ℕ) (ms : List NamedTree) (models : List (Vec ServedCommand)) (ts : List Translated) (journal : List Noted)
     (legal : IsLegal (problems_of models) journal) (of_model : (x : SessionEntry) → IsServed models x → (p : Bounded) → slice_get (problems_of models) (key_of models x.model x.number) ≡ Some p → IsProblemAt ms x p) where
@@ -171,14 +175,15 @@ module _ (stands : Stands) (backed : ToldAreBacked) (purpose : Purpose) (budget 
       }
 
   -- a session with its text, as the journal tells it
-  record IsToldRun (number : ℕ) (x : SessionEntry) (text : List ℕ) : Type 0 where
+  record IsToldRun (number : ℕ) (x : SessionEntry) (z : Transcript) (text : List ℕ) : Type 0 where
     pub printed : PrintedSession
     pub run : IsRunAmong budget ms (over models ts) x printed
     pub tells : TellsRun (together models journal) number budget ms (over models ts) x printed run
     pub told : IsToldText purpose printed.problem printed.name run.3.floors printed.replies text
+    pub prints : Prints z printed
 
   told_run : (number : ℕ) (x : SessionEntry) (y : SessionScript) (z : Transcript) (text : List ℕ) → IsServed models x → IsScriptOf models budget x y
-      → (t : Translated) → slice_get ts y.key ≡ Some t → IsServedScript (problems_of models) journal t number y.key y.budget y.commands z → IsTextAt purpose ts y z text → IsToldRun number x text
+      → (t : Translated) → slice_get ts y.key ≡ Some t → IsServedScript (problems_of models) journal t number y.key y.budget y.commands z → IsTextAt purpose ts y z text → IsToldRun number x z text
   unfolding run_on
   told_run number x y z text on script t at is (u, there, told) =
       let key = key_of models x.model x.number in
@@ -194,14 +199,15 @@ module _ (stands : Stands) (backed : ToldAreBacked) (purpose : Purpose) (budget 
         run = (t, subst (λ (k : ℕ). slice_get ts k ≡ Some t) script.key at, of_model x on t.problem of_key, run_on number x t z text text_is served);
         tells = served;
         told = text_is.told;
+        prints = (t, text_is.checkable, refl);
       }
 
   -- ---- those of all sessions
 
   whole_runs : (number : ℕ) (sessions : List SessionEntry) (xs : List SessionScript) (ys : List Transcript) (text : List ℕ) → AllByRecursion (IsServed models) sessions → AllZip (IsScriptOf models budget) sessions xs
       → AreServedFrom (problems_of models) journal ts number xs ys → AreTranscriptTexts purpose ts xs ys text → purpose ≡ Lists
-      → (runs : List PrintedSession) × TellsRuns (together models journal) number budget ms (over models ts) sessions runs × IsOutput runs text
-  whole_runs number [] [] [] text on scripts served are lists = ([], tt, are)
+      → (runs : List PrintedSession) × TellsRuns (together models journal) number budget ms (over models ts) sessions runs × IsOutput runs text × AllZip Prints ys runs
+  whole_runs number [] [] [] text on scripts served are lists = ([], tt, are, tt)
   whole_runs number [] [] (y ∷ ys) text on scripts served are lists = absurd are
   whole_runs number [] (x ∷ xs) ys text on scripts served are lists = absurd scripts
   whole_runs number (a ∷ sessions) [] ys text on scripts served are lists = absurd scripts
@@ -210,7 +216,7 @@ module _ (stands : Stands) (backed : ToldAreBacked) (purpose : Purpose) (budget 
       let own = told_run number a x y first on.0 scripts.0 served.0.0 served.0.1 served.0.2 is in
       let more = whole_runs (number + 1) sessions xs ys rest on.1 scripts.1 served.1 others lists in
       let told = subst (λ (q : Purpose). IsToldText q own.printed.problem own.printed.name own.run.3.floors own.printed.replies first) lists own.told in
-      (own.printed ∷ more.0, ((own.run, own.tells), more.1), (first, rest, told, more.2, e))
+      (own.printed ∷ more.0, ((own.run, own.tells), more.1), (first, rest, told, more.2, e), (own.prints, more.3))
 
   classed_runs : (number : ℕ) (sessions : List SessionEntry) (xs : List SessionScript) (ys : List Transcript) (text : List ℕ) → AllByRecursion (IsServed models) sessions → AllZip (IsScriptOf models budget) sessions xs
       → AreServedFrom (problems_of models) journal ts number xs ys → AreTranscriptTexts purpose ts xs ys text → purpose ≡ Classes → AreClassedRuns (together models journal) number budget ms (over models ts) sessions text
@@ -227,26 +233,41 @@ module _ (stands : Stands) (backed : ToldAreBacked) (purpose : Purpose) (budget 
 
 -- what was found of the models of a script, what its sessions were answered on that, and the texts of it make the script's answer
 module _ (stands : Stands) (backed : ToldAreBacked) (purpose : Purpose) (budget : ℕ) where
+  -- the journal's interleaving, and what a key's problem is
+  interleaved : (sessions : List SessionEntry) (models : List (Vec ServedCommand)) (ran : Ran) (were : WereServed models budget sessions ran) → IsInterleaving (problems_of models) were.served.journal (length sessions)
+  interleaved sessions models ran were =
+      subst (IsInterleaving (problems_of models) were.served.journal) (sym (zip_length (IsScriptOf models budget) sessions ran.scripts.items were.scripts)) were.served.interleaving
+
+  pub runs_of_lists : (sessions : List SessionEntry) (ms : List NamedTree) (models : List (Vec ServedCommand)) (ran : Ran) (text : List ℕ) → AreAllMade purpose sessions 0 ms models → All (IsServed models) sessions
+      → WereServed models budget sessions ran → AreTranscriptTexts purpose (translations_of ran.served) ran.scripts.items ran.served.transcripts.items text → purpose ≡ Lists
+      → (runs : List PrintedSession) × AreRuns budget sessions ms runs × IsOutput runs text × AllZip Prints ran.served.transcripts.items runs
+  runs_of_lists sessions ms models ran text made on were are lists =
+      let served = were.served in
+      let ts = translations_of ran.served in
+      let interleaving = interleaved sessions models ran were in
+      let of_model : (x : SessionEntry) → IsServed models x → (p : Bounded) → slice_get (problems_of models) (key_of models x.model x.number) ≡ Some p → IsProblemAt ms x p =
+      λ x is p at. problem_at purpose sessions ms models x p made (problem_there models x p is at) in
+      let whole =
+      whole_runs stands backed purpose budget ms models ts served.journal interleaving.legal of_model 1 sessions ran.scripts.items ran.served.transcripts.items text (recursion_from_All (IsServed models) sessions on) were.scripts
+      served.sessions are lists in
+      (whole.0, (over models ts, together models served.journal, interleaving, whole.1), whole.2, whole.3)
+
   told_runs : (sessions : List SessionEntry) (ms : List NamedTree) (models : List (Vec ServedCommand)) (ran : Ran) (text : List ℕ) → AreAllMade purpose sessions 0 ms models → All (IsServed models) sessions
       → WereServed models budget sessions ran → AreTranscriptTexts purpose (translations_of ran.served) ran.scripts.items ran.served.transcripts.items text → length text ≤ most_output → AreToldRuns purpose budget sessions ms text
   told_runs sessions ms models ran text made on were are fits =
       let served = were.served in
-      let scripts = ran.scripts.items in
-      let transcripts = ran.served.transcripts.items in
       let ts = translations_of ran.served in
-      let journal = served.journal in
+      let interleaving = interleaved sessions models ran were in
       let of_model : (x : SessionEntry) → IsServed models x → (p : Bounded) → slice_get (problems_of models) (key_of models x.model x.number) ≡ Some p → IsProblemAt ms x p =
       λ x is p at. problem_at purpose sessions ms models x p made (problem_there models x p is at) in
-      let each = recursion_from_All (IsServed models) sessions on in
-      let interleaving : IsInterleaving (problems_of models) journal (length sessions) = subst (IsInterleaving (problems_of models) journal) (sym (zip_length (IsScriptOf models budget) sessions scripts were.scripts)) served.interleaving in
       let go : (q : Purpose) → purpose ≡ q → AreToldRuns q budget sessions ms text =
       λ q. elim q as (λ q. purpose ≡ q → AreToldRuns q budget sessions ms text) [
-        | Lists ↦ λ lists.
-            let whole = whole_runs stands backed purpose budget ms models ts journal interleaving.legal of_model 1 sessions scripts transcripts text each were.scripts served.sessions are lists in
-            (whole.0, (over models ts, together models journal, interleaving, whole.1), whole.2, fits)
+        | Lists ↦ λ lists. let whole = runs_of_lists sessions ms models ran text made on were are lists in (whole.0, whole.1, whole.2, fits)
         | Classes ↦ λ classes.
-            let told = classed_runs stands backed purpose budget ms models ts journal interleaving.legal of_model 1 sessions scripts transcripts text each were.scripts served.sessions are classes in
-            (over models ts, together models journal, interleaving, told, fits)
+            let told =
+            classed_runs stands backed purpose budget ms models ts served.journal interleaving.legal of_model 1 sessions ran.scripts.items ran.served.transcripts.items text (recursion_from_All (IsServed models) sessions on)
+            were.scripts served.sessions are classes in
+            (over models ts, together models served.journal, interleaving, told, fits)
       ] in
       go purpose refl
 

@@ -2,12 +2,13 @@
 use Rattle.std.specs.Prelude.{◌≡◌, ◌≤◌, ◌⊎◌, ℕ, List, codes}
 use Rattle.command_words.specs.declared.reading.Command.{Command}
 use Rattle.alloy_syntax.specs.declared.tree.CommandKind.TheVariants as kind
-use Rattle.command_words.specs.declared.reading.Command.TheVariants.{Run, Distinct, Check, Assert, Facts}
+use Rattle.command_words.specs.declared.reading.Command.TheVariants.{Run, Distinct, Check, Assert, Facts, Load}
 use Rattle.proof_command.specs.Answer as check
 use Rattle.script_format.specs.declared.entries.Script.{Script}
 use Rattle.script_format.specs.declared.entries.SessionEntry.{SessionEntry}
 use Rattle.script_format.specs.declared.fault.ScriptFault.{ScriptFault}
 use Rattle.script_format.specs.Script.{IsScript, HasFault}
+use Rattle.script_format.specs.Generated.{generated}
 use Rattle.script_text.specs.Faults.{script_line, fault_words}
 use Rattle.named_model.specs.Model.{NamedTree}
 use Rattle.served_models.specs.declared.purposes.Purpose.{Purpose}
@@ -18,6 +19,7 @@ use Rattle.decision_reports.specs.Reports.{AreAssertionsOf}
 use Rattle.decision_reports.specs.FactReports.{AreFactSetsOf}
 use Rattle.explorer_cli.specs.Runs.{AreRunsOf}
 use Rattle.explorer_cli.specs.Classes.{AreClassedRunsOf}
+use Rattle.explorer_cli.specs.Load.{IsSummaryOf}
 
 -- the line that names refused words
 abbrev pub words_line : List ℕ
@@ -34,24 +36,31 @@ AreToldRuns Classes budget sessions models text = AreClassedRunsOf budget sessio
 abbrev pub WritesRuns : Purpose → ℕ → Script → List ℕ → Type 0
 WritesRuns purpose budget s text = (models : List NamedTree) × AreUsable purpose s.sessions 0 s.models models × AreToldRuns purpose budget s.sessions models text
 
+-- the summary of runs of the script's sessions on its models, which can all be used for lists
+abbrev pub WritesSummary : ℕ → Script → List ℕ → Type 0
+WritesSummary budget s text = (models : List NamedTree) × AreUsable Lists s.sessions 0 s.models models × IsSummaryOf budget s.sessions models text
+
 -- the text that a command writes for a script: of `run` and `distinct` that of such runs, from the budget of the words; of `assert`
 -- the decisions on each `check` command of its models, each with that budget; of `facts` what is known of the facts under each
--- `run` command, where each search has that budget; `check` reads no script
+-- `run` command, where each search has that budget; of `load` the summary of such runs as `run` has by itself; `check` reads no
+-- script
 abbrev pub Writes : Command → Script → List ℕ → Type 0
 Writes (Run workers budget) s text = WritesRuns Lists budget s text
 Writes (Distinct workers budget) s text = WritesRuns Classes budget s text
 Writes Check s text = ⊥
 Writes (Assert budget) s text = AreAssertionsOf budget s.models text
 Writes (Facts budget) s text = AreFactSetsOf budget s.models text
+Writes (Load number workers) s text = WritesSummary 20000 s text
 
--- the first model of a script that a command can't use has this name, and these words tell why: `run` and `distinct` use the
--- commands on which sessions are, `assert` each `check` command, and `facts` each `run` command
+-- the first model of a script that a command can't use has this name, and these words tell why: `run`, `distinct` and `load` use
+-- the commands on which sessions are, `assert` each `check` command, and `facts` each `run` command
 abbrev pub IsFirstUnusable : Command → Script → List ℕ → List ℕ → Type 0
 IsFirstUnusable (Run workers budget) s name words = IsFirstRefused Lists s.sessions s.models name words
 IsFirstUnusable (Distinct workers budget) s name words = IsFirstRefused Classes s.sessions s.models name words
 IsFirstUnusable Check s name words = ⊥
 IsFirstUnusable (Assert budget) s name words = IsFirstRefusedFor kind.Check s.models name words
 IsFirstUnusable (Facts budget) s name words = IsFirstRefusedFor kind.Run s.models name words
+IsFirstUnusable (Load number workers) s name words = IsFirstRefused Lists s.sessions s.models name words
 
 -- the bytes are no script, and under 3 the text is the line that tells their fault
 abbrev pub IsFaultAnswer : List ℕ → ℕ → List ℕ → Type 0
@@ -65,14 +74,21 @@ IsModelAnswer IsFirst status text = (status ≡ 4) × ((name : List ℕ) × (wor
 abbrev pub IsAnswerToScript : Command → Script → ℕ → List ℕ → Type 0
 IsAnswerToScript command s status text = IsModelAnswer (IsFirstUnusable command s) status text ⊎ ((status ≡ 0) × Writes command s text)
 
--- a status and a text answer the bytes of the input: `check` reads a proof text, the others a script
+-- a status and a text answer bytes that are read as a script
+abbrev pub IsAnswerToText : Command → List ℕ → ℕ → List ℕ → Type 0
+IsAnswerToText command bytes status text = IsFaultAnswer bytes status text ⊎ ((s : Script) × IsScript bytes s × IsAnswerToScript command s status text)
+
+-- a status and a text answer the bytes of the input: `check` reads a proof text, the others a script; but `load` makes its script,
+-- whatever the input is
 abbrev pub IsAnswerTo : Command → List ℕ → ℕ → List ℕ → Type 0
 IsAnswerTo Check bytes status text = check.IsAnswerTo bytes status text
-IsAnswerTo command bytes status text = IsFaultAnswer bytes status text ⊎ ((s : Script) × IsScript bytes s × IsAnswerToScript command s status text)
+IsAnswerTo (Load number workers) bytes status text = IsAnswerToText (Load number workers) (generated number) status text
+IsAnswerTo command bytes status text = IsAnswerToText command bytes status text
 
--- how many bytes a command reads at most: one more than a proof text, or a script, may have
+-- how many bytes a command reads at most: one more than a proof text, or a script, may have; and `load` reads none
 abbrev pub limit_of : Command → ℕ
 limit_of Check = 268435457
+limit_of (Load number workers) = 0
 limit_of command = 1048577
 
 -- ---- statuses
@@ -100,6 +116,7 @@ HasNumbersInRange (Distinct workers budget) = (1 ≤ workers) × (workers ≤ 16
 HasNumbersInRange Check = Unit {0}
 HasNumbersInRange (Assert budget) = budget ≤ 100000
 HasNumbersInRange (Facts budget) = budget ≤ 100000
+HasNumbersInRange (Load number workers) = (1 ≤ number) × (number ≤ 16) × (1 ≤ workers) × (workers ≤ 16)
 
 -- ---- what is answered where sessions are run
 

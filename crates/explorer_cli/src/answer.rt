@@ -3,6 +3,7 @@ ghost use Rattle.std.specs.Prelude.{◌≡◌, ◌≤◌, ◌⊎◌, IfOk};
 ghost use Rattle.explorer_cli.specs.Keys.{KeepsToLimits};
 ghost use Rattle.explorer_cli.specs.Outcome.{HasNumbersInRange, IsStatusOf, IsAnswerTo, IsAnswerOfRuns, IsRunsAnswer};
 
+use crate::load_command::answer_of_load;
 use crate::reports::{answer_of_assert, answer_of_facts};
 use crate::sessions::{run_sessions, text_of_sessions};
 use command_words::Command;
@@ -41,6 +42,7 @@ pub fn answer_to<R: Threads + Wait + Sync, G: Gate + Sync>(
         Command::Check => proof_command::answer_to(alloc, bytes),
         Command::Assert { budget } => answer_of_assert(alloc, budget, bytes),
         Command::Facts { budget } => answer_of_facts(alloc, budget, bytes),
+        Command::Load { number, workers } => answer_of_load(rt, alloc, gate, number, workers),
     }
 }
 

@@ -1,5 +1,5 @@
 // What the words say is done.
-ghost use Rattle.std.specs.Prelude.{◌≡◌, ◌≢◌, ◌⊎◌, ◌+◌, ℕ, List};
+ghost use Rattle.std.specs.Prelude.{◌≡◌, ◌≢◌, ◌⊎◌, ◌+◌, ℕ, List, MatchOption};
 ghost use Rattle.outside_io.specs.Count.{Rose};
 ghost use Rattle.proof_command.specs.Inputs.{AnswersInput, IsWritten};
 ghost use Rattle.explorer_cli.specs.Outcome.{HasNumbersInRange, HasFailed, IsStatusOf, IsAnswerTo, limit_of};
@@ -12,8 +12,8 @@ use std::alloc::Global;
 use std::sync::Wait;
 use std::thread::Threads;
 
-/// Reads the input to the source's end, answers it as this command does, and writes that. Gives the status: that of the
-/// answer, or 5 the source failed, 6 the sink failed, 7 want of memory.
+/// Reads the input to the source's end, unless the command has none, answers it as the command does, and writes that. Gives the
+/// status: that of the answer, or 5 the source failed, 6 the sink failed, 7 want of memory.
 pub fn do_command<R: Threads + Wait + Sync, S: Source, K: Sink, G: Gate + Sync>(
     rt: &R,
     alloc: Global,
@@ -24,29 +24,56 @@ pub fn do_command<R: Threads + Wait + Sync, S: Source, K: Sink, G: Gate + Sync>(
 ) -> u8
     requires numbers { HasNumbersInRange command }
     ensures status { HasFailed result ⊎ IsStatusOf command result }
+    ensures unread { limit_of command ≡ 0 → (source.new ≡ source.old) × (result ≢ 5) }
     ensures source_failed { result ≡ 5 → Rose (S.faults source.old) (S.faults source.new) × (sink.new ≡ sink.old) }
     ensures sink_failed { result ≡ 6 → Rose (K.faults sink.old) (K.faults sink.new) }
     ensures no_memory { result ≡ 7 → sink.new ≡ sink.old }
     ensures answer { AnswersInput (limit_of command) (IsAnswerTo command) (S.tells source.old) (S.left source.old) (S.left source.new)
         (K.tells sink.old) (K.written sink.old) (K.written sink.new) result }
 {
-    match read_all(alloc, source, most_bytes(command)) {
-        Ok(bytes) => write_answer(rt, alloc, command, &bytes, sink, gate),
-        Err(ReadFault::Failed) => 5,
-        Err(ReadFault::Memory) => 7,
+    match most_bytes(command) {
+        Some(most) => answer_input(rt, alloc, command, most, source, sink, gate),
+        None => write_answer(rt, alloc, command, &[], sink, gate),
     }
 }
 
-// How many bytes the input of a command may have.
-fn most_bytes(command: Command) -> usize
-    ensures { result + 1 ≡ limit_of command }
+// How many bytes the input of a command may have, where it has one.
+fn most_bytes(command: Command) -> Option<usize>
+    ensures { MatchOption result (limit_of command ≡ 0) (λ most. most + 1 ≡ limit_of command) }
 {
     match command {
         Command::Run { .. }
         | Command::Distinct { .. }
         | Command::Assert { .. }
-        | Command::Facts { .. } => script_format::MOST_BYTES,
-        Command::Check => refutation_check::MOST_BYTES,
+        | Command::Facts { .. } => Some(script_format::MOST_BYTES),
+        Command::Check => Some(refutation_check::MOST_BYTES),
+        Command::Load { .. } => None,
+    }
+}
+
+// Reads the input, which may have so many bytes, and writes the answer to it.
+fn answer_input<R: Threads + Wait + Sync, S: Source, K: Sink, G: Gate + Sync>(
+    rt: &R,
+    alloc: Global,
+    command: Command,
+    most: usize,
+    source: &mut S,
+    sink: &mut K,
+    gate: &G,
+) -> u8
+    requires numbers { HasNumbersInRange command }
+    requires most { most + 1 ≡ limit_of command }
+    ensures status { HasFailed result ⊎ IsStatusOf command result }
+    ensures source_failed { result ≡ 5 → Rose (S.faults source.old) (S.faults source.new) × (sink.new ≡ sink.old) }
+    ensures sink_failed { result ≡ 6 → Rose (K.faults sink.old) (K.faults sink.new) }
+    ensures no_memory { result ≡ 7 → sink.new ≡ sink.old }
+    ensures answer { AnswersInput (limit_of command) (IsAnswerTo command) (S.tells source.old) (S.left source.old) (S.left source.new)
+        (K.tells sink.old) (K.written sink.old) (K.written sink.new) result }
+{
+    match read_all(alloc, source, most) {
+        Ok(bytes) => write_answer(rt, alloc, command, &bytes, sink, gate),
+        Err(ReadFault::Failed) => 5,
+        Err(ReadFault::Memory) => 7,
     }
 }
 

@@ -1,6 +1,7 @@
 // The top call.
-ghost use Rattle.std.specs.Prelude.{◌≡◌, ◌⊎◌, ◌++◌};
+ghost use Rattle.std.specs.Prelude.{◌≡◌, ◌≢◌, ◌⊎◌, ◌++◌, ℕ};
 ghost use Rattle.command_words.specs.declared.reading.Command.{Command as Said};
+ghost use Rattle.command_words.specs.declared.reading.Command.TheVariants.{Load};
 ghost use Rattle.command_words.specs.Words.{Says, SaysNone};
 ghost use Rattle.command_words.specs.Read.{texts};
 ghost use Rattle.outside_io.specs.Count.{Rose};
@@ -47,7 +48,10 @@ pub fn explore<R: Threads + Wait + Sync, S: Source, K: Sink, G: Gate + Sync>(
     // that the source or the sink failed, or want of memory.
     ensures taken { (c : Said) → Says (texts words.now) c → HasFailed result ⊎ IsStatusOf c result }
 
-    // The command reads all that the source had, and of more than its input may have just one byte beyond that; under 5 and 7 too
+    // `load` reads nothing, so that the source can't fail.
+    ensures unread { (number workers : ℕ) → Says (texts words.now) (Load number workers) → (source.new ≡ source.old) × (result ≢ 5) }
+
+    // Another command reads all that the source had, and of more than its input may have just one byte beyond that; under 5 and 7 too
     // it takes no more. What is written is its answer to that, and under 6 a part of it.
     ensures answer { (c : Said) → Says (texts words.now) c → AnswersInput (limit_of c) (IsAnswerTo c) (S.tells source.old) (S.left source.old) (S.left source.new)
         (K.tells sink.old) (K.written sink.old) (K.written sink.new) result }

@@ -14,6 +14,8 @@ mod of_facts;
 #[cfg(test)]
 mod of_hostile_use;
 #[cfg(test)]
+mod of_load;
+#[cfg(test)]
 mod of_models;
 #[cfg(test)]
 mod of_orderings;

@@ -64,7 +64,7 @@ fn right_words_say_a_command(rt: HostRuntime) -> Result<(), Fail> {
 
 #[test]
 fn other_commands_are_none(rt: HostRuntime) -> Result<(), Fail> {
-    let rows: [&[&str]; 23] = [
+    let rows: [&[&str]; 22] = [
         &[],
         &[""],
         &["-"],
@@ -78,7 +78,6 @@ fn other_commands_are_none(rt: HostRuntime) -> Result<(), Fail> {
         &["runs"],
         &["Run"],
         &["ru"],
-        &["load", "1"],
         &["facts", "--workers", "2"],
         &["distinct", "--workers=17"],
         &["crew", "--workers", "2", "--budget", "5"],
@@ -154,6 +153,67 @@ fn other_numbers_are_none(rt: HostRuntime) -> Result<(), Fail> {
         &["run", "--workers", "17", "--budget", "1"],
         &["run", "--workers=0", "--budget=1"],
         &["run", "--budget=x", "--workers=4"],
+    ];
+    for words in rows {
+        assert_eq!(rt; said(rt.alloc(), words)?, None);
+    }
+    Ok(())
+}
+
+fn load(number: u32, workers: u32) -> Option<Command> {
+    Some(Command::Load { number, workers })
+}
+
+#[test]
+fn a_load_has_a_number(rt: HostRuntime) -> Result<(), Fail> {
+    let rows: [(&[&str], Option<Command>); 10] = [
+        (&["load", "1"], load(1, 4)),
+        (&["load", "16"], load(16, 4)),
+        (&["load", "007"], load(7, 4)),
+        (&["load", "000000003"], load(3, 4)),
+        (&["load", "2", "--workers", "1"], load(2, 1)),
+        (&["load", "2", "--workers=16"], load(2, 16)),
+        (&["load", "--workers", "3", "2"], load(2, 3)),
+        (&["load", "--workers=3", "2"], load(2, 3)),
+        (&["load", "5", "--workers", "005"], load(5, 5)),
+        (&["load", "--workers", "16", "016"], load(16, 16)),
+    ];
+    for (words, command) in rows {
+        assert_eq!(rt; said(rt.alloc(), words)?, command);
+    }
+    Ok(())
+}
+
+#[test]
+fn other_loads_are_none(rt: HostRuntime) -> Result<(), Fail> {
+    let rows: [&[&str]; 27] = [
+        &["load"],
+        &["load", ""],
+        &["load", "0"],
+        &["load", "17"],
+        &["load", "100"],
+        &["load", "0000000001"],
+        &["load", "+1"],
+        &["load", "-1"],
+        &["load", "x"],
+        &["load", "1x"],
+        &["load", " 1"],
+        &["load", "-"],
+        &["load", "--"],
+        &["load", "--", "1"],
+        &["load", "1", "--"],
+        &["load", "--help"],
+        &["load", "-h"],
+        &["load", "help"],
+        &["load", "1", "1"],
+        &["load", "1", "2"],
+        &["load", "--number", "1"],
+        &["load", "--number=1"],
+        &["load", "1", "--budget", "5"],
+        &["load", "1", "--workers"],
+        &["load", "--workers", "1"],
+        &["load", "1", "--workers", "0"],
+        &["load", "--workers=2", "1", "--workers=2"],
     ];
     for words in rows {
         assert_eq!(rt; said(rt.alloc(), words)?, None);

@@ -1,32 +1,21 @@
 use Rattle.std.proofs.Common.{◌≡◌, ◌∙◌, Some, refl, sym, ap, inl}
 use Rattle.std.specs.Option.{option_map}
 use Rattle.std.specs.Borrow.{Bor}
-use Rattle.std.specs.Str.Parse.{ExplainsUnsignedError, HasUnsignedDigitsIfOk, ParsesUnsigned}
 use Rattle.clap.specs.Words.{Text, first_of, found_of, rows_of}
-use Rattle.clap.proofs.WalkLemmas.{first_value-rows, one_text-rows}
-use Rattle.command_words.proofs.ReadNumber.{reads_number}
+use Rattle.clap.proofs.WalkLemmas.{first_value-rows}
+use Rattle.command_words.proofs.ReadNumber.{where_given}
 use Rattle.command_words.proofs.reading.number_in.Goals as goal
 
-pub returns-in_default : goal.returns-in_default
-returns-in_default c =
+pub returns-in-Some : goal.returns-in-Some
+returns-in-Some c =
     let found = found_of c.args.options.now in
     let name = c.args.name.now in
-    inl (sym (first_value-rows found name) ∙ sym c.get_str.ensures ∙ ap (option_map (λ (s : Bor Text). s.now)) c.in_default.is, refl)
-
-pub returns-then-is_number : goal.returns-then-is_number
-returns-then-is_number c =
-    let found = found_of c.args.options.now in
-    let name = c.args.name.now in
-    let text = c.in-Some.text.now in
+    let text = c.in-Some.field-0.now in
     let first : first_of name (rows_of found) ≡ Some text = sym (first_value-rows found name) ∙ sym c.get_str.ensures ∙ ap (option_map (λ (s : Bor Text). s.now)) c.in-Some.is in
-    reads_number _ (λ bs r. ParsesUnsigned 32 10 bs r × ExplainsUnsignedError 10 bs r × HasUnsignedDigitsIfOk bs r) (λ bs r given. given.0)
-    c.args.default name (rows_of found) text c.get_one.result first (c.is_number.ensures.0 c.if-is_number.true)
-    (λ one. c.get_one.ensures.value text (one_text-rows found name ∙ one))
+    where_given c.args.default name (rows_of found) text c.number_given.result first c.number_given.ensures
 
-pub returns-else-is_number : goal.returns-else-is_number
-returns-else-is_number c =
+pub returns-in-None : goal.returns-in-None
+returns-in-None c =
     let found = found_of c.args.options.now in
     let name = c.args.name.now in
-    let text = c.in-Some.text.now in
-    let first : first_of name (rows_of found) ≡ Some text = sym (first_value-rows found name) ∙ sym c.get_str.ensures ∙ ap (option_map (λ (s : Bor Text). s.now)) c.in-Some.is in
-    (text, first, λ number one. absurd (cc (c.is_number.ensures.1 number, c.if-is_number.false)))
+    inl (sym (first_value-rows found name) ∙ sym c.get_str.ensures ∙ ap (option_map (λ (s : Bor Text). s.now)) c.in-None.is, refl)

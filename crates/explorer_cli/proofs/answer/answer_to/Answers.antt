@@ -38,3 +38,10 @@ returns-in-Facts-clause-answer g c =
 
 pub returns-in-Facts-clause-status : goal.returns-in-Facts-clause-status
 returns-in-Facts-clause-status g c = subst (λ (x : Command). IfOk c.answer_of_facts.result (λ a. IsStatusOf x a.status)) (sym c.in-Facts.is) c.answer_of_facts.ensures.status
+
+pub returns-in-Load-clause-answer : goal.returns-in-Load-clause-answer
+returns-in-Load-clause-answer g c =
+    subst (λ (x : Command). IfOk c.answer_of_load.result (λ a. IsAnswerTo x c.args.bytes.now a.status a.text.items)) (sym c.in-Load.is) c.answer_of_load.ensures.answer
+
+pub returns-in-Load-clause-status : goal.returns-in-Load-clause-status
+returns-in-Load-clause-status g c = subst (λ (x : Command). IfOk c.answer_of_load.result (λ a. IsStatusOf x a.status)) (sym c.in-Load.is) c.answer_of_load.ensures.status

@@ -1,6 +1,7 @@
-use Rattle.std.proofs.Common.{◌⊎◌, inl, inr, [], refl, subst, arith}
+use Rattle.std.proofs.Common.{◌⊎◌, inl, inr, [], refl, ap, subst, arith}
 use Rattle.command_words.specs.Read.{texts}
 use Rattle.command_words.specs.declared.reading.Command.{Command}
+use Rattle.command_words.specs.declared.reading.Command.TheVariants.{Load}
 use Rattle.command_words.proofs.CommandLemmas.{one_command}
 use Rattle.proof_command.specs.Inputs.{AnswersInput}
 use Rattle.explorer_cli.specs.Outcome.{HasFailed, IsStatusOf, IsAnswerTo, limit_of}
@@ -20,6 +21,9 @@ returns-in-Ok-None-clause-taken g c = λ said says. absurd (none_said (texts c.a
 
 pub returns-in-Ok-None-clause-answer : goal.returns-in-Ok-None-clause-answer
 returns-in-Ok-None-clause-answer g c = λ said says. absurd (none_said (texts c.args.words.now) c.in-Ok-None.field-0 c.in-Ok-None.field-0-is c.in-Ok-None.ensures.none said says)
+
+pub returns-in-Ok-None-clause-unread : goal.returns-in-Ok-None-clause-unread
+returns-in-Ok-None-clause-unread g c = λ number workers says. absurd (none_said (texts c.args.words.now) c.in-Ok-None.field-0 c.in-Ok-None.field-0-is c.in-Ok-None.ensures.none (Load number workers) says)
 
 -- words that say one
 
@@ -59,6 +63,12 @@ returns-in-Ok-Some-clause-answer g c = λ said says.
     let new = g.K.Sink.written c.do_command.new.sink in
     let same = one_command words c.in-Ok-Some.command said (some_said words c.in-Ok-Some.field-0 c.in-Ok-Some.command c.in-Ok-Some.field-0-is c.in-Ok-Some.ensures.some) says in
     subst (λ (x : Command). AnswersInput (limit_of x) (IsAnswerTo x) source_tells had left sink_tells old new c.do_command.result) same c.do_command.ensures.answer
+
+pub returns-in-Ok-Some-clause-unread : goal.returns-in-Ok-Some-clause-unread
+returns-in-Ok-Some-clause-unread g c = λ number workers says.
+    let words = texts c.args.words.now in
+    let same = one_command words c.in-Ok-Some.command (Load number workers) (some_said words c.in-Ok-Some.field-0 c.in-Ok-Some.command c.in-Ok-Some.field-0-is c.in-Ok-Some.ensures.some) says in
+    c.do_command.ensures.unread (ap limit_of same)
 
 -- where reading the words wants memory
 
