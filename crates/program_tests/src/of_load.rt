@@ -1,4 +1,6 @@
 // The command `load`: the sums were worked out by hand. Of the four models that are made three have two scenarios each, and one has none.
+ghost use Rattle.std.specs.Prelude.{◌≤◌};
+
 use crate::running::{ends, explored};
 use std::alloc::Global;
 use std::process::Abort;
@@ -19,7 +21,9 @@ fn sixteen_loads_have_sixty_four(rt: HostRuntime) -> Result<(), Fail> {
 }
 
 // Whether the load of this number shows six scenarios for each number up to it.
-fn loads<R: Threads + Wait + Sync + Abort>(rt: &R, alloc: Global, number: u32) -> Result<(), Fail> {
+fn loads<R: Threads + Wait + Sync + Abort>(rt: &R, alloc: Global, number: u32) -> Result<(), Fail>
+    requires { number ≤ 16 }
+{
     let word = format!(in alloc; "{number}")?;
     let (sessions, shown) = (4 * number, 6 * number);
     let lines = format!(in alloc; "sessions {sessions}\nshown {shown}\nended {sessions}\n")?;
