@@ -12,11 +12,12 @@ use Rattle.rel_formula.specs.Bounds.{Bounded, cells_of}
 use Rattle.rel_formula.specs.Instance.{AreCells, IsInstance}
 use Rattle.sat_core.specs.declared.search.Answer.{Answer}
 use Rattle.sat_core.specs.declared.search.Answer.TheVariants.{Found, Refuted, Spent}
-use Rattle.sat_core.specs.Answers.{log_of, HasEmptyOnlyLast, IsRight, NamesNoUnits}
+use Rattle.sat_core.specs.Answers.{log_of, HasEmptyOnlyLast, IsRight, IsStopped, NamesNoUnits}
 use Rattle.sat_core.specs.Search.{IsAnswerTo}
 use Rattle.translation_rules.specs.Translation.{Translated, IsSatisfiableAt, var_of}
 use Rattle.translation_rules.specs.Locals.{literal_of, units_of}
 use Rattle.translation_rules.specs.Offers.{IsPossible}
+use Rattle.translation_rules.specs.Parts.{GoesOn}
 use Rattle.augmenter.specs.Search.{IsSearchFor, GivesInstance}
 use Rattle.augmenter.proofs.AllNovel.{all_novel, none_empty}
 use Rattle.augmenter.proofs.FreedLogs.{HintsNameMembers, all_are_free, ended_is_free}
@@ -43,6 +44,15 @@ told t pool cells budget f asked a e same log few units last answer = record {
 -- what is known of an answer over the translation itself
 pub told_of : (t : Translated) (pool : List LogStep) (cells : List ℕ) (budget : ℕ) (a : Answer) → IsAnswerTo t.cnf (units_of cells) pool budget a → Told t pool cells budget a
 told_of t pool cells budget a is = record { log = is.log; few = is.few; units = is.units; last = is.last; answer = is.right }
+
+-- that the search was stopped is said over the translation itself too
+pub told_stopped : (t : Translated) (pool : List LogStep) (cells : List ℕ) (f : Formula) (asked : List (List Lit)) (a : Answer) → f ≡ t.cnf → asked ≡ units_of cells → IsStopped (f.clauses ++ asked) pool a → IsStopped (t.cnf.clauses ++ units_of cells) pool a
+told_stopped t pool cells f asked a e same stopped = subst (λ (g : Formula). IsStopped (g.clauses ++ units_of cells) pool a) e (subst (λ ls. IsStopped (f.clauses ++ ls) pool a) same stopped)
+
+-- and so its part goes on
+pub spent_goes_on : (t : Translated) (pool : List LogStep) (cells : List ℕ) (budget : ℕ) (log : List LogStep) → Told t pool cells budget (Spent log) → IsStopped (t.cnf.clauses ++ units_of cells) pool (Spent log) →
+    GoesOn t pool (record { local = units_of cells; log = log })
+spent_goes_on t pool cells budget log told stopped = record { no_empty = told.answer.2; step = stopped.0; one_more = stopped.1 }
 
 -- no unit is empty
 units_some : (cells : List ℕ) → All (λ (c : List Lit). c ≢ []) (units_of cells)

@@ -6,7 +6,7 @@ use Rattle.refutation_check.specs.Part.{Parted}
 use Rattle.rel_formula.specs.Bounds.{Bounded, cells_of}
 use Rattle.translation_rules.specs.Translation.{Translated}
 use Rattle.translation_rules.specs.Offers.{AreOffers}
-use Rattle.translation_rules.specs.Parts.{AreSearched, TriesCell, TryCells, novel_in}
+use Rattle.translation_rules.specs.Parts.{AreSearched, LastGoesOn, TriesCell, TryCells, novel_in}
 use Rattle.augmenter.specs.Search.{RestsOnNoLocal}
 use Rattle.augmenter.specs.declared.answer.Offers.{Offers}
 use Rattle.augmenter.specs.declared.answer.Offers.TheVariants.{Exactly, Spent}
@@ -38,3 +38,8 @@ OthersAreRefuted p scenario cells parts = (cell : ℕ) → cell < length (cells_
 abbrev pub IsRight : Translated → List LogStep → List ℕ → ℕ → Offers → Type 0
 IsRight t pool scenario budget (Exactly cells parts) = AreOffers t.problem scenario cells.items × OthersAreRefuted t.problem scenario cells.items parts.items
 IsRight t pool scenario budget (Spent parts) = novel_in t pool parts.items ≡ budget
+
+-- where the budget is spent, the last search was stopped: it goes on
+abbrev pub IsStopped : Translated → List LogStep → Offers → Type 0
+IsStopped t pool (Exactly cells parts) = Unit {0}
+IsStopped t pool (Spent parts) = LastGoesOn t pool parts.items

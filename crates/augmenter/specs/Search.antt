@@ -11,7 +11,7 @@ use Rattle.rel_formula.specs.Instance.{IsInstance, Includes}
 use Rattle.translation_rules.specs.Translation.{Translated, HasCellsOf}
 use Rattle.translation_rules.specs.Locals.{units_of}
 use Rattle.translation_rules.specs.Offers.{IsPossible}
-use Rattle.translation_rules.specs.Parts.{given_to}
+use Rattle.translation_rules.specs.Parts.{GoesOn, given_to}
 use Rattle.augmenter.specs.Free.{IsFreeButLast}
 use Rattle.augmenter.specs.declared.search.Sought.{Sought}
 use Rattle.augmenter.specs.declared.search.Sought.TheVariants.{Possible, Impossible, Spent}
@@ -47,3 +47,9 @@ abbrev pub IsRightFor : Translated → List LogStep → List ℕ → ℕ → Sou
 IsRightFor t pool cells budget (Possible valuation part) = GivesInstance t.problem cells valuation × HasNoEmpty part.log
 IsRightFor t pool cells budget (Impossible part) = (¬ IsPossible t.problem cells) × EndsEmpty part.log
 IsRightFor t pool cells budget (Spent part) = (length part.log ≡ budget) × IsAllNovel (given_to t pool part) part.log × HasNoEmpty part.log
+
+-- where the budget is spent, the search was stopped: it goes on
+abbrev pub IsStoppedFor : Translated → List LogStep → Sought → Type 0
+IsStoppedFor t pool (Possible valuation part) = Unit {0}
+IsStoppedFor t pool (Impossible part) = Unit {0}
+IsStoppedFor t pool (Spent part) = GoesOn t pool part

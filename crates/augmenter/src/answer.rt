@@ -6,6 +6,6 @@ use refutation_check::Part;
 pub enum Offers {
     /// All of the cells, in rising order. Each other cell outside the instance is refuted by a part.
     Exactly { cells: Vec<u32>, parts: Vec<Part> },
-    /// The budget was spent.
+    /// The budget was spent, and the last part goes on.
     Spent { parts: Vec<Part> },
 }

@@ -3,7 +3,7 @@ ghost use Rattle.std.specs.Prelude.{◌≤◌, length, IfOk};
 ghost use Rattle.refutation_check.specs.Chain.{IsAccepted};
 ghost use Rattle.rel_formula.specs.Instance.{IsInstance};
 ghost use Rattle.sat_trail.specs.Trailed.{IsBase};
-ghost use Rattle.augmenter.specs.Offering.{parts_of, AreTrials, IsRight};
+ghost use Rattle.augmenter.specs.Offering.{parts_of, AreTrials, IsRight, IsStopped};
 ghost use Rattle.augmenter.specs.Raising.{Serves};
 
 use crate::answer::Offers;
@@ -35,6 +35,7 @@ pub fn offers(
     requires budget { budget ≤ 100000000 }
     ensures parts { IfOk result (λ offers. AreTrials translation.now pool.now scenario.now budget (parts_of offers)) }
     ensures answer { IfOk result (IsRight translation.now pool.now scenario.now budget) }
+    ensures stopped { IfOk result (IsStopped translation.now pool.now) }
 {
     let cnf = translation.cnf();
     let base = Trail::over(alloc, cnf, cnf.vars())?;
@@ -68,6 +69,7 @@ fn offers_on(
     requires budget { budget ≤ 100000000 }
     ensures parts { IfOk result (λ offers. AreTrials translation.now pool.now scenario.now budget (parts_of offers)) }
     ensures answer { IfOk result (IsRight translation.now pool.now scenario.now budget) }
+    ensures stopped { IfOk result (IsStopped translation.now pool.now) }
 {
     let problem = translation.problem();
     let _ = problem.relations(); // for the proof

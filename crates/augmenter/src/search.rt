@@ -3,7 +3,7 @@ ghost use Rattle.std.specs.Prelude.{◌≤◌, length, IfOk};
 ghost use Rattle.refutation_check.specs.Chain.{IsAccepted};
 ghost use Rattle.rel_formula.specs.Instance.{AreCells};
 ghost use Rattle.sat_trail.specs.Trailed.{IsBase};
-ghost use Rattle.augmenter.specs.Search.{part_in, IsSearchFor, IsRightFor};
+ghost use Rattle.augmenter.specs.Search.{part_in, IsSearchFor, IsRightFor, IsStoppedFor};
 
 use clause_pool::accepted_hints_name_members;
 use cnf_core::Valuation;
@@ -22,7 +22,7 @@ pub enum Sought {
     Possible { valuation: Valuation, part: Part },
     /// No instance has the cells: the log ends with the empty clause.
     Impossible { part: Part },
-    /// The budget was spent.
+    /// The budget was spent, and the part goes on.
     Spent { part: Part },
 }
 
@@ -44,6 +44,7 @@ pub fn seek(
     requires budget { budget ≤ 100000000 }
     ensures part { IfOk result (λ sought. IsSearchFor translation.now pool.now cells.now budget (part_in sought)) }
     ensures answer { IfOk result (IsRightFor translation.now pool.now cells.now budget) }
+    ensures stopped { IfOk result (IsStoppedFor translation.now pool.now) }
 {
     let cnf = translation.cnf();
     let base = Trail::over(alloc, cnf, cnf.vars())?;
@@ -66,6 +67,7 @@ pub(crate) fn seek_from(
     requires budget { budget ≤ 100000000 }
     ensures part { IfOk result (λ sought. IsSearchFor translation.now pool.now cells.now budget (part_in sought)) }
     ensures answer { IfOk result (IsRightFor translation.now pool.now cells.now budget) }
+    ensures stopped { IfOk result (IsStoppedFor translation.now pool.now) }
 {
     accepted_hints_name_members();
     accepted_is_entailed();

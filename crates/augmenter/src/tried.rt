@@ -4,7 +4,7 @@ ghost use Rattle.refutation_check.specs.Chain.{members_of, IsAccepted, IsChain};
 ghost use Rattle.rel_formula.specs.Bounds.{cells_of};
 ghost use Rattle.rel_formula.specs.Instance.{AreCells, with_cell};
 ghost use Rattle.sat_trail.specs.Trailed.{IsBase};
-ghost use Rattle.augmenter.specs.Search.{part_in, IsSearchFor, IsRightFor};
+ghost use Rattle.augmenter.specs.Search.{part_in, IsSearchFor, IsRightFor, IsStoppedFor};
 ghost use Rattle.augmenter.specs.Raising.{HasCells, Serves};
 
 use crate::raising::{assumes, found_with};
@@ -63,6 +63,7 @@ pub(crate) fn seek_on(
     ensures trail { OnOk result (Serves translation.now pool.now scenario.now trail.new) }
     ensures part { IfOk result (λ sought. IsSearchFor translation.now pool.now (with_cell cell scenario.now) budget (part_in sought)) }
     ensures answer { IfOk result (IsRightFor translation.now pool.now (with_cell cell scenario.now) budget) }
+    ensures stopped { IfOk result (IsStoppedFor translation.now pool.now) }
 {
     let _ = translation.problem().relations(); // for the proof
     let wanted = with(alloc, scenario, cell)?;
@@ -99,6 +100,7 @@ fn given(
     requires found { HasCells translation.now.cnf.vars (members_of translation.now.cnf.clauses pool.now) cells.now valuation }
     ensures part { IfOk result (λ sought. IsSearchFor translation.now pool.now cells.now budget (part_in sought)) }
     ensures answer { IfOk result (IsRightFor translation.now pool.now cells.now budget) }
+    ensures stopped { IfOk result (IsStoppedFor translation.now pool.now) }
 {
     accepted_hints_name_members();
     accepted_is_entailed();
@@ -125,6 +127,7 @@ fn refused(
     requires budget { budget ≤ 100000000 }
     ensures part { IfOk result (λ refused. IfSome refused (λ sought. IsSearchFor translation.now pool.now cells.now budget (part_in sought))) }
     ensures answer { IfOk result (λ refused. IfSome refused (IsRightFor translation.now pool.now cells.now budget)) }
+    ensures stopped { IfOk result (λ refused. IfSome refused (IsStoppedFor translation.now pool.now)) }
 {
     accepted_hints_name_members();
     accepted_is_entailed();

@@ -1,5 +1,5 @@
 -- What a round comes to may follow all that was read.
-use Rattle.std.proofs.Common.{◌≡◌, ◌≢◌, ◌≤◌, ℕ, List, [], ◌∷◌, take, drop, length, All, Contains, sym, ◌∙◌, ap, subst, arith}
+use Rattle.std.proofs.Common.{◌≡◌, ◌≢◌, ◌⊎◌, ◌≤◌, ℕ, List, [], ◌∷◌, take, drop, length, All, Contains, sym, ◌∙◌, ap, subst, arith}
 use Rattle.std.proofs.lemmas.List.{take_all, drop_all}
 use Rattle.std.proofs.lemmas.List.Elements.{All-nil}
 use Rattle.refutation_check.specs.Part.{Parted}
@@ -8,10 +8,10 @@ use Rattle.refutation_check.specs.SearchLog.{IsSearchLog}
 use Rattle.cnf_core.specs.declared.literal.Lit.{Lit}
 use Rattle.translation_rules.specs.Translation.{Translated}
 use Rattle.translation_rules.specs.Locals.{locals_of}
-use Rattle.translation_rules.specs.Parts.{given_to}
+use Rattle.translation_rules.specs.Parts.{LastGoesOn, given_to}
 use Rattle.session_rules.specs.Proofs.{RefutesWith, Proves, IsCopy, IsCovered}
 use Rattle.session_rules.specs.declared.end_proof.ProofKind.TheVariants.{End}
-use Rattle.session_state.specs.Rounds.Rounds.{IsRoundAt}
+use Rattle.session_state.specs.Rounds.Rounds.{HasNewCopy, IsRoundAt}
 use Rattle.crew_run.specs.declared.event.CrewEvent.{CrewEvent}
 use Rattle.crew_run.specs.declared.event.CrewEvent.TheVariants.{Found, Copy, GaveUp, Ended}
 use Rattle.crew_run.specs.declared.event.CrewEntry.{CrewEntry}
@@ -46,7 +46,7 @@ module _ (t : Translated) (budget most : ℕ) (entries : List CrewEntry) (legal 
     copy = subst (λ (fs : List (List ℕ)). IsCopy t.problem [] fs s) read.found_is copy;
     fresh = subst (λ (ts : List (List ℕ)). ¬ Contains ts s) read.told_is fresh;
   }
-  event_may_follow by (GaveUp n parts) (same, round, spent) = record {
+  event_may_follow by (GaveUp n parts) (same, round, spent, stopped) = record {
     within = let e = read.all in omega arith;
     own =
         subst (λ (k : ℕ). All (λ (e : CrewEntry). e.by ≢ by) (drop k entries)) (sym same)
@@ -55,6 +55,10 @@ module _ (t : Translated) (budget most : ℕ) (entries : List CrewEntry) (legal 
         subst (λ (k : ℕ). IsRoundAt t [] [] (told (take k entries)) budget parts) (sym same)
         (subst (λ (ts : List (List ℕ)). IsRoundAt t [] [] ts budget parts) (read.told_is ∙ ap told (sym whole)) round);
     spent = spent;
+    stopped =
+        subst (λ (k : ℕ). LastGoesOn t [] parts ⊎ HasNewCopy t.problem [] (found (take k entries)) (told (take k entries))) (sym same)
+        (subst (λ (fs : List (List ℕ)). LastGoesOn t [] parts ⊎ HasNewCopy t.problem [] fs (told (take reading.read entries))) (read.found_is ∙ ap found (sym whole))
+        (subst (λ (ts : List (List ℕ)). LastGoesOn t [] parts ⊎ HasNewCopy t.problem [] reading.found.items ts) (read.told_is ∙ ap told (sym whole)) stopped));
   }
   event_may_follow by (Ended proof) (alone, blocked, proves) = record {
     alone = alone;

@@ -1,5 +1,5 @@
 -- What may follow some entries may follow them still when others have added more.
-use Rattle.std.proofs.Common.{◌≡◌, ◌≢◌, inl, inr, ◌≤◌, ◌==◌, ℕ, Bool, true, false, cond, List, [], ◌∷◌, ◌++◌, take, drop, length, All, Contains, refl, sym, ◌∙◌, ap, subst, arith, append-nil, length-append}
+use Rattle.std.proofs.Common.{◌≡◌, ◌≢◌, ◌⊎◌, inl, inr, ◌≤◌, ◌==◌, ℕ, Bool, true, false, cond, List, [], ◌∷◌, ◌++◌, take, drop, length, All, Contains, refl, sym, ◌∙◌, ap, subst, arith, append-nil, length-append}
 use Rattle.std.proofs.lemmas.Bool.{cases_Bool, eq-eqb}
 use Rattle.std.proofs.lemmas.List.{append_cancel_left, take-append-le, drop-append-le, take_all, drop_all}
 use Rattle.std.proofs.lemmas.List.Elements.{All-nil, All-cons, All-append, All-contains, Contains-append_left, Contains-append_right, Contains-append_cases, filter-append}
@@ -7,8 +7,9 @@ use mathlib.Core.List.{IsPrefix}
 use Rattle.hub_lock.specs.Passes.{of_pass}
 use Rattle.refutation_check.specs.Part.{Parted}
 use Rattle.translation_rules.specs.Translation.{Translated}
+use Rattle.translation_rules.specs.Parts.{LastGoesOn}
 use Rattle.session_rules.specs.Proofs.{IsCopy, IsCovered}
-use Rattle.session_state.specs.Rounds.Rounds.{IsRoundAt}
+use Rattle.session_state.specs.Rounds.Rounds.{HasNewCopy, IsRoundAt}
 use Rattle.crew_run.specs.declared.event.CrewEvent.{CrewEvent}
 use Rattle.crew_run.specs.declared.event.CrewEvent.TheVariants.{Found, Copy, GaveUp, Ended}
 use Rattle.crew_run.specs.declared.event.CrewEntry.{CrewEntry}
@@ -55,6 +56,7 @@ module _ (t : Translated) (budget : ℕ) (before rest : List CrewEntry) (by : �
     own = subst (All (λ (e : CrewEntry). e.by ≢ by)) (sym (drop-append-le read before rest may.within)) (All-append (λ (e : CrewEntry). e.by ≢ by) (drop read before) rest may.own others);
     round = subst (λ (xs : List CrewEntry). IsRoundAt t [] [] (told xs) budget parts) (sym (take-append-le read before rest may.within)) may.round;
     spent = may.spent;
+    stopped = subst (λ (xs : List CrewEntry). LastGoesOn t [] parts ⊎ HasNewCopy t.problem [] (found xs) (told xs)) (sym (take-append-le read before rest may.within)) may.stopped;
   }
 
   pub may_still : (event : CrewEvent) → MayFollow t budget before by event → All (λ (e : CrewEntry). e.by ≢ by) rest → All (NotTold rest) (told_by event) → MayFollow t budget (before ++ rest) by event

@@ -1,15 +1,15 @@
 -- What a crew writes down, when its journal is in order, and what its answer says.
-use Rattle.std.specs.Prelude.{◌≡◌, ◌≢◌, ◌↔◌, ◌<◌, ◌≤◌, ℕ, List, [], ◌∷◌, ◌++◌, take, drop, length, All, AllPairs, Contains}
+use Rattle.std.specs.Prelude.{◌≡◌, ◌≢◌, ◌⊎◌, ◌↔◌, ◌<◌, ◌≤◌, ℕ, List, [], ◌∷◌, ◌++◌, take, drop, length, All, AllPairs, Contains}
 use Rattle.std.specs.List.{flat_map}
 use Rattle.refutation_check.specs.Part.{Parted}
 use Rattle.swap_symmetry.specs.Order.{IsEarlier}
 use Rattle.swap_symmetry.specs.Due.{IsDue}
 use Rattle.translation_rules.specs.Translation.{Translated}
-use Rattle.translation_rules.specs.Parts.{novel_in}
+use Rattle.translation_rules.specs.Parts.{LastGoesOn, novel_in}
 use Rattle.session_rules.specs.ProofOfEnd.{ProofOfEnd}
 use Rattle.session_rules.specs.Proofs.{Proves, IsCopy, IsCovered}
 use Rattle.session_rules.specs.declared.end_proof.ProofKind.TheVariants.{End}
-use Rattle.session_state.specs.Rounds.Rounds.{IsRoundAt}
+use Rattle.session_state.specs.Rounds.Rounds.{HasNewCopy, IsRoundAt}
 use Rattle.crew_run.specs.declared.event.CrewEvent.{CrewEvent}
 use Rattle.crew_run.specs.declared.event.CrewEvent.TheVariants.{Found, Copy, GaveUp, Ended}
 use Rattle.crew_run.specs.declared.event.CrewEntry.{CrewEntry}
@@ -44,12 +44,14 @@ pub record Meets (t : Translated) (before : List CrewEntry) (s : List ℕ) : Typ
   pub copy : IsCopy t.problem [] (found before) s
   pub fresh : ¬ Contains (told before) s
 
--- the worker had read so many entries, its own among them; and a round with all that they tell of blocked took the whole budget
+-- the worker had read so many entries, its own among them; and a round with all that they tell of blocked took the whole budget,
+-- and was stopped there: its last part goes on, or no unit was left for a new copy
 pub record GivesUp (t : Translated) (budget : ℕ) (before : List CrewEntry) (by read : ℕ) (parts : List Parted) : Type 0 where
   pub within : read ≤ length before
   pub own : All (λ e. e.by ≢ by) (drop read before)
   pub round : IsRoundAt t [] [] (told (take read before)) budget parts
   pub spent : novel_in t [] parts ≡ budget
+  pub stopped : LastGoesOn t [] parts ⊎ HasNewCopy t.problem [] (found (take read before)) (told (take read before))
 
 -- a proof, without imported steps, that nothing is left but what was found, and copies of it
 pub record Ends (t : Translated) (before : List CrewEntry) (proof : ProofOfEnd) : Type 0 where

@@ -1,14 +1,14 @@
 -- What the searches of a worker need, and what a round of them comes to.
-use Rattle.std.specs.Prelude.{◌≡◌, ◌≤◌, ℕ, [], length, All, Contains}
+use Rattle.std.specs.Prelude.{◌≡◌, ◌⊎◌, ◌≤◌, ℕ, [], length, All, Contains}
 use Rattle.sat_trail.specs.Trailed.{IsBase}
 use Rattle.minimiser.specs.Lowering.{IsOver}
 use Rattle.rel_formula.specs.Instance.{AreCells}
 use Rattle.swap_symmetry.specs.Due.{IsDue}
 use Rattle.translation_rules.specs.Translation.{Translated}
-use Rattle.translation_rules.specs.Parts.{novel_in}
+use Rattle.translation_rules.specs.Parts.{LastGoesOn, novel_in}
 use Rattle.session_rules.specs.Proofs.{Proves, IsCopy}
 use Rattle.session_rules.specs.declared.end_proof.ProofKind.TheVariants.{End}
-use Rattle.session_state.specs.Rounds.Rounds.{IsRoundAt}
+use Rattle.session_state.specs.Rounds.Rounds.{HasNewCopy, IsRoundAt}
 use Rattle.crew_run.specs.declared.event.CrewEvent.{CrewEvent}
 use Rattle.crew_run.specs.declared.event.CrewEvent.TheVariants.{Found, Copy, GaveUp, Ended}
 use Rattle.crew_run.specs.declared.reading.Reading.{Reading}
@@ -31,5 +31,6 @@ pub record IsReadable (t : Translated) (reading : Reading) : Type 0 where
 abbrev pub IsEventOf : Translated → ℕ → Reading → CrewEvent → Type 0
 IsEventOf t budget reading (Found s) = IsDue t.problem [] s × (¬ Contains reading.found.items s)
 IsEventOf t budget reading (Copy s) = IsCopy t.problem [] reading.found.items s × (¬ Contains reading.told.items s)
-IsEventOf t budget reading (GaveUp read parts) = (read ≡ reading.read) × IsRoundAt t [] [] reading.told.items budget parts × (novel_in t [] parts ≡ budget)
+IsEventOf t budget reading (GaveUp read parts) =
+    (read ≡ reading.read) × IsRoundAt t [] [] reading.told.items budget parts × (novel_in t [] parts ≡ budget) × (LastGoesOn t [] parts ⊎ HasNewCopy t.problem [] reading.found.items reading.told.items)
 IsEventOf t budget reading (Ended proof) = (proof.pool ≡ []) × (proof.blocked ≡ reading.told.items) × Proves t [] End proof

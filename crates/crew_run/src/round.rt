@@ -1,6 +1,6 @@
 // One round of a worker.
 ghost use Rattle.std.specs.Prelude.{◌≡◌, ◌≤◌, ◌+◌, [], length, IfOk, OnOk};
-ghost use Rattle.session_state.specs.Rounds.Rounds.{parts_in, IsRoundAt, IsRightRound};
+ghost use Rattle.session_state.specs.Rounds.Rounds.{parts_in, IsRoundAt, IsRightRound, IsStoppedRound};
 ghost use Rattle.crew_run.specs.Searching.{IsSearcher, IsReadable, IsEventOf};
 
 use crate::event::CrewEvent;
@@ -88,6 +88,7 @@ fn event_of(
     requires few { length reading.now.told.items + budget ≤ 200000000 }
     requires parts { IsRoundAt translation.now [] [] reading.now.told.items budget (parts_in end) }
     requires right { IsRightRound translation.now [] [] reading.now.found.items reading.now.told.items budget end }
+    requires stopped { IsStoppedRound translation.now [] [] reading.now.found.items reading.now.told.items end }
     ensures { IfOk result (IsEventOf translation.now budget reading.now) }
 {
     a_refuting_part_makes_a_proof();

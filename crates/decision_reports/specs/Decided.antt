@@ -5,7 +5,7 @@ use Rattle.rel_formula.specs.Bounds.{Bounded}
 use Rattle.rel_formula.specs.Instance.{IsInstance}
 use Rattle.swap_symmetry.specs.Due.{IsDue}
 use Rattle.translation_rules.specs.Translation.{Translated}
-use Rattle.translation_rules.specs.Parts.{novel_in}
+use Rattle.translation_rules.specs.Parts.{LastGoesOn, novel_in}
 use Rattle.session_rules.specs.ProofOfEnd.{ProofOfEnd}
 use Rattle.session_rules.specs.Proofs.{Proves}
 use Rattle.session_rules.specs.declared.end_proof.ProofKind.TheVariants.{End}
@@ -27,11 +27,12 @@ pub record IsRefuted (t : Translated) (proof : ProofOfEnd) : Type 0 where
   pub imports : proof.pool ≡ []
   pub blocks : proof.blocked ≡ []
 
--- the parts are a search for an instance that is settled, and a descent from what it found, and their novel steps are all of the
--- budget
+-- the parts are a search for an instance that is settled, and a descent from what it found, their novel steps are all of the
+-- budget, and the last part goes on
 pub record IsSpent (t : Translated) (budget : ℕ) (parts : List Parted) : Type 0 where
   pub round : IsRoundAt t [] [] [] budget parts
   pub spent : novel_in t [] parts ≡ budget
+  pub stopped : LastGoesOn t [] parts
 
 -- there is no instance; or this one is minimal and settled; or the budget is spent
 abbrev pub IsDecision : Translated → ℕ → Decision → Type 0

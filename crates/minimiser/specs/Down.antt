@@ -6,7 +6,7 @@ use Rattle.refutation_check.specs.Part.{Parted}
 use Rattle.rel_formula.specs.Bounds.{Bounded}
 use Rattle.rel_formula.specs.Instance.{IsMinimalAbove, Includes}
 use Rattle.translation_rules.specs.Translation.{Translated}
-use Rattle.translation_rules.specs.Parts.{AreSearched, novel_in}
+use Rattle.translation_rules.specs.Parts.{AreSearched, LastGoesOn, novel_in}
 use Rattle.translation_rules.specs.Descents.{Lowering, GoesDown, descent_locals}
 use Rattle.minimiser.specs.declared.descent.Down.{Down}
 use Rattle.minimiser.specs.declared.descent.Down.TheVariants.{Minimal, Spent}
@@ -42,3 +42,8 @@ IsRight t pool floor start budget (Spent parts) = novel_in t pool parts.items �
 abbrev pub IsRightOn : Translated → List LogStep → List ℕ → List ℕ → ℕ → Down → Type 0
 IsRightOn t pool floor start budget (Minimal scenario parts) = IsMinimalAbove t.problem floor scenario × Includes start scenario × ((parts.items ≡ []) ⊎ RefutesSmaller t floor scenario parts.items)
 IsRightOn t pool floor start budget (Spent parts) = novel_in t pool parts.items ≡ budget
+
+-- where the budget is spent, the last search was stopped: it goes on
+abbrev pub IsStopped : Translated → List LogStep → Down → Type 0
+IsStopped t pool (Minimal scenario parts) = Unit {0}
+IsStopped t pool (Spent parts) = LastGoesOn t pool parts.items

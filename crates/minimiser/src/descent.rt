@@ -5,7 +5,7 @@ ghost use Rattle.refutation_check.specs.Chain.{IsAccepted};
 ghost use Rattle.rel_formula.specs.Instance.{AreCells, IsInstance, Includes};
 ghost use Rattle.sat_trail.specs.Trailed.{IsBase};
 ghost use Rattle.translation_rules.specs.Translation.{var_of};
-ghost use Rattle.minimiser.specs.Down.{parts_of, IsDescent, IsRight, IsRightOn};
+ghost use Rattle.minimiser.specs.Down.{parts_of, IsDescent, IsRight, IsRightOn, IsStopped};
 ghost use Rattle.minimiser.specs.Lowering.{IsOver};
 
 use crate::lowering::lowest;
@@ -26,7 +26,7 @@ pub enum Down {
         scenario: Scenario,
         parts: Vec<Part>,
     },
-    /// The budget was spent.
+    /// The budget was spent, and the last part goes on.
     Spent {
         parts: Vec<Part>,
     },
@@ -53,6 +53,7 @@ pub fn minimise(
     requires budget { budget ≤ 100000000 }
     ensures parts { IfOk result (λ down. IsDescent translation.now pool.now floor.now start.now budget (parts_of down)) }
     ensures answer { IfOk result (IsRight translation.now pool.now floor.now start.now budget) }
+    ensures stopped { IfOk result (IsStopped translation.now pool.now) }
 {
     let cnf = translation.cnf();
     let base = Trail::over(alloc, cnf, cnf.vars())?;
@@ -79,6 +80,7 @@ pub fn minimise_from(
     requires budget { budget ≤ 100000000 }
     ensures parts { IfOk result (λ down. IsDescent translation.now pool.now floor.now start.now budget (parts_of down)) }
     ensures answer { IfOk result (IsRight translation.now pool.now floor.now start.now budget) }
+    ensures stopped { IfOk result (IsStopped translation.now pool.now) }
 {
     descent_clauses_say_what_is_smaller();
     let problem = translation.problem();
@@ -139,6 +141,7 @@ pub fn minimise_on(
     ensures trail { OnOk result (IsOver translation.now.cnf trail.new) }
     ensures parts { IfOk result (λ down. IsDescent translation.now pool.now floor.now start.now budget (parts_of down)) }
     ensures answer { IfOk result (IsRightOn translation.now pool.now floor.now start.now budget) }
+    ensures stopped { IfOk result (IsStopped translation.now pool.now) }
 {
     match lowest(alloc, translation, trail, floor, start)? {
         Some(scenario) => Ok(Down::Minimal {

@@ -8,7 +8,7 @@ use Rattle.session_rules.specs.ProofOfEnd.{ProofOfEnd}
 use Rattle.session_rules.specs.States.{State, top_floor, shown_here, has_ended}
 use Rattle.session_rules.specs.Steps.{AsksFor}
 use Rattle.session_rules.specs.Proofs.{Proves, IsCovered}
-use Rattle.session_rules.specs.Work.{IsWork, units_in}
+use Rattle.session_rules.specs.Work.{IsStopped, IsWork, units_in}
 use Rattle.session_rules.specs.declared.end_proof.ProofKind.TheVariants.{End as OfEnd, NoInstance as OfNoInstance}
 use Rattle.session_rules.specs.declared.answers.WorkDone.{WorkDone}
 use Rattle.session_rules.specs.declared.answers.Refusal.TheVariants.{NoInstance, Spent}
@@ -27,10 +27,11 @@ pub record IsNoInstanceShown (t : Translated) (pool : List LogStep) (floor : Lis
   pub proves : Proves t floor OfNoInstance proof
   pub none_blocked : proof.blocked ≡ []
 
--- the work of the step was done, with exactly the budget as units
+-- the work of the step was done, with exactly the budget as units, and was stopped there
 pub record IsSpentOn (t : Translated) (pool : List LogStep) (s : State) (step : Step) (done : WorkDone) : Type 0 where
   pub work : IsWork t pool s step done.parts done.copies
   pub units : units_in t pool done.parts done.copies ≡ done.budget
+  pub stopped : IsStopped t pool s step done.parts done.copies
 
 -- the reply makes a proof, or says that the budget is spent
 abbrev pub NeedsEvidence : State → Reply → Type 0

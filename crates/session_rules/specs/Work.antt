@@ -5,7 +5,7 @@ use Rattle.refutation_check.specs.Part.{Parted}
 use Rattle.rel_formula.specs.Bounds.{Bounded}
 use Rattle.translation_rules.specs.Translation.{Translated}
 use Rattle.translation_rules.specs.Locals.{IsLeft, units_of, locals_of}
-use Rattle.translation_rules.specs.Parts.{AreSearched, TryCells, novel_in}
+use Rattle.translation_rules.specs.Parts.{AreSearched, LastGoesOn, TryCells, novel_in}
 use Rattle.translation_rules.specs.Descents.{Lowering, GoesDown}
 use Rattle.session_words.specs.declared.atom_names.AtomName.{AtomName}
 use Rattle.session_words.specs.declared.steps.Step.{Step}
@@ -71,6 +71,10 @@ IsWorkFor t s (Augment name names) parts copies = IsAugmentWork t.problem s name
 IsWorkFor t s Back parts copies = (parts ≡ []) × (copies ≡ [])
 IsWorkFor t s (Budget budget) parts copies = (parts ≡ []) × (copies ≡ [])
 IsWorkFor t s Proof parts copies = (parts ≡ []) × (copies ≡ [])
+
+-- the work was stopped: its last part goes on, or it's work for the step with one more copy too
+abbrev pub IsStopped : Translated → List LogStep → State → Step → List Parted → List (List ℕ) → Type 0
+IsStopped t pool s step parts copies = LastGoesOn t pool parts ⊎ ((copy : List ℕ) × IsWorkFor t s step parts (copies ++ copy ∷ []))
 
 -- what a session does for the answer to a step, over the translation and the imported steps
 pub record IsWork (t : Translated) (pool : List LogStep) (s : State) (step : Step) (parts : List Parted) (copies : List (List ℕ)) : Type 0 where

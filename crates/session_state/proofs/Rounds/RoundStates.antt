@@ -13,15 +13,17 @@ use Rattle.rel_formula.specs.Instance.{AreCells}
 use Rattle.swap_symmetry.specs.Due.{IsDue}
 use Rattle.translation_rules.specs.Translation.{Translated}
 use Rattle.translation_rules.specs.Locals.{locals_of}
-use Rattle.translation_rules.specs.Parts.{AreSearched, given_to, novel_in}
+use Rattle.translation_rules.specs.Parts.{AreSearched, LastGoesOn, given_to, novel_in}
 use Rattle.translation_rules.proofs.Tests.{from_each}
 use Rattle.session_rules.specs.ProofOfEnd.{ProofOfEnd}
 use Rattle.session_rules.specs.Proofs.{RefutesWith, Proves, IsCopy, IsCovered}
 use Rattle.session_rules.specs.declared.end_proof.ProofKind.TheVariants.{End}
 use Rattle.session_rules.specs.Work.{Round, IsRound, AreRounds, parts_of_round, IsNextWork, units_in}
-use Rattle.session_state.specs.Rounds.Rounds.{IsRoundAt}
+use Rattle.session_state.specs.Rounds.Rounds.{HasNewCopy, IsRoundAt}
 use Rattle.session_state.specs.declared.search_rounds.next.NextAt.{NextAt}
-use Rattle.session_state.specs.Rounds.Next.{IsEndAt, IsAnswer}
+use Rattle.session_state.specs.declared.search_rounds.next.Found.TheVariants.{Spent}
+use Rattle.session_state.specs.Rounds.Next.{IsEndAt, IsAnswer, IsStopped}
+use Rattle.session_state.proofs.Rounds.SearchedRounds.{goes_on_behind}
 
 -- a round behind rounds that each found a copy
 pub last_round : (t : Translated) (floor : List ℕ) (shown blocked : List (List ℕ)) (rounds : List Round) (copies : List (List ℕ)) (round : Round) → length rounds ≡ length copies →
@@ -70,6 +72,7 @@ pub record Done (t : Translated) (pool : List LogStep) (floor : List ℕ) (shown
 pub record Answered (t : Translated) (pool : List LogStep) (floor : List ℕ) (shown copies : List (List ℕ)) (budget : ℕ) (next : NextAt) : Type 0 where
   pub done : Done t pool floor shown copies budget next.parts next.copies
   pub answer : IsAnswer t pool floor shown copies budget next.parts next.copies next.found
+  pub stopped : IsStopped t pool floor shown next.parts next.copies next.found
 
 pub set_out : (t : Translated) (pool : List LogStep) (floor : List ℕ) (shown copies : List (List ℕ)) (budget : ℕ) → Going t pool floor shown copies budget (shown ++ copies) [] [] budget
 set_out t pool floor shown copies budget = record {
@@ -131,6 +134,15 @@ module _ (t : Translated) (pool : List LogStep) (floor : List ℕ) (shown copies
     novel_sum : novel_in t pool (parts ++ more) ≡ novel_in t pool parts + novel_in t pool more
     novel_sum = sum_by-append (λ (part : Parted). novel_steps (given_to t pool part) part.log) parts more
 
+    shown_first : All (Contains (shown ++ copies)) shown
+    shown_first = from_each (Contains (shown ++ copies)) shown (λ s c. Contains-append_left shown copies s c)
+
+    first_covered : All (IsCopy t.problem floor shown) copies → IsCovered t.problem floor shown (shown ++ copies)
+    first_covered all_copies = from_each (λ (s : List ℕ). Contains shown s ⊎ IsCopy t.problem floor shown s) (shown ++ copies) (λ s c. elim (Contains-append_cases shown copies s c) [
+      | inl was ↦ inl was
+      | inr known ↦ inr (All-contains (IsCopy t.problem floor shown) copies s all_copies known)
+    ])
+
     -- what was done with this round
     pub done : All (IsCopy t.problem floor shown) copies → Done t pool floor shown copies budget (parts ++ more) found
     done all_copies = record {
@@ -140,11 +152,8 @@ module _ (t : Translated) (pool : List LogStep) (floor : List ℕ) (shown copies
           rounds = going.rounds ++ round.round ∷ [];
           blocked = shown ++ copies;
           all_parts = all_parts;
-          shown_blocked = from_each (Contains (shown ++ copies)) shown (λ s c. Contains-append_left shown copies s c);
-          covered = from_each (λ (s : List ℕ). Contains shown s ⊎ IsCopy t.problem floor shown s) (shown ++ copies) (λ s c. elim (Contains-append_cases shown copies s c) [
-            | inl was ↦ inl was
-            | inr known ↦ inr (All-contains (IsCopy t.problem floor shown) copies s all_copies known)
-          ]);
+          shown_blocked = shown_first;
+          covered = first_covered all_copies;
           are_rounds = last_round t floor shown (shown ++ copies) going.rounds found round.round going.whole going.are_rounds is_round;
         },
         refl,
@@ -157,6 +166,23 @@ module _ (t : Translated) (pool : List LogStep) (floor : List ℕ) (shown copies
     -- all of the budget is spent
     pub spent_all : novel_in t pool more ≡ left → units_in t pool (parts ++ more) found ≡ budget
     spent_all all = let e = novel_sum in let g = going.units in omega arith
+
+    -- and was stopped, where the last round was
+    pub stopped : All (IsCopy t.problem floor shown) copies → LastGoesOn t pool more ⊎ HasNewCopy t.problem floor shown blocked → IsStopped t pool floor shown (parts ++ more) found Spent
+    stopped all_copies (inl on) = inl (goes_on_behind t pool parts more on)
+    stopped all_copies (inr new) =
+        inr (
+          new.0,
+          record {
+            rounds = going.rounds ++ round.round ∷ [];
+            blocked = shown ++ copies;
+            all_parts = all_parts;
+            shown_blocked = shown_first;
+            covered = first_covered all_copies;
+            are_rounds =
+                one_more_round t floor shown (shown ++ copies) going.rounds found round.round new.0 going.whole going.are_rounds is_round new.1 (subst (λ (b : List (List ℕ)). ¬ Contains b new.0) going.blocked_are new.2);
+          },
+        )
 
     -- on with a new copy
     pub next : (copy : List ℕ) (rest : ℕ) → IsCopy t.problem floor shown copy → ¬ Contains blocked copy → novel_in t pool more + 1 + rest ≡ left →

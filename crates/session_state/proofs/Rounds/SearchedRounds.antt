@@ -1,5 +1,5 @@
 -- Rounds: a search, and the descent from what it finds.
-use Rattle.std.proofs.Common.{◌≡◌, ◌<◌, ◌≤◌, ◌+◌, ℕ, List, [], ◌∷◌, ◌++◌, map, length, sum_by, All, AllPairs, Contains, refl, sym, ap, subst, arith}
+use Rattle.std.proofs.Common.{◌≡◌, ◌<◌, ◌≤◌, ◌+◌, ◌∙◌, ℕ, List, [], ◌∷◌, ◌++◌, map, length, sum_by, All, AllPairs, Contains, refl, sym, ap, subst, arith, append_assoc}
 use Rattle.std.proofs.lemmas.List.Elements.{All-nil, All-cons, All-contains}
 use Rattle.std.proofs.lemmas.List.Sums.{sum_by-cons}
 use Rattle.refutation_check.specs.declared.log.Step.{Step as LogStep}
@@ -11,7 +11,7 @@ use Rattle.rel_formula.specs.Instance.{Includes}
 use Rattle.rel_formula.proofs.Lists.{pairs_nil}
 use Rattle.translation_rules.specs.Translation.{Translated}
 use Rattle.translation_rules.specs.Locals.{IsLeft}
-use Rattle.translation_rules.specs.Parts.{given_to, novel_in}
+use Rattle.translation_rules.specs.Parts.{LastGoesOn, given_to, novel_in}
 use Rattle.translation_rules.specs.Descents.{IsProperPart, Lowering, IsLowering}
 use Rattle.minimiser.specs.Down.{IsDescent}
 use Rattle.session_state.specs.declared.search_rounds.descent.DescentEnd.{DescentEnd}
@@ -29,6 +29,15 @@ novel_more t pool part parts = sum_by-cons (λ (x : Parted). novel_steps (given_
 
 pub novel_none : (t : Translated) (pool : List LogStep) → novel_in t pool [] ≡ 0
 novel_none t pool = refl
+
+-- the last of some parts goes on behind others too
+pub goes_on_behind : (t : Translated) (pool : List LogStep) (parts more : List Parted) → LastGoesOn t pool more → LastGoesOn t pool (parts ++ more)
+goes_on_behind t pool parts more on = record {
+  before = parts ++ on.before;
+  last = on.last;
+  in_order = ap (λ (ps : List Parted). parts ++ ps) on.in_order ∙ sym (append_assoc parts on.before (on.last ∷ []));
+  goes_on = on.goes_on;
+}
 
 module _ (t : Translated) (pool : List LogStep) (floor : List ℕ) (blocked : List (List ℕ)) (budget : ℕ) (part : Parted) (search : IsSearchAt t pool floor blocked budget part) where
   -- a search that finds nothing is a round

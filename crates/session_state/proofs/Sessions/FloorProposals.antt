@@ -13,7 +13,7 @@ use Rattle.rel_formula.proofs.WithCell.{with_cell_has, all_of}
 use Rattle.translation_rules.specs.Translation.{Translated}
 use Rattle.translation_rules.specs.Locals.{units_of}
 use Rattle.translation_rules.specs.Offers.{IsPossible}
-use Rattle.translation_rules.specs.Parts.{AreSearched, given_to, novel_in}
+use Rattle.translation_rules.specs.Parts.{AreSearched, GoesOn, given_to, novel_in}
 use Rattle.session_words.specs.declared.atom_names.AtomName.{AtomName}
 use Rattle.session_words.specs.declared.steps.Step.TheVariants.{Augment}
 use Rattle.session_rules.specs.ProofOfEnd.{ProofOfEnd}
@@ -95,14 +95,15 @@ module _ (t : Translated) (pool : List LogStep) (s : State) (name : List ℕ) (n
         copies = All-nil (IsCopy t.problem (top_floor s) (shown_here s));
       })
 
-  pub spent_on_floor : length s.above < 64 → length part.log ≡ budget → IsAllNovel (given_to t pool part) part.log →
+  pub spent_on_floor : length s.above < 64 → length part.log ≡ budget → IsAllNovel (given_to t pool part) part.log → GoesOn t pool part →
       IsProposal t pool s (Augment name names) (record { reply = Refused (Spent (record { budget = budget; parts = part ∷ []; copies = [] })); parts = part ∷ []; copies = [] })
-  spent_on_floor room all novel = record {
+  spent_on_floor room all novel on = record {
     may = (sym most, (floor, asked, room));
     told = λ e. cc;
     evidence = λ needs. record {
       work = work;
       units = let one = counted in let each : novel_steps (given_to t pool part) part.log ≡ length part.log = novel_all (given_to t pool part) part.log novel in omega arith;
+      stopped = inl (record { before = []; last = part; in_order = refl; goes_on = on });
     };
     rests = λ needs. (refl, refl);
     work = work;

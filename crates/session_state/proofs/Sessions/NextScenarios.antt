@@ -9,7 +9,7 @@ use Rattle.session_words.specs.declared.steps.Step.TheVariants.{Next}
 use Rattle.session_rules.specs.States.{State, top_floor, shown_here, has_ended}
 use Rattle.session_rules.specs.Proofs.{IsCopy}
 use Rattle.session_rules.specs.Work.{IsNextWork, units_in}
-use Rattle.session_state.specs.Rounds.Next.{IsAnswer}
+use Rattle.session_state.specs.Rounds.Next.{IsAnswer, IsStopped}
 use Rattle.session_state.specs.declared.search_rounds.next.Found.{Found}
 use Rattle.session_state.specs.declared.search_rounds.next.Found.TheVariants.{Shown, Ended, Spent}
 use Rattle.session_state.specs.Sessions.Proposed.{Proposed, IsProposal}
@@ -25,6 +25,7 @@ pub record IsFound (t : Translated) (pool : List LogStep) (floor : List ℕ) (sh
   pub copies_are : All (λ copy. IsCopy t.problem floor shown copy × (¬ Contains known copy)) copies
   pub units : units_in t pool parts copies ≤ budget
   pub answer : IsAnswer t pool floor shown known budget parts copies found
+  pub stopped : IsStopped t pool floor shown parts copies found
 
 module _ (t : Translated) (pool : List LogStep) (s : State) (known : List (List ℕ)) (parts : List Parted) (copies : List (List ℕ)) (open' : ¬ IsTrue (has_ended (top_floor s) s)) where
   only_copies : (found : Found) → IsFound t pool (top_floor s) (shown_here s) known s.budget parts copies found → All (IsCopy t.problem (top_floor s) (shown_here s)) copies
@@ -53,7 +54,7 @@ module _ (t : Translated) (pool : List LogStep) (s : State) (known : List (List 
   in_state Spent h = record {
     may = (refl, open');
     told = λ e. cc;
-    evidence = λ needs. record { work = record { searched = h.searched; work = h.work }; units = h.answer };
+    evidence = λ needs. record { work = record { searched = h.searched; work = h.work }; units = h.answer; stopped = h.stopped };
     rests = λ needs. (refl, refl);
     work = record { searched = h.searched; work = h.work };
     units = h.units;

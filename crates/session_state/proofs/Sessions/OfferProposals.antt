@@ -1,11 +1,11 @@
 -- What the search for offers comes to makes a proposal.
-use Rattle.std.proofs.Common.{◌≡◌, ◌≤◌, inr, ℕ, List, [], refl, sym, arith}
+use Rattle.std.proofs.Common.{◌≡◌, ◌≤◌, inl, inr, ℕ, List, [], refl, sym, arith}
 use Rattle.std.proofs.lemmas.List.Elements.{All-nil}
 use Rattle.refutation_check.specs.declared.log.Step.{Step as LogStep}
 use Rattle.refutation_check.specs.Part.{Parted}
 use Rattle.translation_rules.specs.Translation.{Translated}
 use Rattle.translation_rules.specs.Offers.{AreOffers}
-use Rattle.translation_rules.specs.Parts.{novel_in}
+use Rattle.translation_rules.specs.Parts.{LastGoesOn, novel_in}
 use Rattle.session_words.specs.declared.steps.Step.TheVariants.{Offers}
 use Rattle.session_rules.specs.States.{State, top_floor, shown_here, IsCurrent}
 use Rattle.session_rules.specs.Proofs.{IsCopy}
@@ -33,11 +33,11 @@ module _ (t : Translated) (pool : List LogStep) (s : State) (current : List ℕ)
     copies = All-nil (IsCopy t.problem (top_floor s) (shown_here s));
   }
 
-  pub spent_on_offers : novel_in t pool parts ≡ budget → IsProposal t pool s Offers (record { reply = Refused (Spent (record { budget = budget; parts = parts; copies = [] })); parts = parts; copies = [] })
-  spent_on_offers all = record {
+  pub spent_on_offers : novel_in t pool parts ≡ budget → LastGoesOn t pool parts → IsProposal t pool s Offers (record { reply = Refused (Spent (record { budget = budget; parts = parts; copies = [] })); parts = parts; copies = [] })
+  spent_on_offers all on = record {
     may = (sym most, (current, is_current));
     told = λ e. cc;
-    evidence = λ needs. record { work = work; units = omega arith };
+    evidence = λ needs. record { work = work; units = omega arith; stopped = inl on };
     rests = λ needs. (refl, refl);
     work = work;
     units = units;

@@ -5,7 +5,7 @@ use Rattle.refutation_check.specs.Part.{Parted}
 use Rattle.rel_formula.specs.Bounds.{Bounded}
 use Rattle.rel_formula.specs.Instance.{IsMinimalAbove, Includes}
 use Rattle.translation_rules.specs.Translation.{Translated}
-use Rattle.translation_rules.specs.Parts.{novel_in}
+use Rattle.translation_rules.specs.Parts.{LastGoesOn, novel_in}
 use Rattle.session_state.specs.declared.search_rounds.descent.DescentEnd.{DescentEnd}
 use Rattle.session_state.specs.declared.search_rounds.descent.DescentEnd.TheVariants.{Minimal, Spent}
 
@@ -18,6 +18,11 @@ parts_of (Spent parts) = parts.items
 abbrev pub IsRightDescent : Translated → List LogStep → List ℕ → List ℕ → ℕ → DescentEnd → Type 0
 IsRightDescent t pool floor start budget (Minimal scenario parts left) = IsMinimalAbove t.problem floor scenario × Includes start scenario × (novel_in t pool parts.items + left ≡ budget)
 IsRightDescent t pool floor start budget (Spent parts) = novel_in t pool parts.items ≡ budget
+
+-- where the budget is spent, the last search was stopped: it goes on
+abbrev pub IsStoppedDescent : Translated → List LogStep → DescentEnd → Type 0
+IsStoppedDescent t pool (Minimal scenario parts left) = Unit {0}
+IsStoppedDescent t pool (Spent parts) = LastGoesOn t pool parts.items
 
 -- the scenario to which the descent led, where it came to one, is minimal above the floor and was not shown
 abbrev pub LeadsToNew : Bounded → List ℕ → List (List ℕ) → DescentEnd → Type 0

@@ -1,13 +1,14 @@
 -- What a session finds for the next scenario at a floor.
-use Rattle.std.specs.Prelude.{◌≡◌, ◌++◌, ◌∷◌, [], ℕ, List, Contains}
+use Rattle.std.specs.Prelude.{◌≡◌, ◌⊎◌, ◌++◌, ◌∷◌, [], ℕ, List, Contains}
 use Rattle.refutation_check.specs.declared.log.Step.{Step as LogStep}
 use Rattle.refutation_check.specs.Part.{Parted}
 use Rattle.swap_symmetry.specs.Due.{IsDue}
 use Rattle.translation_rules.specs.Translation.{Translated}
 use Rattle.translation_rules.specs.Locals.{locals_of}
+use Rattle.translation_rules.specs.Parts.{LastGoesOn}
 use Rattle.session_rules.specs.ProofOfEnd.{ProofOfEnd}
 use Rattle.session_rules.specs.Proofs.{Proves, IsCovered}
-use Rattle.session_rules.specs.Work.{units_in}
+use Rattle.session_rules.specs.Work.{IsNextWork, units_in}
 use Rattle.session_rules.specs.declared.end_proof.ProofKind.TheVariants.{End}
 use Rattle.session_state.specs.declared.search_rounds.next.Found.{Found}
 use Rattle.session_state.specs.declared.search_rounds.next.Found.TheVariants.{Shown, Ended, Spent}
@@ -28,3 +29,9 @@ abbrev pub IsAnswer : Translated → List LogStep → List ℕ → List (List �
 IsAnswer t pool floor shown copies budget parts found (Shown scenario) = IsDue t.problem floor scenario × (¬ Contains shown scenario)
 IsAnswer t pool floor shown copies budget parts found (Ended proof) = IsEndAt t pool floor shown (shown ++ copies ++ found) parts proof
 IsAnswer t pool floor shown copies budget parts found Spent = units_in t pool parts found ≡ budget
+
+-- where the budget is spent, the last part goes on, or the parts are those of rounds with one more copy too
+abbrev pub IsStopped : Translated → List LogStep → List ℕ → List (List ℕ) → List Parted → List (List ℕ) → Found → Type 0
+IsStopped t pool floor shown parts found (Shown scenario) = Unit {0}
+IsStopped t pool floor shown parts found (Ended proof) = Unit {0}
+IsStopped t pool floor shown parts found Spent = LastGoesOn t pool parts ⊎ ((copy : List ℕ) × IsNextWork t floor shown parts (found ++ copy ∷ []))

@@ -1,12 +1,13 @@
 -- What one round comes to.
-use Rattle.std.specs.Prelude.{◌≡◌, ◌≤◌, ◌+◌, ℕ, List, [], ◌∷◌, Contains}
+use Rattle.std.specs.Prelude.{◌≡◌, ◌⊎◌, ◌≤◌, ◌+◌, ℕ, List, [], ◌∷◌, Contains}
 use Rattle.refutation_check.specs.declared.log.Step.{Step as LogStep}
 use Rattle.refutation_check.specs.Chain.{EndsEmpty}
 use Rattle.refutation_check.specs.Part.{Parted}
+use Rattle.rel_formula.specs.Bounds.{Bounded}
 use Rattle.swap_symmetry.specs.Due.{IsDue}
 use Rattle.translation_rules.specs.Translation.{Translated}
 use Rattle.translation_rules.specs.Locals.{locals_of}
-use Rattle.translation_rules.specs.Parts.{AreSearched, novel_in}
+use Rattle.translation_rules.specs.Parts.{AreSearched, LastGoesOn, novel_in}
 use Rattle.session_rules.specs.Proofs.{IsCopy}
 use Rattle.session_rules.specs.Work.{Round, IsRound, parts_of_round}
 use Rattle.session_state.specs.declared.search_rounds.descent.DescentEnd.{DescentEnd}
@@ -43,3 +44,14 @@ IsRightRound t pool floor shown blocked budget (Copy scenario parts left) =
     IsCopy t.problem floor shown scenario × (¬ Contains blocked scenario) × (novel_in t pool parts.items + 1 + left ≡ budget)
 IsRightRound t pool floor shown blocked budget (Refuted part) = (part.local ≡ locals_of t floor blocked) × EndsEmpty part.log
 IsRightRound t pool floor shown blocked budget (Spent parts) = novel_in t pool parts.items ≡ budget
+
+-- some copy of what was shown isn't blocked
+abbrev pub HasNewCopy : Bounded → List ℕ → List (List ℕ) → List (List ℕ) → Type 0
+HasNewCopy p floor shown blocked = (copy : List ℕ) × IsCopy p floor shown copy × (¬ Contains blocked copy)
+
+-- where the budget is spent, the last part goes on, or no unit was left for a new copy
+abbrev pub IsStoppedRound : Translated → List LogStep → List ℕ → List (List ℕ) → List (List ℕ) → RoundEnd → Type 0
+IsStoppedRound t pool floor shown blocked (Due scenario parts) = Unit {0}
+IsStoppedRound t pool floor shown blocked (Copy scenario parts left) = Unit {0}
+IsStoppedRound t pool floor shown blocked (Refuted part) = Unit {0}
+IsStoppedRound t pool floor shown blocked (Spent parts) = LastGoesOn t pool parts.items ⊎ HasNewCopy t.problem floor shown blocked

@@ -6,7 +6,7 @@ use Rattle.refutation_check.specs.SearchLog.{IsSearchLog, novel_steps}
 use Rattle.refutation_check.specs.Part.{Parted}
 use Rattle.translation_rules.specs.Translation.{Translated}
 use Rattle.translation_rules.specs.Locals.{IsLeft, locals_of}
-use Rattle.translation_rules.specs.Parts.{given_to}
+use Rattle.translation_rules.specs.Parts.{GoesOn, given_to}
 use Rattle.session_state.specs.declared.search_rounds.search.SearchEnd.{SearchEnd}
 use Rattle.session_state.specs.declared.search_rounds.search.SearchEnd.TheVariants.{Left, Refuted, Spent}
 
@@ -28,3 +28,9 @@ abbrev pub IsRightSearch : Translated → List LogStep → List ℕ → List (Li
 IsRightSearch t pool floor blocked budget (Left start part left) = IsLeft t.problem floor blocked start × (novel_steps (given_to t pool part) part.log + left ≡ budget)
 IsRightSearch t pool floor blocked budget (Refuted part) = EndsEmpty part.log
 IsRightSearch t pool floor blocked budget (Spent part) = novel_steps (given_to t pool part) part.log ≡ budget
+
+-- where the budget is spent, the search was stopped: it goes on
+abbrev pub IsStoppedSearch : Translated → List LogStep → SearchEnd → Type 0
+IsStoppedSearch t pool (Left start part left) = Unit {0}
+IsStoppedSearch t pool (Refuted part) = Unit {0}
+IsStoppedSearch t pool (Spent part) = GoesOn t pool part

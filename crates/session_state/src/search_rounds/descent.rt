@@ -5,7 +5,7 @@ ghost use Rattle.rel_formula.specs.Instance.{AreCells, IsInstance, Includes};
 ghost use Rattle.sat_trail.specs.Trailed.{IsBase};
 ghost use Rattle.minimiser.specs.Down.{IsDescent};
 ghost use Rattle.minimiser.specs.Lowering.{IsOver};
-ghost use Rattle.session_state.specs.Rounds.Descended.{parts_of, IsRightDescent};
+ghost use Rattle.session_state.specs.Rounds.Descended.{parts_of, IsRightDescent, IsStoppedDescent};
 
 use crate::search_rounds::novel::left_after;
 use minimiser::{Down, minimise_on};
@@ -24,7 +24,7 @@ pub(crate) enum DescentEnd {
         parts: Vec<Part>,
         left: u64,
     },
-    /// The budget was spent.
+    /// The budget was spent, and the last part goes on.
     Spent {
         parts: Vec<Part>,
     },
@@ -53,6 +53,7 @@ pub(crate) fn go_down(
     ensures trail { OnOk result (IsOver translation.now.cnf trail.new) }
     ensures parts { IfOk result (λ end. IsDescent translation.now pool.now floor.now start.now budget (parts_of end)) }
     ensures answer { IfOk result (IsRightDescent translation.now pool.now floor.now start.now budget) }
+    ensures stopped { IfOk result (IsStoppedDescent translation.now pool.now) }
 {
     accepted_is_entailed();
     let _ = translation.problem(); // for the proof

@@ -8,7 +8,7 @@ ghost use Rattle.minimiser.specs.Lowering.{IsOver};
 ghost use Rattle.translation_rules.specs.Parts.{AreSearched};
 ghost use Rattle.session_rules.specs.Proofs.{IsCopy};
 ghost use Rattle.session_rules.specs.Work.{IsNextWork, units_in};
-ghost use Rattle.session_state.specs.Rounds.Next.{IsAnswer};
+ghost use Rattle.session_state.specs.Rounds.Next.{IsAnswer, IsStopped};
 
 use crate::search_rounds::round::{RoundEnd, round_at};
 use refutation_check::{Log, Part};
@@ -35,7 +35,7 @@ pub enum Found {
     Shown { scenario: Scenario },
     /// All that is due at the floor was shown, as the proof shows.
     Ended { proof: EndProof },
-    /// The budget was spent before there was an answer.
+    /// The budget was spent before there was an answer: the last part goes on, or there is one more copy.
     Spent,
 }
 
@@ -69,6 +69,7 @@ pub fn next_at(
     ensures copies { IfOk result (λ next. All (λ copy. IsCopy translation.now.problem floor.now shown.now copy × (¬ Contains copies.now copy)) next.copies) }
     ensures units { IfOk result (λ next. units_in translation.now pool.now next.parts next.copies ≤ budget) }
     ensures answer { IfOk result (λ next. IsAnswer translation.now pool.now floor.now shown.now copies.now budget next.parts next.copies next.found) }
+    ensures stopped { IfOk result (λ next. IsStopped translation.now pool.now floor.now shown.now next.parts next.copies next.found) }
 {
     let base = Trail::over(alloc, translation.cnf(), all_vars(translation))?;
     let mut trail = base.copy(alloc)?;
@@ -113,6 +114,7 @@ fn next_from(
     ensures copies { IfOk result (λ next. All (λ copy. IsCopy translation.now.problem floor.now shown.now copy × (¬ Contains copies.now copy)) next.copies) }
     ensures units { IfOk result (λ next. units_in translation.now pool.now next.parts next.copies ≤ budget) }
     ensures answer { IfOk result (λ next. IsAnswer translation.now pool.now floor.now shown.now copies.now budget next.parts next.copies next.found) }
+    ensures stopped { IfOk result (λ next. IsStopped translation.now pool.now floor.now shown.now next.parts next.copies next.found) }
 {
     a_refuting_part_makes_a_proof();
     a_proof_of_an_end_is_right();

@@ -8,8 +8,8 @@ ghost use Rattle.minimiser.specs.Lowering.{IsOver};
 ghost use Rattle.translation_rules.specs.Translation.{Translated};
 ghost use Rattle.translation_rules.specs.Parts.{novel_in};
 ghost use Rattle.session_state.specs.Rounds.Classes.{IsRightClass};
-ghost use Rattle.session_state.specs.Rounds.Descended.{parts_of, LeadsToNew};
-ghost use Rattle.session_state.specs.Rounds.Rounds.{parts_in, IsCounted, IsRoundAt, IsRightRound};
+ghost use Rattle.session_state.specs.Rounds.Descended.{parts_of, IsStoppedDescent, LeadsToNew};
+ghost use Rattle.session_state.specs.Rounds.Rounds.{parts_in, IsCounted, IsRoundAt, IsRightRound, IsStoppedRound};
 
 use crate::search_rounds::classes::{Class, class_of};
 use crate::search_rounds::descent::{DescentEnd, go_down};
@@ -38,7 +38,7 @@ pub enum RoundEnd {
     Refuted {
         part: Part,
     },
-    /// The budget was spent.
+    /// The budget was spent: the last part goes on, or no unit was left for a new copy.
     Spent {
         parts: Vec<Part>,
     },
@@ -72,6 +72,7 @@ pub fn round_at(
     ensures trail { OnOk result (IsOver translation.now.cnf trail.new) }
     ensures parts { IfOk result (λ end. IsRoundAt translation.now pool.now floor.now blocked.now budget (parts_in end)) }
     ensures answer { IfOk result (IsRightRound translation.now pool.now floor.now shown.now blocked.now budget) }
+    ensures stopped { IfOk result (IsStoppedRound translation.now pool.now floor.now shown.now blocked.now) }
 {
     match search_at(
         alloc,
@@ -109,6 +110,8 @@ fn round_of(
     ensures parts { IfOk result (λ end. parts_in end ≡ part ∷ parts_of descent) }
     ensures answer { IfOk result (λ end. (pool : List LogStep) (blocked : List (List ℕ)) (budget : ℕ) → IsCounted translation.now pool blocked budget part descent
         → IsRightRound translation.now pool floor.now shown.now blocked budget end) }
+    ensures stopped { IfOk result (λ end. (pool : List LogStep) (blocked : List (List ℕ)) (budget : ℕ) → IsCounted translation.now pool blocked budget part descent
+        → IsStoppedDescent translation.now pool descent → IsStoppedRound translation.now pool floor.now shown.now blocked end) }
 {
     let problem = translation.problem();
     match descent {
@@ -134,6 +137,8 @@ fn end_of(class: Class, parts: Vec<Part>, left: u64) -> RoundEnd
     ensures answer { (t : Translated) (pool : List LogStep) (floor : List ℕ) (shown blocked : List (List ℕ)) (budget : ℕ) (minimal : List ℕ)
         → IsRightClass t.problem floor shown minimal class → ¬ Contains blocked minimal → novel_in t pool parts.items + left ≡ budget
         → IsRightRound t pool floor shown blocked budget result }
+    ensures stopped { (t : Translated) (pool : List LogStep) (floor : List ℕ) (shown blocked : List (List ℕ)) (minimal : List ℕ)
+        → IsRightClass t.problem floor shown minimal class → ¬ Contains blocked minimal → IsStoppedRound t pool floor shown blocked result }
 {
     match class {
         Class::Due(scenario) => RoundEnd::Due { scenario, parts },

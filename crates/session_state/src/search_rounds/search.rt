@@ -5,7 +5,7 @@ ghost use Rattle.refutation_check.specs.Chain.{IsAccepted};
 ghost use Rattle.rel_formula.specs.Instance.{AreCells};
 ghost use Rattle.sat_trail.specs.Trailed.{IsBase};
 ghost use Rattle.translation_rules.specs.Translation.{var_of};
-ghost use Rattle.session_state.specs.Rounds.Searches.{part_of, IsSearchAt, IsRightSearch};
+ghost use Rattle.session_state.specs.Rounds.Searches.{part_of, IsSearchAt, IsRightSearch, IsStoppedSearch};
 
 use crate::search_rounds::locals::locals_of;
 use cnf_core::Valuation;
@@ -29,7 +29,7 @@ pub(crate) enum SearchEnd {
     Refuted {
         part: Part,
     },
-    /// The budget was spent.
+    /// The budget was spent, and the part goes on.
     Spent {
         part: Part,
     },
@@ -54,6 +54,7 @@ pub(crate) fn search_at(
     requires few { length blocked.now + budget ≤ 200000000 }
     ensures part { IfOk result (λ end. IsSearchAt translation.now pool.now floor.now blocked.now budget (part_of end)) }
     ensures answer { IfOk result (IsRightSearch translation.now pool.now floor.now blocked.now budget) }
+    ensures stopped { IfOk result (IsStoppedSearch translation.now pool.now) }
 {
     local_clauses_say_what_is_left();
     let problem = translation.problem();

@@ -1,4 +1,4 @@
-use Rattle.std.proofs.Common.{◌≡◌, ◌<◌, ◌+◌, ◌-◌, ◌∙◌, ◌++◌, ◌∷◌, [], ℕ, Bool, true, false, List, length, replicate, get_or, Contains, IsTrue, ◌↔◌, ◌⊎◌, sym, subst, ap, arith}
+use Rattle.std.proofs.Common.{◌≡◌, ◌<◌, ◌+◌, ◌-◌, ◌∙◌, ◌++◌, ◌∷◌, [], ℕ, Bool, true, false, List, length, replicate, get_or, Contains, IsTrue, ◌↔◌, ◌⊎◌, refl, sym, subst, ap, arith}
 use Rattle.std.proofs.lemmas.List.{get_or_default}
 use Rattle.cnf_core.specs.Valuation.{value_of}
 use Rattle.refutation_check.specs.Part.{Parted}
@@ -6,9 +6,9 @@ use Rattle.rel_formula.specs.Bounds.{cells_of}
 use Rattle.rel_formula.specs.Instance.{with_cell}
 use Rattle.translation_rules.specs.Translation.{var_of}
 use Rattle.translation_rules.specs.Offers.{IsPossible}
-use Rattle.translation_rules.specs.Parts.{novel_in}
+use Rattle.translation_rules.specs.Parts.{GoesOn, LastGoesOn, novel_in}
 use Rattle.augmenter.specs.declared.search.Sought.{Sought}
-use Rattle.augmenter.specs.Search.{part_in, IsSearchFor, IsRightFor}
+use Rattle.augmenter.specs.Search.{part_in, IsSearchFor, IsRightFor, IsStoppedFor}
 use Rattle.augmenter.specs.Offering.{AreTrials}
 use Rattle.augmenter.proofs.OfferSearches.{Trying, set_out, skipped, spent_trials, spent_all, refused, given, all_offers, others_refuted}
 use Rattle.augmenter.proofs.MarkedCells.{written_back}
@@ -82,6 +82,15 @@ returns-in-Spent-clause-answer c =
     let answer = subst (IsRightFor t pool (with_cell cell scenario) left) c.in-Spent.is c.in_ok-valuation.ensures.answer in
     subst (λ (ps : List Parted). novel_in t pool ps ≡ c.args.budget) (sym c.in_ok-push-in-Spent.ensures.items)
     (spent_all t pool scenario c.args.budget cell c.loop-cell.possible.items c.loop-cell.parts.items left c.loop-cell.invariant.trying in_range absent c.requires.scenario part search answer.0)
+
+pub returns-in-Spent-clause-stopped : goal.returns-in-Spent-clause-stopped
+returns-in-Spent-clause-stopped c =
+    let t = c.args.translation.now in
+    let pool = c.args.pool.now in
+    let part : Parted = c.in-Spent.part in
+    let goes : GoesOn t pool part = subst (IsStoppedFor t pool) c.in-Spent.is c.in_ok-valuation.ensures.stopped in
+    let last : LastGoesOn t pool (c.loop-cell.parts.items ++ part ∷ []) = record { before = c.loop-cell.parts.items; last = part; in_order = refl; goes_on = goes } in
+    subst (LastGoesOn t pool) (sym c.in_ok-push-in-Spent.ensures.items) last
 
 pub loop-cell-preserved : goal.loop-cell-preserved
 loop-cell-preserved c =

@@ -1,4 +1,4 @@
-use Rattle.std.proofs.Common.{◌≡◌, ◌≤◌, ◌∙◌, List, All, length, sym, subst, ap, arith}
+use Rattle.std.proofs.Common.{◌≡◌, ◌≤◌, ◌∙◌, ◌++◌, List, All, length, sym, subst, ap, arith}
 use Rattle.cnf_core.specs.declared.literal.Lit.{Lit}
 use Rattle.cnf_core.specs.Literal.{IsVariable}
 use Rattle.cnf_core.specs.Formula.{Formula}
@@ -8,12 +8,13 @@ use Rattle.refutation_check.specs.SearchLog.{IsAllNovel, HasNoEmpty}
 use Rattle.rel_formula.specs.Bounds.{cells_of}
 use Rattle.sat_trail.specs.Trailed.{IsBase}
 use Rattle.sat_core.specs.declared.search.Answer.{Answer}
+use Rattle.sat_core.specs.Answers.{IsStopped}
 use Rattle.translation_rules.specs.Translation.{var_of}
 use Rattle.translation_rules.specs.Locals.{units_of}
-use Rattle.translation_rules.specs.Parts.{given_to}
+use Rattle.translation_rules.specs.Parts.{GoesOn, given_to}
 use Rattle.translation_rules.proofs.Locals.Cells.{few_cells}
 use Rattle.augmenter.specs.Search.{IsSearchFor}
-use Rattle.augmenter.proofs.Seeking.{Known, Told, told, variables, as_many, found_part, found_answer, spent_part, refuted_part, refuted_answer}
+use Rattle.augmenter.proofs.Seeking.{Known, Told, told, told_stopped, variables, as_many, found_part, found_answer, spent_part, spent_goes_on, refuted_part, refuted_answer}
 use Rattle.augmenter.proofs.search.seek_from.Goals as goal
 
 pub units_of-requires : goal.units_of-requires
@@ -284,3 +285,21 @@ returns-clause-answer c =
     let made : c.of-part-in-Spent.result ≡ part = c.of-part-in-Spent.ensures ∙ ap (λ (ls : List (List Lit)). let p : Parted = record { local = ls; log = log } in p) are in
     let is = here.answer in
     subst (λ (p : Parted). (length p.log ≡ budget) × IsAllNovel (given_to t pool p) p.log × HasNoEmpty p.log) (sym made) is
+
+pub returns-clause-stopped : goal.returns-clause-stopped
+returns-clause-stopped c =
+    let t = c.args.translation.now in
+    let pool = c.args.pool.now in
+    let cells = c.args.cells.now in
+    let budget = c.args.budget in
+    let items : List (List Lit) = c.in_ok-local.local.items in
+    let are : items ≡ units_of cells = c.in_ok-local.ensures ∙ ap units_of c.numbers.ensures.value in
+    let a : Answer = c.in_ok-valuation.field-0 in
+    let said : Told t pool cells budget a = told t pool cells budget c.cnf.result.now c.as_slice.result.now a c.cnf.ensures (c.as_slice.ensures.value ∙ are) c.in_ok-valuation.ensures.log c.in_ok-valuation.ensures.budget c.in_ok-valuation.ensures.units c.in_ok-valuation.ensures.last c.in_ok-valuation.ensures.answer in
+    let log = c.in-Spent.log in
+    let here = subst (Told t pool cells budget) c.in-Spent.is said in
+    let part : Parted = record { local = units_of cells; log = log } in
+    let made : c.of-part-in-Spent.result ≡ part = c.of-part-in-Spent.ensures ∙ ap (λ (ls : List (List Lit)). let p : Parted = record { local = ls; log = log } in p) are in
+    let asked = told_stopped t pool cells c.cnf.result.now c.as_slice.result.now a c.cnf.ensures (c.as_slice.ensures.value ∙ are) c.in_ok-valuation.ensures.stopped in
+    let stopped = subst (IsStopped (t.cnf.clauses ++ units_of cells) pool) c.in-Spent.is asked in
+    subst (GoesOn t pool) (sym made) (spent_goes_on t pool cells budget log here stopped)

@@ -5,13 +5,14 @@ use Rattle.refutation_check.specs.declared.log.Step.{Step as LogStep}
 use Rattle.refutation_check.specs.Chain.{members_of, IsChain, EndsEmpty}
 use Rattle.refutation_check.specs.Part.{Parted}
 use Rattle.rel_formula.specs.Bounds.{cells_of}
-use Rattle.sat_core.specs.declared.search.Answer.TheVariants.{Refuted}
+use Rattle.sat_core.specs.declared.search.Answer.TheVariants.{Refuted, Spent}
 use Rattle.translation_rules.specs.Translation.{var_of}
 use Rattle.translation_rules.specs.Locals.{units_of}
+use Rattle.translation_rules.specs.Parts.{GoesOn}
 use Rattle.translation_rules.proofs.Locals.Cells.{few_cells}
 use Rattle.augmenter.specs.Search.{IsSearchFor}
-use Rattle.augmenter.proofs.FirstTries.{refuted_at_once}
-use Rattle.augmenter.proofs.Seeking.{Known, told_of, variables, as_many, refuted_part, refuted_answer}
+use Rattle.augmenter.proofs.FirstTries.{stopped_at_once, refuted_at_once}
+use Rattle.augmenter.proofs.Seeking.{Known, told_of, spent_goes_on, variables, as_many, refuted_part, refuted_answer}
 use Rattle.augmenter.proofs.tried.refused.Goals as goal
 
 pub units_of-requires : goal.units_of-requires
@@ -116,3 +117,20 @@ returns-clause-answer c =
     let made : c.of-part-2.result ≡ part = c.of-part-2.ensures ∙ (ap (λ (ls : List (List Lit)). let p : Parted = record { local = ls; log = c.push.new.self } in p) are ∙ ap (λ (steps : List LogStep). let p : Parted = record { local = units_of cells; log = steps } in p) all) in
     let is = refuted_answer t pool cells budget known (step ∷ []) here in
     (is.0, subst (λ (p : Parted). EndsEmpty p.log) (sym made) is.1)
+
+pub returns-then-budget-eq0-clause-stopped : goal.returns-then-budget-eq0-clause-stopped
+returns-then-budget-eq0-clause-stopped c =
+    let t = c.args.translation.now in
+    let pool = c.args.pool.now in
+    let cells = c.args.cells.now in
+    let budget = c.args.budget in
+    let items : List (List Lit) = c.in_ok-local.local.items in
+    let are : items ≡ units_of cells = c.in_ok-local.ensures ∙ ap units_of c.numbers.ensures.value in
+    let step : LogStep = c.in-Some.step in
+    let empty : step.clause ≡ [] = subst (λ (o : Option LogStep). IfSome o (λ s. s.clause ≡ [])) c.in-Some.is c.in_ok-step.ensures.empty in
+    let asked = subst (λ (o : Option LogStep). IfSome o (λ s. IsChain (members_of (t.cnf.clauses ++ c.as_slice.result.now) pool) s.clause s.hints)) c.in-Some.is c.in_ok-step.ensures.chain in
+    let chain = subst (λ (ls : List (List Lit)). IsChain (members_of (t.cnf.clauses ++ ls) pool) step.clause step.hints) (c.as_slice.ensures.value ∙ are) asked in
+    let is = stopped_at_once t pool cells budget step empty chain (let b = c.if-budget-eq0.true in omega arith) in
+    let part : Parted = record { local = units_of cells; log = [] } in
+    let made : c.of-part.result ≡ part = c.of-part.ensures ∙ (ap (λ (ls : List (List Lit)). let p : Parted = record { local = ls; log = c.new-log.result } in p) are ∙ ap (λ (steps : List LogStep). let p : Parted = record { local = units_of cells; log = steps } in p) c.new-log.ensures) in
+    subst (GoesOn t pool) (sym made) (spent_goes_on t pool cells budget [] (told_of t pool cells budget (Spent []) is) is.stopped)

@@ -5,7 +5,7 @@ use Rattle.rel_formula.specs.Bounds.{IsProblem}
 use Rattle.translation_rules.specs.Parts.{AreSearched}
 use Rattle.session_rules.specs.Proofs.{IsCopy}
 use Rattle.session_rules.specs.Work.{IsNextWork, units_in}
-use Rattle.session_state.specs.Rounds.Next.{IsAnswer}
+use Rattle.session_state.specs.Rounds.Next.{IsAnswer, IsStopped}
 use Rattle.decision_reports.specs.Decided.{IsDecision}
 use Rattle.decision_reports.proofs.FirstFound.{decided}
 use Rattle.decision_reports.proofs.decision.decide.Goals as goal
@@ -25,7 +25,8 @@ returns c =
     let new = subst (λ (f : List ℕ). All (λ copy. IsCopy t.problem f [] copy × (¬ Contains [] copy)) copies) floor told.copies in
     let units = subst (λ (ss : List LogStep). units_in t ss parts copies ≤ budget) pool told.units in
     let answer = subst (λ (f : List ℕ). IsAnswer t [] f [] [] budget parts copies next.found) floor (subst (λ (ss : List LogStep). IsAnswer t ss c.new-floor.result [] [] budget parts copies next.found) pool told.answer) in
+    let stopped = subst (λ (f : List ℕ). IsStopped t [] f [] parts copies next.found) floor (subst (λ (ss : List LogStep). IsStopped t ss c.new-floor.result [] parts copies next.found) pool told.stopped) in
     let is = subst IsProblem c.problem.ensures.value c.relations.ensures.well in
     let well = c.problem.ensures.well in
     subst (IsDecision t budget) (sym c.decision_of.ensures)
-    (decided t budget is well.symmetric (c.nothing_due_is_no_instance.ensures t.problem is well.symmetric) parts copies searched work next.found new units answer)
+    (decided t budget is well.symmetric (c.nothing_due_is_no_instance.ensures t.problem is well.symmetric) parts copies searched work next.found new units answer stopped)

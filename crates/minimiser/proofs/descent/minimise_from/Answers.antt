@@ -6,13 +6,14 @@ use Rattle.refutation_check.specs.Part.{Parted}
 use Rattle.rel_formula.specs.Bounds.{cells_of}
 use Rattle.sat_trail.specs.Trailed.{IsBase}
 use Rattle.sat_core.specs.declared.search.Answer.{Answer}
-use Rattle.translation_rules.specs.Parts.{novel_in}
+use Rattle.sat_core.specs.Answers.{IsStopped}
+use Rattle.translation_rules.specs.Parts.{LastGoesOn, novel_in}
 use Rattle.translation_rules.specs.Descents.{descent_locals}
 use Rattle.translation_rules.proofs.Locals.Cells.{few_cells}
 use Rattle.minimiser.specs.Down.{IsDescent}
 use Rattle.minimiser.proofs.Cells.{fewer, few_locals}
 use Rattle.minimiser.proofs.DescentStates.{Going, set_out, ended, spent_all, next, minimal}
-use Rattle.minimiser.proofs.SolverAnswers.{Told, told, found}
+use Rattle.minimiser.proofs.SolverAnswers.{Told, told, found, goes_on}
 use Rattle.minimiser.proofs.descent.minimise_from.Goals as goal
 
 pub descent-init : goal.descent-init
@@ -249,3 +250,25 @@ returns-in-Spent-clause-answer c =
     let made : c.of-in-Spent.result ≡ part = c.of-in-Spent.ensures ∙ ap (λ (ls : List (List Lit)). let p : Parted = record { local = ls; log = log } in p) are in
     let now = c.in_ok-push-in-Spent.ensures.items ∙ ap (λ (p : Parted). c.descent.parts.items ++ p ∷ []) made in
     subst (λ (ps : List Parted). novel_in t pool ps ≡ c.args.budget) (sym now) (spent_all t pool floor c.args.start.now c.args.budget scenario left c.descent.parts.items going part refl here.log here.few here.answer.0 here.answer.1)
+
+pub returns-in-Spent-clause-stopped : goal.returns-in-Spent-clause-stopped
+returns-in-Spent-clause-stopped c =
+    let t = c.args.translation.now in
+    let pool = c.args.pool.now in
+    let floor = c.args.floor.now in
+    let scenario = c.descent.scenario in
+    let left = c.descent.left in
+    let items : List (List Lit) = c.in_ok-local.local.items in
+    let local = descent_locals t.problem floor scenario in
+    let are : items ≡ local = c.in_ok-local.ensures ∙ ap (λ p. descent_locals p floor scenario) c.problem-problem.ensures.value in
+    let a : Answer = c.in_ok-valuation.field-0 in
+    let said : Told t pool local left a = told t pool left c.cnf.result.now c.as_slice.result.now local a c.cnf.ensures (c.as_slice.ensures.value ∙ are) c.in_ok-valuation.ensures.log c.in_ok-valuation.ensures.budget c.in_ok-valuation.ensures.answer in
+    let log = c.in-Spent.log in
+    let part : Parted = record { local = local; log = log } in
+    let here = subst (Told t pool local left) c.in-Spent.is said in
+    let made : c.of-in-Spent.result ≡ part = c.of-in-Spent.ensures ∙ ap (λ (ls : List (List Lit)). let p : Parted = record { local = ls; log = log } in p) are in
+    let now = c.in_ok-push-in-Spent.ensures.items ∙ ap (λ (p : Parted). c.descent.parts.items ++ p ∷ []) made in
+    let stopped = subst (IsStopped (c.cnf.result.now.clauses ++ c.as_slice.result.now) pool) c.in-Spent.is c.in_ok-valuation.ensures.stopped in
+    let goes = goes_on t pool c.cnf.result.now c.as_slice.result.now local log c.cnf.ensures (c.as_slice.ensures.value ∙ are) here.answer.2 stopped in
+    let last : LastGoesOn t pool (c.descent.parts.items ++ part ∷ []) = record { before = c.descent.parts.items; last = part; in_order = refl; goes_on = goes } in
+    subst (LastGoesOn t pool) (sym now) last

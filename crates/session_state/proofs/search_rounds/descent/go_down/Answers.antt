@@ -4,7 +4,7 @@ use Rattle.refutation_check.specs.SearchLog.{HasNoEmpty}
 use Rattle.refutation_check.specs.Part.{Parted}
 use Rattle.translation_rules.specs.Parts.{AreSearched, novel_in}
 use Rattle.minimiser.specs.declared.descent.Down.{Down}
-use Rattle.minimiser.specs.Down.{parts_of, IsDescent, IsRightOn}
+use Rattle.minimiser.specs.Down.{parts_of, IsDescent, IsRightOn, IsStopped}
 use Rattle.session_state.proofs.Rounds.NovelSteps.{none_empty, none_empty_after}
 use Rattle.session_state.proofs.search_rounds.descent.go_down.Goals as goal
 
@@ -39,3 +39,6 @@ returns-in-Spent-clause-parts c =
 pub returns-in-Spent-clause-answer : goal.returns-in-Spent-clause-answer
 returns-in-Spent-clause-answer c =
     subst (IsRightOn c.args.translation.now c.args.pool.now c.args.floor.now c.args.start.now c.args.budget) c.in-Spent.is c.in_ok-scenario.ensures.answer
+
+pub returns-in-Spent-clause-stopped : goal.returns-in-Spent-clause-stopped
+returns-in-Spent-clause-stopped c = subst (IsStopped c.args.translation.now c.args.pool.now) c.in-Spent.is c.in_ok-scenario.ensures.stopped

@@ -8,10 +8,10 @@ use Rattle.session_state.specs.declared.search_rounds.next.NextAt.{NextAt}
 use Rattle.session_state.specs.declared.search_rounds.next.Found.{Found}
 use Rattle.session_state.specs.declared.search_rounds.next.Found.TheVariants.{Shown, Ended, Spent}
 use Rattle.session_state.specs.declared.search_rounds.round.RoundEnd.{RoundEnd}
-use Rattle.session_state.specs.Rounds.Rounds.{parts_in, IsRoundAt, IsRightRound}
+use Rattle.session_state.specs.Rounds.Rounds.{parts_in, IsRoundAt, IsRightRound, IsStoppedRound}
 use Rattle.session_state.specs.Rounds.Next.{IsEndAt}
 use Rattle.session_state.proofs.Rounds.SearchedRounds.{novel_more, novel_none}
-use Rattle.session_state.proofs.Rounds.RoundStates.{Going, Answered, set_out, covered_later, cells_of_blocked, shown_are_blocked, few_blocked, done, spent_all, next, ended}
+use Rattle.session_state.proofs.Rounds.RoundStates.{Going, Answered, set_out, covered_later, cells_of_blocked, shown_are_blocked, few_blocked, done, spent_all, stopped, next, ended}
 use Rattle.session_state.proofs.search_rounds.next.next_from.Goals as goal
 
 pub rounds-init : goal.rounds-init
@@ -130,8 +130,8 @@ returns-in-Due c =
     let what : Found = Shown c.in-Due.scenario in
     let told : Answered t pool floor shown copies budget c.next_of.result =
     subst (Answered t pool floor shown copies budget) (sym c.next_of.ensures)
-    (subst (λ (ps : List Parted). Answered t pool floor shown copies budget (record { found = what; parts = ps; copies = found })) (sym c.in_ok-add_parts-in-Due.ensures) (record { done = finished; answer = right })) in
-    record { searched = told.done.searched; work = told.done.work; copies = told.done.new; units = told.done.few; answer = told.answer }
+    (subst (λ (ps : List Parted). Answered t pool floor shown copies budget (record { found = what; parts = ps; copies = found })) (sym c.in_ok-add_parts-in-Due.ensures) (record { done = finished; answer = right; stopped = tt })) in
+    record { searched = told.done.searched; work = told.done.work; copies = told.done.new; units = told.done.few; answer = told.answer; stopped = told.stopped }
 
 pub returns-in-Spent : goal.returns-in-Spent
 returns-in-Spent c =
@@ -151,11 +151,17 @@ returns-in-Spent c =
     subst (λ (e : RoundEnd). IsRoundAt t pool floor blocked left (parts_in e)) c.in-Spent.is (subst (λ (b : List (List ℕ)). IsRoundAt t pool floor b left (parts_in c.in_ok-scenario.field-0)) c.as_slice.ensures.value c.in_ok-scenario.ensures.parts) in
     let right = subst (IsRightRound t pool floor shown blocked left) c.in-Spent.is (subst (λ (b : List (List ℕ)). IsRightRound t pool floor shown b left c.in_ok-scenario.field-0) c.as_slice.ensures.value c.in_ok-scenario.ensures.answer) in
     let finished = done t pool floor shown copies budget blocked parts found left going more round c.requires.copies in
+    let on =
+    subst (IsStoppedRound t pool floor shown blocked) c.in-Spent.is (subst (λ (b : List (List ℕ)). IsStoppedRound t pool floor shown b c.in_ok-scenario.field-0) c.as_slice.ensures.value c.in_ok-scenario.ensures.stopped) in
     let what : Found = Spent in
     let told : Answered t pool floor shown copies budget c.next_of-in-Spent.result =
     subst (Answered t pool floor shown copies budget) (sym c.next_of-in-Spent.ensures)
-    (subst (λ (ps : List Parted). Answered t pool floor shown copies budget (record { found = what; parts = ps; copies = found })) (sym c.in_ok-add_parts-in-Spent.ensures) (record { done = finished; answer = spent_all t pool floor shown copies budget blocked parts found left going more round right })) in
-    record { searched = told.done.searched; work = told.done.work; copies = told.done.new; units = told.done.few; answer = told.answer }
+    (subst (λ (ps : List Parted). Answered t pool floor shown copies budget (record { found = what; parts = ps; copies = found })) (sym c.in_ok-add_parts-in-Spent.ensures) (record {
+      done = finished;
+      answer = spent_all t pool floor shown copies budget blocked parts found left going more round right;
+      stopped = stopped t pool floor shown copies budget blocked parts found left going more round c.requires.copies on;
+    })) in
+    record { searched = told.done.searched; work = told.done.work; copies = told.done.new; units = told.done.few; answer = told.answer; stopped = told.stopped }
 
 pub proof_of-requires-clause-few : goal.proof_of-requires-clause-few
 proof_of-requires-clause-few c =
@@ -215,5 +221,5 @@ returns-in-Refuted c =
     let told : Answered t pool floor shown copies budget c.next_of-in-Refuted.result =
     subst (Answered t pool floor shown copies budget) (sym c.next_of-in-Refuted.ensures)
     (subst (λ (ps : List Parted). Answered t pool floor shown copies budget (record { found = what; parts = ps; copies = found })) (sym c.in_ok-push-in-Refuted.ensures.items)
-    (record { done = finished; answer = subst (IsEndAt t pool floor shown (shown ++ copies ++ found) (parts ++ part ∷ [])) (sym c.in_ok-proof-in-Refuted.ensures) ends })) in
-    record { searched = told.done.searched; work = told.done.work; copies = told.done.new; units = told.done.few; answer = told.answer }
+    (record { done = finished; answer = subst (IsEndAt t pool floor shown (shown ++ copies ++ found) (parts ++ part ∷ [])) (sym c.in_ok-proof-in-Refuted.ensures) ends; stopped = tt })) in
+    record { searched = told.done.searched; work = told.done.work; copies = told.done.new; units = told.done.few; answer = told.answer; stopped = told.stopped }

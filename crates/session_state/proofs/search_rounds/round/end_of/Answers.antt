@@ -1,4 +1,4 @@
-use Rattle.std.proofs.Common.{◌≡◌, ◌+◌, ◌-◌, ℕ, List, Contains, refl, sym, ◌∙◌, subst, arith}
+use Rattle.std.proofs.Common.{◌≡◌, inr, ◌+◌, ◌-◌, ℕ, List, Contains, refl, sym, ◌∙◌, subst, arith}
 use Rattle.translation_rules.specs.Parts.{novel_in}
 use Rattle.session_rules.specs.Proofs.{IsCopy}
 use Rattle.session_state.specs.Rounds.Classes.{IsRightClass}
@@ -8,12 +8,16 @@ pub returns-in-Due : goal.returns-in-Due
 returns-in-Due c = record {
   parts = refl;
   answer = λ t pool floor shown blocked budget minimal class out units. subst (IsRightClass t.problem floor shown minimal) c.in-Due.is class;
+  stopped = λ t pool floor shown blocked minimal class out. tt;
 }
 
 pub returns-then-left-eq0 : goal.returns-then-left-eq0
 returns-then-left-eq0 c = record {
   parts = refl;
   answer = λ t pool floor shown blocked budget minimal class out units. omega arith;
+  stopped = λ t pool floor shown blocked minimal class out.
+      let copy = subst (IsRightClass t.problem floor shown minimal) c.in-Copy.is class in
+      inr (c.in-Copy.scenario, copy.1, subst (λ (s : List ℕ). ¬ Contains blocked s) (sym copy.0) out);
 }
 
 pub returns-else-left-eq0 : goal.returns-else-left-eq0
@@ -22,4 +26,5 @@ returns-else-left-eq0 c = record {
   answer = λ t pool floor shown blocked budget minimal class out units.
       let copy = subst (IsRightClass t.problem floor shown minimal) c.in-Copy.is class in
       (copy.1, subst (λ (s : List ℕ). ¬ Contains blocked s) (sym copy.0) out, omega arith);
+  stopped = λ t pool floor shown blocked minimal class out. tt;
 }

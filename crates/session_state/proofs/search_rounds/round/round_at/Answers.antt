@@ -1,8 +1,8 @@
-use Rattle.std.proofs.Common.{◌≡◌, ◌≤◌, ◌+◌, ◌∷◌, [], ℕ, List, refl, sym, ◌∙◌, ap, subst, arith}
+use Rattle.std.proofs.Common.{◌≡◌, inl, ◌≤◌, ◌+◌, ◌∷◌, [], ℕ, List, refl, sym, ◌∙◌, ap, subst, arith}
 use Rattle.refutation_check.specs.Part.{Parted}
-use Rattle.translation_rules.specs.Parts.{novel_in}
+use Rattle.translation_rules.specs.Parts.{GoesOn, LastGoesOn, novel_in}
 use Rattle.session_state.specs.declared.search_rounds.search.SearchEnd.{SearchEnd}
-use Rattle.session_state.specs.Rounds.Searches.{part_of, IsSearchAt, IsRightSearch}
+use Rattle.session_state.specs.Rounds.Searches.{part_of, IsSearchAt, IsRightSearch, IsStoppedSearch}
 use Rattle.session_state.specs.Rounds.Rounds.{IsRoundAt}
 use Rattle.session_state.proofs.Rounds.SearchedRounds.{search_alone, units_alone, leads, counted, round_here}
 use Rattle.session_state.proofs.search_rounds.round.round_at.Goals as goal
@@ -45,6 +45,20 @@ returns-in_ok-end-in-Left-clause-answer c =
     c.in_ok-end-in-Left.ensures.answer pool blocked budget
     (counted t pool floor c.args.shown.now blocked budget part search c.in-Left.start right.0 c.in-Left.left right.1 c.in_ok-descent-in-Left.descent c.in_ok-descent-in-Left.ensures.answer)
 
+pub returns-in_ok-end-in-Left-clause-stopped : goal.returns-in_ok-end-in-Left-clause-stopped
+returns-in_ok-end-in-Left-clause-stopped c =
+    let t = c.args.translation.now in
+    let pool = c.args.pool.now in
+    let floor = c.args.floor.now in
+    let blocked = c.args.blocked.now in
+    let budget = c.args.budget in
+    let part : Parted = c.in-Left.part in
+    let search : IsSearchAt t pool floor blocked budget part = subst (λ (s : SearchEnd). IsSearchAt t pool floor blocked budget (part_of s)) c.in-Left.is c.in_ok-start.ensures.part in
+    let right = subst (IsRightSearch t pool floor blocked budget) c.in-Left.is c.in_ok-start.ensures.answer in
+    c.in_ok-end-in-Left.ensures.stopped pool blocked budget
+    (counted t pool floor c.args.shown.now blocked budget part search c.in-Left.start right.0 c.in-Left.left right.1 c.in_ok-descent-in-Left.descent c.in_ok-descent-in-Left.ensures.answer)
+    c.in_ok-descent-in-Left.ensures.stopped
+
 pub returns-in_ok-parts-in-Spent-clause-parts : goal.returns-in_ok-parts-in-Spent-clause-parts
 returns-in_ok-parts-in-Spent-clause-parts c =
     let t = c.args.translation.now in
@@ -55,6 +69,15 @@ returns-in_ok-parts-in-Spent-clause-parts c =
     let part : Parted = c.in-Spent.part in
     let search : IsSearchAt t pool floor blocked budget part = subst (λ (s : SearchEnd). IsSearchAt t pool floor blocked budget (part_of s)) c.in-Spent.is c.in_ok-start.ensures.part in
     subst (IsRoundAt t pool floor blocked budget) (sym c.in_ok-parts-in-Spent.ensures.items) (search_alone t pool floor blocked budget part search)
+
+pub returns-in_ok-parts-in-Spent-clause-stopped : goal.returns-in_ok-parts-in-Spent-clause-stopped
+returns-in_ok-parts-in-Spent-clause-stopped c =
+    let t = c.args.translation.now in
+    let pool = c.args.pool.now in
+    let part : Parted = c.in-Spent.part in
+    let goes : GoesOn t pool part = subst (IsStoppedSearch t pool) c.in-Spent.is c.in_ok-start.ensures.stopped in
+    let last : LastGoesOn t pool (part ∷ []) = record { before = []; last = part; in_order = refl; goes_on = goes } in
+    inl (subst (LastGoesOn t pool) (sym c.in_ok-parts-in-Spent.ensures.items) last)
 
 pub returns-in-Refuted : goal.returns-in-Refuted
 returns-in-Refuted c =
@@ -70,4 +93,5 @@ returns-in-Refuted c =
       trail = c.requires.trail;
       parts = search_alone t pool floor blocked budget part search;
       answer = (search.local, right);
+      stopped = tt;
     }

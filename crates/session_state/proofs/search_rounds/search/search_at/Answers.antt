@@ -9,10 +9,11 @@ use Rattle.refutation_check.proofs.Novelty.{novel_all}
 use Rattle.rel_formula.specs.Bounds.{cells_of}
 use Rattle.sat_trail.specs.Trailed.{IsBase}
 use Rattle.sat_core.specs.declared.search.Answer.{Answer}
+use Rattle.sat_core.specs.Answers.{IsStopped}
 use Rattle.translation_rules.specs.Locals.{IsLeft, locals_of}
-use Rattle.translation_rules.specs.Parts.{given_to}
+use Rattle.translation_rules.specs.Parts.{GoesOn, given_to}
 use Rattle.translation_rules.proofs.Locals.Cells.{few_cells}
-use Rattle.minimiser.proofs.SolverAnswers.{Told, told}
+use Rattle.minimiser.proofs.SolverAnswers.{Told, told, goes_on}
 use Rattle.session_state.specs.Rounds.Searches.{IsSearchAt}
 use Rattle.session_state.proofs.Rounds.Sizes.{few_locals}
 use Rattle.session_state.proofs.Rounds.SolverAnswers.{found_left, left_of}
@@ -207,3 +208,22 @@ returns-in-Spent-clause-answer c =
     let here = subst (Told t pool local budget) c.in-Spent.is said in
     let made : c.of-in-Spent.result ≡ part = c.of-in-Spent.ensures ∙ ap (λ (ls : List (List Lit)). let p : Parted = record { local = ls; log = log } in p) are in
     subst (λ (p : Parted). novel_steps (given_to t pool p) p.log ≡ budget) (sym made) (novel_all (given_to t pool part) log here.answer.1 ∙ here.answer.0)
+
+pub returns-in-Spent-clause-stopped : goal.returns-in-Spent-clause-stopped
+returns-in-Spent-clause-stopped c =
+    let t = c.args.translation.now in
+    let pool = c.args.pool.now in
+    let floor = c.args.floor.now in
+    let blocked = c.args.blocked.now in
+    let budget = c.args.budget in
+    let items : List (List Lit) = c.in_ok-local.local.items in
+    let local = locals_of t floor blocked in
+    let are : items ≡ local = c.in_ok-local.ensures in
+    let a : Answer = c.in_ok-valuation.field-0 in
+    let said : Told t pool local budget a = told t pool budget c.cnf.result.now c.as_slice.result.now local a c.cnf.ensures (c.as_slice.ensures.value ∙ are) c.in_ok-valuation.ensures.log c.in_ok-valuation.ensures.budget c.in_ok-valuation.ensures.answer in
+    let log = c.in-Spent.log in
+    let part : Parted = record { local = local; log = log } in
+    let here = subst (Told t pool local budget) c.in-Spent.is said in
+    let made : c.of-in-Spent.result ≡ part = c.of-in-Spent.ensures ∙ ap (λ (ls : List (List Lit)). let p : Parted = record { local = ls; log = log } in p) are in
+    let stopped = subst (IsStopped (c.cnf.result.now.clauses ++ c.as_slice.result.now) pool) c.in-Spent.is c.in_ok-valuation.ensures.stopped in
+    subst (GoesOn t pool) (sym made) (goes_on t pool c.cnf.result.now c.as_slice.result.now local log c.cnf.ensures (c.as_slice.ensures.value ∙ are) here.answer.2 stopped)

@@ -21,6 +21,7 @@ returns c =
       copies_are = told.copies;
       units = told.units;
       answer = told.answer;
+      stopped = told.stopped;
     } in
     IfOk-weaker c.proposal_of.result _ _ (λ p is s open' top here most.
     subst (IsProposal t pool s Next) (sym is) (shows t pool s known next.parts next.copies open' floor shown budget next.found top here most found)) c.proposal_of.ensures

@@ -1,10 +1,11 @@
 use Rattle.std.proofs.Common.{◌≡◌, ◌∙◌, ℕ, List, [], sym, subst}
 use Rattle.std.proofs.lemmas.Result.{IfOk-weaker}
 use Rattle.refutation_check.specs.Part.{Parted}
+use Rattle.translation_rules.specs.Parts.{GoesOn}
 use Rattle.session_words.specs.declared.steps.Step.TheVariants.{Augment}
 use Rattle.session_rules.specs.declared.answers.Refusal.TheVariants.{NoInstance, Spent}
 use Rattle.session_rules.specs.declared.answers.Reply.TheVariants.{Augmented, Refused}
-use Rattle.augmenter.specs.Search.{part_in, IsSearchFor, IsRightFor}
+use Rattle.augmenter.specs.Search.{part_in, IsSearchFor, IsRightFor, IsStoppedFor}
 use Rattle.augmenter.specs.declared.search.Sought.{Sought}
 use Rattle.session_state.specs.Sessions.Proposed.{IsProposal}
 use Rattle.session_state.proofs.Sessions.FloorProposals.{goes_up, goes_nowhere, spent_on_floor}
@@ -47,10 +48,11 @@ returns-in_ok-parts-in-Spent c =
     let part : Parted = c.in-Spent.part in
     let search : IsSearchFor t pool floor budget part = subst (λ (told : Sought). IsSearchFor t pool floor budget (part_in told)) c.in-Spent.is c.in_ok-sought.ensures.part in
     let right = subst (IsRightFor t pool floor budget) c.in-Spent.is c.in_ok-sought.ensures.answer in
+    let on : GoesOn t pool part = subst (IsStoppedFor t pool) c.in-Spent.is c.in_ok-sought.ensures.stopped in
     let none : c.of-none.result ≡ [] = c.of-none.ensures ∙ c.new.ensures.items in
     let parts : List Parted = c.in_ok-parts-in-Spent.parts in
     IfOk-weaker c.spent.result _ _ (λ p e s name names asked room most.
     subst (IsProposal t pool s (Augment name names)) (sym e)
     (subst (λ (cs : List (List ℕ)). IsProposal t pool s (Augment name names) (record { reply = Refused (Spent (record { budget = budget; parts = parts; copies = cs })); parts = parts; copies = cs })) (sym none)
     (subst (λ (ps : List Parted). IsProposal t pool s (Augment name names) (record { reply = Refused (Spent (record { budget = budget; parts = ps; copies = [] })); parts = ps; copies = [] })) (sym c.in_ok-parts-in-Spent.ensures)
-    (spent_on_floor t pool s name names floor budget part asked most search room right.0 right.1)))) c.spent.ensures
+    (spent_on_floor t pool s name names floor budget part asked most search room right.0 right.1 on)))) c.spent.ensures

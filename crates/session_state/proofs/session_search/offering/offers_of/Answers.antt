@@ -1,11 +1,11 @@
 use Rattle.std.proofs.Common.{◌≡◌, ◌∙◌, ℕ, List, [], sym, subst}
 use Rattle.std.proofs.lemmas.Result.{IfOk-weaker}
 use Rattle.refutation_check.specs.Part.{Parted}
-use Rattle.translation_rules.specs.Parts.{novel_in}
+use Rattle.translation_rules.specs.Parts.{LastGoesOn, novel_in}
 use Rattle.session_words.specs.declared.steps.Step.TheVariants.{Offers}
 use Rattle.session_rules.specs.declared.answers.Refusal.TheVariants.{Spent}
 use Rattle.session_rules.specs.declared.answers.Reply.TheVariants.{Offers as OffersAre, Refused}
-use Rattle.augmenter.specs.Offering.{parts_of, AreTrials, IsRight}
+use Rattle.augmenter.specs.Offering.{parts_of, AreTrials, IsRight, IsStopped}
 use Rattle.augmenter.specs.declared.answer.Offers.{Offers as Told}
 use Rattle.session_state.specs.Sessions.Proposed.{IsProposal}
 use Rattle.session_state.proofs.Sessions.OfferProposals.{offered, spent_on_offers}
@@ -34,9 +34,10 @@ returns-in-Spent c =
     let parts : List Parted = c.in-Spent.parts.items in
     let trials : AreTrials t pool current budget parts = subst (λ (told : Told). AreTrials t pool current budget (parts_of told)) c.in-Spent.is c.in_ok-told.ensures.parts in
     let right : novel_in t pool parts ≡ budget = subst (IsRight t pool current budget) c.in-Spent.is c.in_ok-told.ensures.answer in
+    let on : LastGoesOn t pool parts = subst (IsStopped t pool) c.in-Spent.is c.in_ok-told.ensures.stopped in
     let none : c.of-none.result ≡ [] = c.of-none.ensures ∙ c.new.ensures.items in
     IfOk-weaker c.spent.result _ _ (λ p e s is most.
     subst (IsProposal t pool s Offers) (sym e)
     (subst (λ (cs : List (List ℕ)). IsProposal t pool s Offers (record { reply = Refused (Spent (record { budget = budget; parts = c.of-parts-in-Spent.result; copies = cs })); parts = c.of-parts-in-Spent.result; copies = cs })) (sym none)
     (subst (λ (ps : List Parted). IsProposal t pool s Offers (record { reply = Refused (Spent (record { budget = budget; parts = ps; copies = [] })); parts = ps; copies = [] })) (sym c.of-parts-in-Spent.ensures)
-    (spent_on_offers t pool s current budget parts is most trials right)))) c.spent.ensures
+    (spent_on_offers t pool s current budget parts is most trials right on)))) c.spent.ensures
