@@ -1,5 +1,6 @@
 pub mod ThreadCrossing
 mod Journals
+mod Behind
 pub mod GrowingJournals
 mod Sharing
 pub mod Appending

@@ -1,5 +1,5 @@
 -- How a hub holds its journal: entries without translations, the translation of each key, and each key's pool.
-use Rattle.std.specs.Prelude.{◌≡◌, ◌<◌, ℕ, List, [], Option, None, Some, length, map, slice_index_or, unwrap_or}
+use Rattle.std.specs.Prelude.{◌≡◌, ◌<◌, ℕ, List, [], Option, None, Some, length, map, flat_map, slice_index_or, unwrap_or}
 use Rattle.refutation_check.specs.declared.log.Step.{Step as LogStep}
 use Rattle.rel_formula.specs.Bounds.{Bounded}
 use Rattle.rel_formula.specs.Kernel.{conjunction, no_formulas}
@@ -8,7 +8,7 @@ use Rattle.hub_state.specs.declared.journal_rules.event.Entry.{Entry}
 use Rattle.hub_state.specs.declared.journal_rules.event.Event.{Event}
 use Rattle.hub_state.specs.declared.journal_rules.event.Event.TheVariants.{Published as WasPublished, Imported as WasImported, Shared as WasShared, Opened as WasOpened, Recorded as WasRecorded}
 use Rattle.hub_state.specs.Journal.Noted.{Note, Published, Imported, Shared, Opened, Recorded, Noted}
-use Rattle.hub_state.specs.Journal.Journal.{IsPublished, IsLegal, pool_of}
+use Rattle.hub_state.specs.Journal.Journal.{IsPublished, IsLegal, added_to, pool_of}
 
 -- the translation, or where there is none one of a problem without relations: no entry of a hub needs it
 abbrev pub translation_or : Option Translated → Translated
@@ -36,6 +36,14 @@ translations_in kept key = translation_or (slice_index_or kept key None)
 -- the journal of the entries, with the translations that are kept
 abbrev pub journal_of : List (Option Translated) → List Entry → List Noted
 journal_of kept entries = map (noted_with (translations_in kept)) entries
+
+-- the steps that the entry adds to the key's pool
+abbrev pub steps_added : ℕ → Entry → List LogStep
+steps_added key entry = added_to key (note_with (translations_in []) entry.event)
+
+-- the steps that the entries add to it, one after the other
+abbrev pub steps_in : ℕ → List Entry → List LogStep
+steps_in key entries = flat_map (steps_added key) entries
 
 -- the journal is legal; a key has exactly the translation that was published for it; its pool is what was shared for it
 pub record IsHub (problems : List Bounded) (kept : List (Option Translated)) (pools : List (List LogStep)) (journal : List Noted) : Type 0 where

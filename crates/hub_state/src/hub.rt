@@ -1,5 +1,6 @@
 // The hub.
 ghost use Rattle.std.specs.Prelude.{◌≡◌, ◌↔◌, ◌<◌, ◌^◌, [], Some, IfOk, OnOk, OnErr, IfSome, IsNone, IsSomeAnd, length, map, replicate, slice_get, take};
+ghost use mathlib.Core.List.{IsPrefix};
 ghost use Rattle.clause_pool.specs.Limits.{IsLongestFit};
 ghost use Rattle.translation_rules.specs.Translation.{Translated};
 ghost use Rattle.hub_state.specs.Journal.Noted.{Published as WasPublished, Imported as WasImported, Shared as WasShared, entry_of};
@@ -8,6 +9,7 @@ ghost use Rattle.hub_state.specs.HubView.{with_entry, HasTranslation, IsPublishi
 
 use crate::journal_rules::laws::{a_legal_journal_grows, a_pool_rests_on_the_translation_alone};
 use crate::journal_rules::{Entry, Event};
+use crate::new_steps::put_behind;
 use clause_pool::{Pool, one_length_is_longest};
 use refutation_check::Log;
 use rel_formula::Problem;
@@ -112,15 +114,38 @@ impl Hub {
         ensures entry { OnOk result (self.new ≡ with_entry self.old by (WasImported key (length (pool_of key self.old.journal)))) }
         ensures err { OnErr result (self.new ≡ self.old) }
     {
+        let mut whole = Log::new(alloc);
+        self.import_behind(alloc, by, key, &mut whole)?;
+        Ok(whole)
+    }
+
+    /// Puts behind steps that begin the pool of a key that has its translation all that came since: so they are the whole pool.
+    /// Appends an entry that names the pool's length. After an error the hub is as before, and a part of what came since may
+    /// have been put there.
+    pub fn import_behind(
+        &mut self,
+        alloc: Global,
+        by: u32,
+        key: u32,
+        have: &mut Log,
+    ) -> Result<(), AllocError>
+        requires published { HasTranslation self.old.journal key }
+        requires begins { IsPrefix have.old (pool_of key self.old.journal) }
+        ensures pool { OnOk result (have.new ≡ pool_of key self.old.journal) }
+        ensures grows { IsPrefix have.old have.new }
+        ensures begins { IsPrefix have.new (pool_of key self.old.journal) }
+        ensures entry { OnOk result (self.new ≡ with_entry self.old by (WasImported key (length (pool_of key self.old.journal)))) }
+        ensures err { OnErr result (self.new ≡ self.old) }
+    {
         a_legal_journal_grows();
         let pool = &self.pools[key as usize];
         let steps = pool.len();
-        let whole = pool.prefix(alloc, steps)?;
+        put_behind(alloc, self.entries.as_slice(), key, steps as usize, have)?;
         self.entries.push(Entry {
             by,
             event: Event::Imported { key, steps },
         })?;
-        Ok(whole)
+        Ok(())
     }
 
     /// Adds to the key's pool as many of the steps, the first ones, as fit its limits, and answers how many they are. The

@@ -5,6 +5,7 @@
 mod hub;
 pub mod journal_rules;
 mod kept;
+mod new_steps;
 
 pub use crate::hub::Hub;
 pub use crate::journal_rules::{Entry, Event};

@@ -4,3 +4,4 @@ mod Sessions
 mod Restating
 mod Turned
 mod Turns
+mod Growing

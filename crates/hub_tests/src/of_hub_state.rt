@@ -1,7 +1,9 @@
 // A journal of two sessions on a problem whose one scenario is empty.
-ghost use Rattle.std.specs.Prelude.{◌≡◌, ◌<◌, ◌+◌, [], ◌∷◌, Some, None, IfOk, All, length, slice_get};
+ghost use Rattle.std.specs.Prelude.{◌≡◌, ◌<◌, ◌+◌, [], ◌∷◌, Some, None, IfOk, OnOk, All, length, slice_get};
+ghost use mathlib.Core.List.{IsPrefix};
 ghost use Rattle.refutation_check.specs.Chain.{IsAccepted};
 ghost use Rattle.rel_formula.specs.Kernel.{conjunction, no_formulas};
+ghost use Rattle.hub_state.specs.Journal.Journal.{pool_of};
 ghost use Rattle.hub_state.specs.HubView.{HasTranslation};
 
 use cnf_core::{Clause, Cnf};
@@ -95,11 +97,43 @@ pub(crate) fn restated(alloc: Global, cnf: &Cnf, n: u32) -> Result<Log, Fail>
 fn publish_and_share(alloc: Global, hub: &mut Hub, t: Arc<Translation>, n: u32) -> Result<u32, Fail>
     requires problem { slice_get hub.old.problems 0 ≡ Some t.value.problem }
     requires few { n < 100000 }
-    ensures { hub.new.problems ≡ hub.old.problems }
+    ensures problems { hub.new.problems ≡ hub.old.problems }
+    ensures published { OnOk result (HasTranslation hub.new.journal 0) }
+    ensures grows { OnOk result (IsPrefix (pool_of 0 hub.old.journal) (pool_of 0 hub.new.journal)) }
 {
     let kept = hub.publish(1, 0, t)?;
     let free = restated(alloc, kept.cnf(), n)?;
     Ok(hub.share(alloc, 1, 0, 0, &free)?)
+}
+
+// Shares so many steps, and imports what came behind those that are had: how many are had then.
+fn share_and_import(
+    alloc: Global,
+    hub: &mut Hub,
+    t: Arc<Translation>,
+    n: u32,
+    have: &mut Log,
+) -> Result<usize, Fail>
+    requires problem { slice_get hub.old.problems 0 ≡ Some t.value.problem }
+    requires few { n < 100000 }
+    requires begins { IsPrefix have.old (pool_of 0 hub.old.journal) }
+    ensures problems { OnOk result (hub.new.problems ≡ hub.old.problems) }
+    ensures begins { OnOk result (IsPrefix have.new (pool_of 0 hub.new.journal)) }
+{
+    publish_and_share(alloc, hub, t, n)?;
+    hub.import_behind(alloc, 2, 0, have)?;
+    Ok(have.steps().len())
+}
+
+// Shares three steps, two and none, and imports each time what came since: how many are had each time.
+fn import_three_times(alloc: Global, hub: &mut Hub) -> Result<(usize, usize, usize), Fail>
+    requires { hub.old ≡ record { problems = record { relations = []; tops = []; formula = conjunction no_formulas } ∷ []; journal = [] } }
+{
+    let mut have = Log::new(alloc);
+    let first = share_and_import(alloc, hub, translated(alloc)?, 3, &mut have)?;
+    let second = share_and_import(alloc, hub, translated(alloc)?, 2, &mut have)?;
+    let third = share_and_import(alloc, hub, translated(alloc)?, 0, &mut have)?;
+    Ok((first, second, third))
 }
 
 // The first session: opened, published, imported, a scenario shown, an end with its proof, a step shared.
@@ -247,6 +281,24 @@ fn a_pool_takes_20_000_steps(rt: HostRuntime) -> Result<(), Fail> {
     let second = translated(alloc)?;
     assert_eq!(rt; publish_and_share(alloc, &mut hub, second, 3)?, 1);
     assert!(rt; reads(&hub, &[(1, 1, 0), (1, 3, 9), (1, 3, 1)]));
+    Ok(())
+}
+
+#[test]
+fn an_import_brings_what_came_since(rt: HostRuntime) -> Result<(), Fail> {
+    let alloc = rt.alloc();
+    let mut hub = hub_of_one(alloc)?;
+    assert_eq!(rt; import_three_times(alloc, &mut hub)?, (3, 5, 5));
+    let want = [
+        (1, 1, 0),
+        (1, 3, 3),
+        (2, 2, 3),
+        (1, 3, 2),
+        (2, 2, 5),
+        (1, 3, 0),
+        (2, 2, 5),
+    ];
+    assert!(rt; reads(&hub, &want));
     Ok(())
 }
 

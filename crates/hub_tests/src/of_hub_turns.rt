@@ -15,8 +15,8 @@ use std::sync::{Arc, Wait};
 use std::test::Fail;
 use translation::Translation;
 
-// Publishes the translation, imports the pool, which is empty, shares two steps that say the first clause again, and imports
-// the pool once more: the translation that is kept, how many steps were shared, and the pool.
+// Publishes the translation, imports the pool, which is empty, shares two steps that say the first clause again, imports what
+// came since, and once more, where nothing did: the translation that is kept, how many steps were shared, and the pool.
 fn publish_and_share<R: Wait + Abort>(
     rt: &R,
     alloc: Global,
@@ -29,12 +29,14 @@ fn publish_and_share<R: Wait + Abort>(
     ensures goes { WentOn lock.now pass.old pass.new }
 {
     let kept = publish(rt, lock, pass, 0, t)?;
-    let pool = import(rt, alloc, lock, pass, 0)?;
+    let mut pool = Log::new(alloc);
+    import(rt, alloc, lock, pass, 0, &mut pool)?;
     assert!(rt; pool.steps().is_empty());
     let steps = restated(alloc, kept.cnf(), 2)?;
     let shared = share(rt, alloc, lock, pass, 0, 0, &steps)?;
-    let again = import(rt, alloc, lock, pass, 0)?;
-    Ok((kept, shared, again))
+    import(rt, alloc, lock, pass, 0, &mut pool)?;
+    import(rt, alloc, lock, pass, 0, &mut pool)?;
+    Ok((kept, shared, pool))
 }
 
 // Opens a session under the pass's number, and sets its budget.
@@ -85,6 +87,7 @@ fn passes_take_turns_on_a_hub(rt: HostRuntime) -> Result<(), Fail> {
         (0, 1, 0),
         (0, 2, 0),
         (0, 3, 2),
+        (0, 2, 2),
         (0, 2, 2),
         (1, 4, 50),
         (1, 7, 0),

@@ -89,6 +89,10 @@ front_again zero xs = refl
 front_again (suc n) [] = refl
 front_again (suc n) (x ∷ xs) = ap (λ (ys : List LogStep). x ∷ ys) (front_again n xs)
 
+-- the pool of a journal begins that of a longer one
+pub pool_grows : (key : ℕ) (seen journal : List Noted) → IsPrefix seen journal → IsPrefix (pool_of key seen) (pool_of key journal)
+pool_grows key seen journal (rest, whole) = (pool_of key rest, sym (flat_map-append (λ (y : Noted). added_to key y.note) seen rest) ∙ ap (pool_of key) whole)
+
 module _ (lock : TableId) (old mid : Seen) (found : HubView) (turn : IsFound lock old mid found) where
   pub same_own : of_pass by_of old.view.number found.journal ≡ of_pass by_of old.view.number old.view.seen
   same_own = turn.mine ∙ sym turn.idle.own
@@ -114,6 +118,10 @@ module _ (lock : TableId) (old mid : Seen) (found : HubView) (turn : IsFound loc
         within = omega (arith, at_is, long);
         accepted = subst (λ (xs : List LogStep). IsAccepted (members_of t.cnf.clauses xs) free) (sym front) accepted;
       }
+
+  -- and steps that begin the key's pool begin it still
+  pub begins_found : (key : ℕ) (have : List LogStep) → IsPrefix have (pool_of key old.view.seen) → IsPrefix have (pool_of key found.journal)
+  begins_found key have is = prefix_trans have (pool_of key old.view.seen) (pool_of key found.journal) is (pool_grows key old.view.seen found.journal turn.seen)
 
   -- and what the pass may open or record by what it has seen, it may now
   pub may_open_found : (key budget : ℕ) → MayAdd old (Opened key budget) → MayFollow found.problems found.journal old.view.number (Opened key budget)
@@ -225,6 +233,10 @@ module _ (lock : TableId) (old mid new : Seen) (found left : HubView) (turn : Is
       } in
       (has, imported_pool found.problems new.view.seen legal_now old.view.number key t pool has)
 
+  -- steps that began the key's pool in the turn
+  pub begins_now : (key : ℕ) (have : List LogStep) → IsPrefix have (pool_of key found.journal) → IsPrefix have (pool_of key new.view.seen)
+  begins_now key have is = prefix_trans have (pool_of key found.journal) (pool_of key new.view.seen) is (pool_grows key found.journal new.view.seen (leaves.more, sym (seen_is ∙ leaves.journal)))
+
   -- shared steps
   pub has_shared : (key at : ℕ) (t : Translated) (free : List LogStep) (n : ℕ) → left ≡ with_entry found old.view.number (Shared key (take n (moved_steps found.journal key t at free))) → IsLongestFit (pool_of key found.journal) (moved_steps found.journal key t at free) n →
       (shared : List LogStep) × (n ≡ length shared) × HasAdded old new (Shared key shared) × SharesFront t old.view.number key at free new.view.seen
@@ -270,11 +282,11 @@ import_stays_shared (Err e) lock old mid new found left turn leaves new_lock new
 -- ---- by whether the call gave an error
 
 -- what was imported is the whole pool, and its length stands in the entry
-pub imported_as : {E : Type 0} (r : Result (List LogStep) E) (by number key : ℕ) (found left : HubView) → by ≡ number → IfOk r (λ pool. pool ≡ pool_of key found.journal) → OnOk r (left ≡ with_entry found by (Imported key (length (pool_of key found.journal)))) →
-    IfOk r (λ pool. (left ≡ with_entry found number (Imported key (length pool))) × (pool ≡ pool_of key found.journal))
-imported_as (Ok pool) by number key found left same all is =
+pub imported_as : {A E : Type 0} (r : Result A E) (by number key : ℕ) (found left : HubView) (pool : List LogStep) → by ≡ number → OnOk r (pool ≡ pool_of key found.journal) → OnOk r (left ≡ with_entry found by (Imported key (length (pool_of key found.journal)))) →
+    OnOk r ((left ≡ with_entry found number (Imported key (length pool))) × (pool ≡ pool_of key found.journal))
+imported_as (Ok x) by number key found left pool same all is =
     (subst (λ (xs : List LogStep). left ≡ with_entry found number (Imported key (length xs))) (sym all) (subst (λ (n : ℕ). left ≡ with_entry found n (Imported key (length (pool_of key found.journal)))) same is), all)
-imported_as (Err e) by number key found left same all is = tt
+imported_as (Err e) by number key found left pool same all is = tt
 
 -- what was shared is the longest front that fits
 pub shared_as : {E : Type 0} (r : Result ℕ E) (by : ℕ) (lock : TableId) (old mid new : Seen) (found left : HubView) (turn : IsFound lock old mid found) (leaves : Leaves old.view.number found left) (new_lock : new.lock ≡ mid.lock) (new_view : new.view ≡ out_of_turn (seeing by_of mid.view left.journal))

@@ -1,5 +1,6 @@
 // What a turn does to the hub that it holds.
 ghost use Rattle.std.specs.Prelude.{◌≡◌, Some, IfOk, OnOk, OnErr, length, slice_get, take};
+ghost use mathlib.Core.List.{IsPrefix};
 ghost use Rattle.clause_pool.specs.Limits.{IsLongestFit};
 ghost use Rattle.translation_rules.specs.Translation.{Translated};
 ghost use Rattle.hub_state.specs.Journal.Noted.{Imported as WasImported, Shared as WasShared, Opened as WasOpened, Recorded as WasRecorded};
@@ -34,23 +35,27 @@ pub(crate) fn publish_held(
     kept
 }
 
-/// Takes the key's whole pool.
+/// Puts behind steps that begin the key's pool all that came since.
 pub(crate) fn import_held(
     alloc: Global,
     held: &mut Held<Hub>,
     by: u32,
     key: u32,
-) -> Result<Log, AllocError>
-    requires { HasTranslation held.old.value.journal key }
+    have: &mut Log,
+) -> Result<(), AllocError>
+    requires published { HasTranslation held.old.value.journal key }
+    requires begins { IsPrefix have.old (pool_of key held.old.value.journal) }
     ensures pass { held.new.pass ≡ held.old.pass }
     ensures leaves { Leaves by held.old.value held.new.value }
-    ensures pool { IfOk result (λ pool. pool ≡ pool_of key held.old.value.journal) }
+    ensures pool { OnOk result (have.new ≡ pool_of key held.old.value.journal) }
+    ensures grows { IsPrefix have.old have.new }
+    ensures begins { IsPrefix have.new (pool_of key held.old.value.journal) }
     ensures entry { OnOk result (held.new.value ≡ with_entry held.old.value by (WasImported key (length (pool_of key held.old.value.journal)))) }
     ensures err { OnErr result (held.new.value ≡ held.old.value) }
 {
-    let pool = held.get_mut().import(alloc, by, key);
+    let imported = held.get_mut().import_behind(alloc, by, key, have);
     let _ = held.get().journal(); // for the proof
-    pool
+    imported
 }
 
 /// Adds to the key's pool what fits of the steps.

@@ -1,5 +1,6 @@
 // One call of the hub in one turn of a pass.
 ghost use Rattle.std.specs.Prelude.{◌≡◌, List, IfOk, OnOk, OnErr, length};
+ghost use mathlib.Core.List.{IsPrefix};
 ghost use Rattle.refutation_check.specs.declared.log.Step.{Step as LogStep};
 ghost use Rattle.refutation_check.specs.Chain.{members_of, IsAccepted};
 ghost use Rattle.translation_rules.specs.Translation.{Translated};
@@ -41,28 +42,33 @@ pub fn publish<R: Wait>(
     kept
 }
 
-/// The whole pool of a key that has its translation, which is an accepted log over the translation's clauses. Adds an entry that
-/// names the pool's length. After an error nothing was added.
+/// Puts behind steps that begin the pool of a key that has its translation all that came since: so they are the whole pool, which
+/// is an accepted log over the translation's clauses. Adds an entry that names the pool's length. After an error nothing was
+/// added, and the steps still begin the pool.
 pub fn import<R: Wait>(
     rt: &R,
     alloc: Global,
     lock: &Turns<Hub>,
     pass: &mut Pass<Hub>,
     key: u32,
-) -> Result<Log, AllocError>
+    have: &mut Log,
+) -> Result<(), AllocError>
     requires idle { IsIdle lock.now pass.old }
     requires published { HasTranslation pass.old.view.seen key }
+    requires begins { IsPrefix have.old (pool_of key pass.old.view.seen) }
     ensures goes { WentOn lock.now pass.old pass.new }
-    ensures added { IfOk result (λ pool. HasAdded pass.old pass.new (WasImported key (length pool))) }
-    ensures pool { IfOk result (λ pool. pool ≡ pool_of key pass.new.view.seen) }
-    ensures imported { (t : Translated) → IsPublished pass.old.view.seen key t → IfOk result (λ pool. HasImported pass.new.view.seen pass.old.view.number key t pool × IsPool t pool) }
+    ensures added { OnOk result (HasAdded pass.old pass.new (WasImported key (length have.new))) }
+    ensures pool { OnOk result (have.new ≡ pool_of key pass.new.view.seen) }
+    ensures imported { (t : Translated) → IsPublished pass.old.view.seen key t → OnOk result (HasImported pass.new.view.seen pass.old.view.number key t have.new × IsPool t have.new) }
+    ensures grows { IsPrefix have.old have.new }
+    ensures begins { IsPrefix have.new (pool_of key pass.new.view.seen) }
     ensures err { OnErr result (pass.new.view.own ≡ pass.old.view.own) }
 {
     let by = pass.number();
     let mut held = lock.take(rt, pass);
-    let pool = import_held(alloc, &mut held, by, key);
+    let imported = import_held(alloc, &mut held, by, key, have);
     lock.give(pass, held);
-    pool
+    imported
 }
 
 /// Adds to the key's pool as many of the steps, the first ones, as fit its limits, and answers how many they are. The steps go

@@ -3,6 +3,8 @@ use Rattle.std.proofs.Common.{◌≡◌, inl, inr, ◌==◌, ℕ, List, [], ◌�
 use Rattle.std.proofs.lemmas.Bool.{eq-eqb}
 use Rattle.std.proofs.lemmas.List.{append_cancel_left, map-append}
 use Rattle.std.proofs.lemmas.List.Elements.{All-nil, All-cons, All-head, All-tail, All-contains, All-append, Contains-append_cases, filter-append}
+use mathlib.Core.List.{IsPrefix}
+use base.Growing.{prefix_trans}
 use Rattle.atomic_table.specs.Seated.{TableId}
 use Rattle.hub_lock.specs.Passes.{PassView, of_pass}
 use Rattle.refutation_check.specs.declared.log.Step.{Step as LogStep}
@@ -10,12 +12,15 @@ use Rattle.cnf_core.specs.declared.literal.Lit.{Lit}
 use Rattle.rel_formula.specs.Bounds.{Bounded}
 use Rattle.rel_formula.proofs.OpenCells.{has_filter}
 use Rattle.translation_rules.specs.Translation.{Translated}
+use Rattle.session_state.specs.Sessions.Fits.{InSession}
 use Rattle.hub_state.specs.Journal.Noted.{Note, Noted, Imported, Shared}
-use Rattle.hub_state.specs.Journal.Journal.{HasNoted}
+use Rattle.hub_state.specs.Journal.Journal.{HasNoted, pool_of}
 use Rattle.hub_turns.specs.Groups.{AreShared, SharesFront, SharesItsSteps}
 use Rattle.hub_turns.specs.Turned.{IsIdle, WentOn}
+use Rattle.hub_turns.proofs.Going.{pool_grows}
 use Rattle.hub_turns.proofs.Onward.{same_number}
 use Rattle.session_turns.specs.Added.{HasAddedAll}
+use Rattle.session_turns.specs.Seated.{BeginsPool}
 
 abbrev pub Seen : Type 0
 Seen = PassView Noted (List Bounded)
@@ -97,3 +102,8 @@ steps_stay lock a b key notes idle went added shared t local pool log steps =
 
 pub shares_none : (a : Seen) (key : ℕ) → (notes : List Note) × HasAddedAll a a notes × AreShared key notes
 shares_none a key = ([], added_none a a refl, All-nil (λ (note : Note). (steps : List LogStep) × (note ≡ Shared key steps)))
+
+-- what begins the pool of the session's key begins it still
+pub begins_still : (lock : TableId) (a b : Seen) (x y : InSession) (pool : List LogStep) → BeginsPool pool a x → WentOn lock a b → y.key ≡ x.key → BeginsPool pool b y
+begins_still lock a b x y pool begins went key =
+    subst (λ (k : ℕ). IsPrefix pool (pool_of k b.view.seen)) (sym key) (prefix_trans pool (pool_of x.key a.view.seen) (pool_of x.key b.view.seen) begins (pool_grows x.key a.view.seen b.view.seen went.seen))

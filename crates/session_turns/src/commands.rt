@@ -6,12 +6,13 @@ ghost use Rattle.session_rules.specs.States.{top_floor};
 ghost use Rattle.session_turns.specs.Serving.{IsPrintable};
 ghost use Rattle.hub_turns.specs.Turned.{WentOn};
 ghost use Rattle.session_turns.specs.Added.{HasServed};
-ghost use Rattle.session_turns.specs.Seated.{IsSeated};
+ghost use Rattle.session_turns.specs.Seated.{IsSeated, BeginsPool};
 
 use crate::showing::show_all;
 use crate::steps::take_step;
 use hub_lock::{Pass, Turns};
 use hub_state::Hub;
+use refutation_check::Log;
 use session_rules::Reply;
 use session_state::session_search::Session;
 use session_words::Command;
@@ -21,7 +22,8 @@ use translation::Translation;
 
 /// Answers a command of the session of the pass's number, in turns of the pass. Each step that a search answers imports the pool
 /// of the session's key first, shares the search's free steps, and is recorded before the session takes its reply in. `all` does
-/// so for each scenario; what was shown before it was refused, or wanted memory, stays shown and recorded.
+/// so for each scenario; what was shown before it was refused, or wanted memory, stays shown and recorded. The first import of a
+/// command brings the whole pool, the later ones of `all` what came since.
 ///
 /// The session is one over the translation of its key, which the pass has seen, and has shown at most 20,000 scenarios with those
 /// that the command asks for. A budget is at most 100,000, and `all` asks for some scenario.
@@ -42,8 +44,42 @@ pub fn command<R: Wait>(
     ensures seated { (shown : ℕ) → IsSeated lock.now translation.now shown pass.old session.old → IsSeated lock.now translation.now (shown + asks command.now) pass.new session.new }
     ensures key { session.new.key ≡ session.old.key }
 {
+    let mut pool = Log::new(alloc);
+    answer(
+        rt,
+        alloc,
+        lock,
+        pass,
+        session,
+        &mut pool,
+        translation,
+        command,
+    )
+}
+
+/// Answers a command of a session that has these steps of its key's pool: an import puts only those behind them that came since.
+pub(crate) fn answer<R: Wait>(
+    rt: &R,
+    alloc: Global,
+    lock: &Turns<Hub>,
+    pass: &mut Pass<Hub>,
+    session: &mut Session,
+    pool: &mut Log,
+    translation: &Translation,
+    command: &Command,
+) -> Reply
+    requires seated { (shown : ℕ) × IsSeated lock.now translation.now shown pass.old session.old × (shown + asks command.now ≤ 20000) }
+    requires allowed { IsAllowed command.now }
+    requires begins { BeginsPool pool.old pass.old session.old }
+    ensures goes { WentOn lock.now pass.old pass.new }
+    ensures served { HasServed translation.now pass.old pass.new session.old session.new command.now result }
+    ensures printable { IsPrintable translation.now (top_floor session.old.kept.state) result }
+    ensures seated { (shown : ℕ) → IsSeated lock.now translation.now shown pass.old session.old → IsSeated lock.now translation.now (shown + asks command.now) pass.new session.new }
+    ensures key { session.new.key ≡ session.old.key }
+    ensures begins { BeginsPool pool.new pass.new session.new }
+{
     match command {
-        Command::Step(step) => take_step(rt, alloc, lock, pass, session, translation, step),
-        Command::All(count) => show_all(rt, alloc, lock, pass, session, translation, *count),
+        Command::Step(step) => take_step(rt, alloc, lock, pass, session, pool, translation, step),
+        Command::All(count) => show_all(rt, alloc, lock, pass, session, pool, translation, *count),
     }
 }

@@ -6,9 +6,10 @@ ghost use Rattle.hub_turns.specs.Turned.{WentOn};
 ghost use Rattle.session_turns.specs.Seated.{IsSeated};
 ghost use Rattle.session_turns.specs.Served.{IsOpened, IsServedScript};
 
-use crate::commands::command;
+use crate::commands::answer;
 use hub_lock::{Gate, Pass, Turns};
 use hub_state::Hub;
+use refutation_check::Log;
 use session_rules::laws::a_run_is_sound;
 use session_rules::{Replies, Scenarios, Transcript};
 use session_state::session_search::Session;
@@ -19,6 +20,8 @@ use translation::Translation;
 
 /// Serves a session that was just opened to the last of its commands, in turns of its pass: one reply for each, and the top floor
 /// before it. The gate is passed before each command, with the session's place and the command's.
+///
+/// The session keeps what it imported, so that each later import brings only what came since.
 ///
 /// What the pass has then seen tells the transcript, which can be printed over the translation. The commands are fewer than 2^32,
 /// and ask for at most 20,000 scenarios. Where a command wants memory its reply says so, and the next one is served; the error
@@ -43,12 +46,22 @@ pub fn serve_session<R: Wait, G: Gate>(
         → IfOk result (λ x. IsServedScript problems pass.new.view.seen translation.now pass.new.view.number key budget commands.now x) }
 {
     a_run_is_sound();
+    let mut pool = Log::new(alloc);
     let mut replies = Vec::with_capacity(alloc, commands.len())?;
     let mut floors = Vec::with_capacity(alloc, commands.len())?;
     for (number, asked) in commands.iter().enumerate() {
         gate.pass(place, number as u32);
         floors.push_reserved(session.floor().copy(alloc)?);
-        replies.push_reserved(command(rt, alloc, lock, pass, session, translation, asked));
+        replies.push_reserved(answer(
+            rt,
+            alloc,
+            lock,
+            pass,
+            session,
+            &mut pool,
+            translation,
+            asked,
+        ));
     }
     Ok(Transcript {
         replies: Replies::of(replies),

@@ -12,11 +12,12 @@ ghost use Rattle.session_turns.specs.Showing.{IsFirst};
 ghost use Rattle.hub_state.specs.Journal.Noted.{Noted};
 ghost use Rattle.hub_turns.specs.Turned.{WentOn};
 ghost use Rattle.session_turns.specs.Added.{HasServed, HasShownAll};
-ghost use Rattle.session_turns.specs.Seated.{IsSeated};
+ghost use Rattle.session_turns.specs.Seated.{IsSeated, BeginsPool};
 
 use crate::steps::take_step;
 use hub_lock::{Pass, Turns};
 use hub_state::Hub;
+use refutation_check::Log;
 use rel_formula::Scenario;
 use session_rules::laws::a_run_is_sound;
 use session_rules::{Reply, Scenarios};
@@ -40,16 +41,19 @@ pub(crate) fn show_all<R: Wait>(
     lock: &Turns<Hub>,
     pass: &mut Pass<Hub>,
     session: &mut Session,
+    pool: &mut Log,
     translation: &Translation,
     count: u32,
 ) -> Reply
     requires seated { (shown : ℕ) × IsSeated lock.now translation.now shown pass.old session.old × (shown + count ≤ 20000) }
     requires some { 1 ≤ count }
+    requires begins { BeginsPool pool.old pass.old session.old }
     ensures goes { WentOn lock.now pass.old pass.new }
     ensures served { HasServed translation.now pass.old pass.new session.old session.new (All count) result }
     ensures printable { IsPrintable translation.now (top_floor session.old.kept.state) result }
     ensures seated { (shown : ℕ) → IsSeated lock.now translation.now shown pass.old session.old → IsSeated lock.now translation.now (shown + count) pass.new session.new }
     ensures key { session.new.key ≡ session.old.key }
+    ensures begins { BeginsPool pool.new pass.new session.new }
 {
     a_run_is_sound();
     let Ok(scenarios) = Vec::with_capacity(alloc, count as usize) else {
@@ -60,7 +64,16 @@ pub(crate) fn show_all<R: Wait>(
         scenarios,
     };
     for _time in 0..count {
-        if let Some(reply) = show_one(rt, alloc, lock, pass, session, translation, &mut showing) {
+        if let Some(reply) = show_one(
+            rt,
+            alloc,
+            lock,
+            pass,
+            session,
+            pool,
+            translation,
+            &mut showing,
+        ) {
             return reply;
         }
     }
@@ -77,11 +90,13 @@ fn show_one<R: Wait>(
     lock: &Turns<Hub>,
     pass: &mut Pass<Hub>,
     session: &mut Session,
+    pool: &mut Log,
     translation: &Translation,
     showing: &mut Showing,
 ) -> Option<Reply>
     requires seated { IsSeated lock.now translation.now 19999 pass.old session.old }
     requires room { vec_len showing.old.scenarios < vec_capacity showing.old.scenarios }
+    requires begins { BeginsPool pool.old pass.old session.old }
     ensures goes { WentOn lock.now pass.old pass.new }
     ensures shown { (start : PassView Noted (List Bounded)) (old : InSession) → start.view.number ≡ pass.old.view.number → old.key ≡ session.old.key → HasShownAll translation.now start pass.old old session.old showing.old.scenarios.items
         → IsFirst old.kept.state showing.old.scenarios.items showing.old.first
@@ -91,9 +106,19 @@ fn show_one<R: Wait>(
     ensures count { MatchOption result ((length showing.new.scenarios.items ≡ length showing.old.scenarios.items + 1) × (vec_len showing.new.scenarios ≡ vec_len showing.old.scenarios + 1)) (λ reply. IsPrintable translation.now (top_floor session.old.kept.state) reply) }
     ensures seated { (shown : ℕ) → IsSeated lock.now translation.now shown pass.old session.old → IsSeated lock.now translation.now (shown + 1) pass.new session.new }
     ensures key { session.new.key ≡ session.old.key }
+    ensures begins { BeginsPool pool.new pass.new session.new }
 {
     a_run_is_sound();
-    match take_step(rt, alloc, lock, pass, session, translation, &Step::Next) {
+    match take_step(
+        rt,
+        alloc,
+        lock,
+        pass,
+        session,
+        pool,
+        translation,
+        &Step::Next,
+    ) {
         Reply::Shown { number, scenario } => {
             showing.add(number, scenario);
             None

@@ -10,13 +10,14 @@ ghost use Rattle.session_turns.specs.Serving.{IsPrintable};
 ghost use Rattle.hub_state.specs.Journal.Journal.{IsPublished};
 ghost use Rattle.hub_turns.specs.Turned.{IsIdle, WentOn};
 ghost use Rattle.session_turns.specs.Added.{HasBegun, HasProposed, HasAnswered};
-ghost use Rattle.session_turns.specs.Seated.{IsSeated};
+ghost use Rattle.session_turns.specs.Seated.{IsSeated, BeginsPool};
 
 use crate::settling::settle;
 use crate::sharing::share_parts;
 use hub_lock::{Pass, Turns};
 use hub_state::Hub;
 use hub_turns::import;
+use refutation_check::Log;
 use script_text::proof_lines::laws::covered_scenarios_are_cells;
 use session_rules::Reply;
 use session_rules::laws::{
@@ -29,28 +30,31 @@ use std::sync::Wait;
 use translation::Translation;
 
 /// Answers a step, and takes the answer in once it is recorded. After want of memory the session is as before, and nothing is
-/// recorded.
+/// recorded. What the session has of its key's pool is what it imported so far.
 pub(crate) fn take_step<R: Wait>(
     rt: &R,
     alloc: Global,
     lock: &Turns<Hub>,
     pass: &mut Pass<Hub>,
     session: &mut Session,
+    pool: &mut Log,
     translation: &Translation,
     step: &Step,
 ) -> Reply
     requires seated { IsSeated lock.now translation.now 20000 pass.old session.old }
+    requires begins { BeginsPool pool.old pass.old session.old }
     requires allowed { IsAllowed (ToStep step.now) }
     ensures goes { WentOn lock.now pass.old pass.new }
     ensures answered { HasAnswered translation.now pass.old pass.new session.old session.new step.now result }
     ensures printable { IsPrintable translation.now (top_floor session.old.kept.state) result }
     ensures seated { (shown : ℕ) → IsSeated lock.now translation.now shown pass.old session.old → IsSeated lock.now translation.now (shown + asks_step step.now) pass.new session.new }
     ensures key { session.new.key ≡ session.old.key }
+    ensures begins { BeginsPool pool.new pass.new session.new }
 {
     a_run_is_sound();
     memory_changes_nothing();
     covered_scenarios_are_cells();
-    match proposed(rt, alloc, lock, pass, session, translation, step) {
+    match proposed(rt, alloc, lock, pass, session, pool, translation, step) {
         Ok(proposal) => settle(rt, alloc, lock, pass, session, step, proposal),
         Err(_) => Reply::Memory,
     }
@@ -63,11 +67,13 @@ fn proposed<R: Wait>(
     lock: &Turns<Hub>,
     pass: &mut Pass<Hub>,
     session: &mut Session,
+    pool: &mut Log,
     translation: &Translation,
     step: &Step,
 ) -> Result<Proposal, AllocError>
     requires idle { IsIdle lock.now pass.old }
     requires published { IsPublished pass.old.view.seen session.old.key translation.now }
+    requires begins { BeginsPool pool.old pass.old session.old }
     requires fits { FitsProblem translation.now.problem session.old.kept }
     requires few_shown { length session.old.kept.state.shown ≤ 20000 }
     requires allowed { IsAllowed (ToStep step.now) }
@@ -76,31 +82,34 @@ fn proposed<R: Wait>(
     ensures cut { (pass.new.view.own ≡ pass.old.view.own) ⊎ HasBegun pass.old pass.new step.now session.old }
     ensures proposal { IfOk result (HasProposed translation.now pass.new session.old step.now) }
     ensures same { session.new ≡ session.old }
+    ensures begins { BeginsPool pool.new pass.new session.old }
 {
     nothing_done_is_work();
     match step {
-        Step::Next => searched(rt, alloc, lock, pass, session, translation, step),
-        Step::Offers => searched(rt, alloc, lock, pass, session, translation, step),
-        Step::Augment { .. } => searched(rt, alloc, lock, pass, session, translation, step),
+        Step::Next => searched(rt, alloc, lock, pass, session, pool, translation, step),
+        Step::Offers => searched(rt, alloc, lock, pass, session, pool, translation, step),
+        Step::Augment { .. } => searched(rt, alloc, lock, pass, session, pool, translation, step),
         Step::Back => session.propose_plain(alloc, step),
         Step::Budget(_) => session.propose_plain(alloc, step),
         Step::Proof => session.propose_plain(alloc, step),
     }
 }
 
-// What the session proposes for a step that a search answers: the key's pool is imported first, and what the search found out
-// that rests on the translation alone is shared.
+// What the session proposes for a step that a search answers: what came into the key's pool since it imported last is imported
+// first, and what the search found out that rests on the translation alone is shared.
 fn searched<R: Wait>(
     rt: &R,
     alloc: Global,
     lock: &Turns<Hub>,
     pass: &mut Pass<Hub>,
     session: &mut Session,
+    pool: &mut Log,
     translation: &Translation,
     step: &Step,
 ) -> Result<Proposal, AllocError>
     requires idle { IsIdle lock.now pass.old }
     requires published { IsPublished pass.old.view.seen session.old.key translation.now }
+    requires begins { BeginsPool pool.old pass.old session.old }
     requires fits { FitsProblem translation.now.problem session.old.kept }
     requires few_shown { length session.old.kept.state.shown ≤ 20000 }
     requires asked { NeedsTranslation step.now }
@@ -109,12 +118,13 @@ fn searched<R: Wait>(
     ensures cut { (pass.new.view.own ≡ pass.old.view.own) ⊎ HasBegun pass.old pass.new step.now session.old }
     ensures proposal { IfOk result (HasProposed translation.now pass.new session.old step.now) }
     ensures same { session.new ≡ session.old }
+    ensures begins { BeginsPool pool.new pass.new session.old }
 {
     one_floor_is_asked_for();
     let _ = translation.problem().relations(); // for the proof
     let key = session.key();
-    let pool = import(rt, alloc, lock, pass, key)?;
-    let proposal = session.propose(alloc, translation, &pool, step)?;
+    import(rt, alloc, lock, pass, key, pool)?;
+    let proposal = session.propose(alloc, translation, pool, step)?;
     share_parts(
         rt,
         alloc,
@@ -122,7 +132,7 @@ fn searched<R: Wait>(
         pass,
         key,
         translation,
-        &pool,
+        pool,
         proposal.parts(),
     )?;
     Ok(proposal)

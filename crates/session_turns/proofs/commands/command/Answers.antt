@@ -1,21 +1,11 @@
-use Rattle.std.proofs.Common.{◌+◌, sym, subst, arith}
-use Rattle.session_words.specs.declared.commands.Command.{Command}
-use Rattle.script_format.specs.Reading.{asks}
-use Rattle.session_turns.specs.Seated.{IsSeated}
-use Rattle.session_turns.proofs.ShownTogether.{one_step}
-use Rattle.session_turns.proofs.Answering.{seated_wider}
+use Rattle.std.proofs.Common.{List, refl, sym, subst}
+use Rattle.refutation_check.specs.declared.log.Step.{Step as LogStep}
+use Rattle.hub_state.specs.Journal.Journal.{pool_of}
+use Rattle.session_turns.specs.Seated.{BeginsPool}
 use Rattle.session_turns.proofs.commands.command.Goals as goal
 
-pub take_step-requires-clause-seated : goal.take_step-requires-clause-seated
-take_step-requires-clause-seated g c = seated_wider c.args.lock.now c.args.translation.now c.requires.seated.0 20000 c.args.pass.now c.args.session.now (let few = c.requires.seated.2 in omega arith) c.requires.seated.1
-
-pub returns-in-Step-clause-served : goal.returns-in-Step-clause-served
-returns-in-Step-clause-served g c = one_step c.args.translation.now c.args.pass.now c.take_step.new.pass c.args.session.now c.take_step.new.session c.args.command.now _ c.take_step.result c.in-Step.is c.take_step.ensures.answered
-
-pub returns-in-Step-clause-seated : goal.returns-in-Step-clause-seated
-returns-in-Step-clause-seated g c shown seated =
-    subst (λ (k : Command). IsSeated c.args.lock.now c.args.translation.now (shown + asks k) c.take_step.new.pass c.take_step.new.session) (sym c.in-Step.is) (c.take_step.ensures.seated shown seated)
-
-pub returns-in-All-clause-seated : goal.returns-in-All-clause-seated
-returns-in-All-clause-seated g c shown seated =
-    subst (λ (k : Command). IsSeated c.args.lock.now c.args.translation.now (shown + asks k) c.show_all.new.pass c.show_all.new.session) (sym c.in-All.is) (c.show_all.ensures.seated shown seated)
+pub answer-requires-clause-begins : goal.answer-requires-clause-begins
+answer-requires-clause-begins g c =
+    let p = c.args.pass.now in
+    let x = c.args.session.now in
+    subst (λ (xs : List LogStep). BeginsPool xs p x) (sym c.new-pool.ensures) (pool_of x.key p.view.seen, refl)

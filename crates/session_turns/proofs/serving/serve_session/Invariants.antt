@@ -1,7 +1,7 @@
 use Rattle.std.proofs.Common.{◌≡◌, ◌≤◌, length, take, vec_len, vec_capacity}
 use Rattle.script_format.specs.Limits.{asked_by}
 use Rattle.hub_turns.specs.Turned.{WentOn}
-use Rattle.session_turns.specs.Seated.{IsSeated}
+use Rattle.session_turns.specs.Seated.{IsSeated, BeginsPool}
 use Rattle.session_turns.proofs.SoFar.{IsSoFar}
 use Rattle.session_turns.proofs.serving.serve_session.Given as goal
 
@@ -10,6 +10,7 @@ invariant-loop-number g l = record {
   goes : WentOn l.lock l.fn.pass l.pass;
   seated : IsSeated l.lock l.translation (asked_by (take l.number l.commands)) l.pass l.session;
   key : l.session.key ≡ l.fn.session.key;
+  begins : BeginsPool l.pool l.pass l.session;
   so_far : IsSoFar l.translation l.fn.pass l.pass l.fn.session l.session (take l.number l.commands) l.replies.items l.floors.items;
   replies : vec_len l.replies ≡ l.number;
   floors : vec_len l.floors ≡ l.number;

@@ -35,6 +35,7 @@ loop-time-init g c =
       room = let e = c.in-Ok.ensures.exact in omega arith;
       seated = λ shown seated. seated_wider c.args.lock.now t shown (shown + 0) p x (omega arith) seated;
       key = refl;
+      begins = c.requires.begins;
     }
 
 pub show_one-requires-clause-seated : goal.show_one-requires-clause-seated
@@ -80,6 +81,7 @@ loop-time-preserved g c =
       room = omega (arith, before.room, ensures.room);
       seated = λ shown seated. seated_wider c.args.lock.now c.args.translation.now (shown + c.loop-time._time + 1) (shown + (c.loop-time._time + 1)) c.show_one.new.pass c.show_one.new.session (omega arith) (ensures.seated (shown + c.loop-time._time) (before.seated shown seated));
       key = ensures.key ∙ before.key;
+      begins = ensures.begins;
     }
 
 pub returns-clause-goes : goal.returns-clause-goes
@@ -111,3 +113,6 @@ returns-clause-seated g c shown seated = seated_wider c.args.lock.now c.args.tra
 
 pub returns-clause-key : goal.returns-clause-key
 returns-clause-key g c = c.loop-time.invariant.key
+
+pub returns-clause-begins : goal.returns-clause-begins
+returns-clause-begins g c = c.loop-time.invariant.begins

@@ -2,7 +2,7 @@ use Rattle.std.proofs.Common.{◌≡◌, ◌≤◌, ◌+◌, ℕ, length, vec_le
 use Rattle.session_turns.specs.Showing.{IsFirst}
 use Rattle.hub_turns.specs.Turned.{WentOn}
 use Rattle.session_turns.specs.Added.{HasShownAll}
-use Rattle.session_turns.specs.Seated.{IsSeated}
+use Rattle.session_turns.specs.Seated.{IsSeated, BeginsPool}
 use Rattle.session_turns.proofs.showing.show_all.Given as goal
 
 abbrev pub invariant-loop-time : goal.invariant-loop-time
@@ -15,4 +15,5 @@ invariant-loop-time g l = record {
   room : l.count ≤ vec_capacity l.showing.scenarios;
   seated : (shown : ℕ) → IsSeated l.lock l.translation shown l.fn.pass l.fn.session → IsSeated l.lock l.translation (shown + l._time) l.pass l.session;
   key : l.session.key ≡ l.fn.session.key;
+  begins : BeginsPool l.pool l.pass l.session;
 }

@@ -65,4 +65,5 @@ returns-in_default g c = record {
   count = c.take_step.ensures.printable;
   seated = c.take_step.ensures.seated;
   key = c.take_step.ensures.key;
+  begins = c.take_step.ensures.begins;
 }

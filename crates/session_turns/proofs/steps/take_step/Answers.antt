@@ -6,7 +6,9 @@ use Rattle.session_state.specs.Sessions.Fits.{InSession, FitsProblem}
 use Rattle.session_turns.specs.Serving.{IsOn, IsPrintable}
 use Rattle.session_turns.proofs.Stepping.{printable, on_after, on_still}
 use Rattle.session_turns.specs.Added.{HasProposed, HasSettled}
+use Rattle.session_turns.specs.Seated.{BeginsPool}
 use Rattle.hub_turns.proofs.Onward.{same_number, went_then}
+use Rattle.session_turns.proofs.Turning.{begins_still}
 use Rattle.session_turns.proofs.Answering.{may_record, answered_settled, answered_cut, shares_cut, shares_settled, seated_answered}
 use Rattle.session_turns.proofs.steps.take_step.Goals as goal
 
@@ -67,6 +69,13 @@ returns-in-Ok-clause-seated g c shown seated =
 
 pub returns-in-Ok-clause-key : goal.returns-in-Ok-clause-key
 returns-in-Ok-clause-key g c = c.settle.ensures.key ∙ ap (λ (s : InSession). s.key) c.proposed.ensures.same
+
+pub returns-in-Ok-clause-begins : goal.returns-in-Ok-clause-begins
+returns-in-Ok-clause-begins g c =
+    begins_still c.args.lock.now c.proposed.new.pass c.settle.new.pass c.args.session.now c.settle.new.session c.proposed.new.pool c.proposed.ensures.begins c.settle.ensures.goes (c.settle.ensures.key ∙ ap (λ (s : InSession). s.key) c.proposed.ensures.same)
+
+pub returns-in-Err-clause-begins : goal.returns-in-Err-clause-begins
+returns-in-Err-clause-begins g c = subst (λ (s : InSession). BeginsPool c.proposed.new.pool c.proposed.new.pass s) (sym c.proposed.ensures.same) c.proposed.ensures.begins
 
 pub returns-in-Err-clause-answered : goal.returns-in-Err-clause-answered
 returns-in-Err-clause-answered g c =
