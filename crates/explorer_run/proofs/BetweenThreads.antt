@@ -1,4 +1,5 @@
--- A seat may go to another thread; and threads may share the lock, the translations and the scripts.
+-- A seat may go to another thread, and so may translations; and threads may share the lock, the problems, the translations and the
+-- scripts.
 use mathlib.Core.List.{List, []}
 use Prim.Native.Nat.{ℕ}
 use denote.RattleType.{RattleType}
@@ -49,6 +50,12 @@ script_sync = search (Crossing.crosses, sendable) depth 60 fits 20000
 
 pub translations_sync : IsSync (Arc.the_row Translation.the_row Heap.the_row heap.ghosts)
 translations_sync = Crossing.Arc-sync Translation.the_row translation_send translation_sync
+
+pub translations_send : IsSend (Arc.the_row Translation.the_row Heap.the_row heap.ghosts)
+translations_send = Crossing.Arc-send Translation.the_row translation_send translation_sync
+
+pub problem_sync : IsSync Problem.the_row
+problem_sync = search (Crossing.crosses, expression.crosses, formula.crosses, sendable) depth 60 fits 20000
 
 -- what a closure captures
 pub captures_sync : (Ts : List RattleType) → AllSync (rows (parts Ts)) → (x : (TupleAt [] Ts).Denot) (b o : ℕ) → Common ((TupleAt [] Ts).shr_at x b o)

@@ -4,4 +4,5 @@ pub mod Seating
 pub mod Gathering
 pub mod InOrder
 pub mod Whole
+pub mod Joined
 pub mod BetweenThreads

@@ -39,19 +39,22 @@ pub struct Explorer<'g, G> {
 
 impl<'g, G> Explorer<'g, G> {
     /// An explorer of these problems, whose keys are their places, and the first pass, which has published the translation of
-    /// each. The error comes only for want of memory.
-    pub fn new<R: Wait>(
+    /// each. So many workers at most, in threads of their own, make the translations side by side. The error comes only for want
+    /// of memory.
+    pub fn new<R: Threads + Wait + Sync>(
         rt: &R,
         alloc: Global,
         problems: Vec<Problem>,
         gate: &'g G,
+        workers: u32,
     ) -> Result<(Explorer<'g, G>, Pass<Hub>), AllocError>
         requires few { length problems.items < 2 ^ 32 }
         requires problems { All IsServable problems.items }
+        requires workers { (1 ≤ workers) × (workers ≤ 16) }
         ensures { IfOk result (λ r. IsNewRoot r.0.lock problems.items (values_of r.0.translations.items) r.1) }
     {
         passes_stay_idle();
-        let translations = translate_all(alloc, problems.as_slice())?;
+        let translations = translate_all(rt, alloc, problems.as_slice(), workers)?;
         let (lock, mut root) = turns(alloc, Hub::new(alloc, problems)?)?;
         match publish_all(rt, alloc, &lock, &mut root, translations.as_slice()) {
             Ok(translations) => Ok((

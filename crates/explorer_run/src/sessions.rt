@@ -19,9 +19,9 @@ pub struct Served {
 }
 
 /// Serves the sessions of scripts over one hub of these problems, each by one of so many workers, in threads of their own: first
-/// the translation of each key is published, then the sessions are opened in order, and the workers serve them side by side.
-/// The key of a problem is its place. The gate is passed before each command, with the session's place and the command's. The
-/// error comes only for want of memory.
+/// the workers make the translations of the keys side by side, and each is published; then the sessions are opened in order, and
+/// the workers serve them side by side. The key of a problem is its place. The gate is passed before each command, with the
+/// session's place and the command's. The error comes only for want of memory.
 pub fn serve_sessions<R: Threads + Wait + Sync, G: Gate + Sync>(
     rt: &R,
     alloc: Global,
@@ -36,7 +36,7 @@ pub fn serve_sessions<R: Threads + Wait + Sync, G: Gate + Sync>(
     requires few { length scripts.now < 2 ^ 32 }
     ensures { IfOk result (λ s. AreServed problems.items scripts.now s) }
 {
-    match Explorer::new(rt, alloc, problems, gate) {
+    match Explorer::new(rt, alloc, problems, gate, workers) {
         Ok((explorer, mut root)) => {
             let transcripts = explorer.serve_all(rt, alloc, &mut root, scripts, workers);
             let (_hub, translations) = explorer.finish(root);

@@ -6,6 +6,7 @@ ghost use Rattle.script_format.specs.Limits.{IsAllowed, asked_by};
 ghost use Rattle.explorer_run.specs.Served.{IsServable, IsServableScript, values_of};
 ghost use Rattle.explorer_run.specs.Seats.{IsRoot, StaysRoot};
 
+use cnf_core::Cnf;
 use explorer_run::{Explorer, Gate, OpenGate, Served, SessionScript, serve_sessions};
 use hub_lock::Pass;
 use hub_state::{Entry, Event, Hub};
@@ -14,10 +15,11 @@ use sample_problems::{is_translatable, set_of};
 use session_rules::Reply;
 use session_words::{AtomName, AtomNames, Command, Commands, Step};
 use std::alloc::{AllocError, Global};
-use std::sync::Wait;
 use std::sync::atomic::{AtomicBool, Ordering};
+use std::sync::{Arc, Wait};
 use std::test::Fail;
 use std::thread::Threads;
+use translation::Translation;
 use tuple_core::Name;
 
 // For each atom there are two or more.
@@ -32,7 +34,14 @@ fn none_or_two(alloc: Global) -> Result<Formula, AllocError>
 fn sets(alloc: Global) -> Result<Problem, Fail>
     ensures { IfOk result IsServable }
 {
-    let problem = set_of(alloc, &[0, 1, 2], none_or_two(alloc)?)?;
+    sets_of(alloc, &[0, 1, 2])
+}
+
+// Such sets of the atoms at these places.
+fn sets_of(alloc: Global, places: &[u16]) -> Result<Problem, Fail>
+    ensures { IfOk result IsServable }
+{
+    let problem = set_of(alloc, places, none_or_two(alloc)?)?;
     if is_translatable(alloc, &problem)? {
         Ok(problem)
     } else {
@@ -258,7 +267,7 @@ fn journal_of<R: Threads + Wait + Sync>(rt: &R, alloc: Global, workers: u32) -> 
 {
     let problems = two_problems(alloc)?;
     let scripts = five_sessions(alloc)?;
-    match Explorer::new(rt, alloc, problems, &OpenGate) {
+    match Explorer::new(rt, alloc, problems, &OpenGate, workers) {
         Ok((explorer, mut root)) => {
             let served = explorer.serve_all(rt, alloc, &mut root, scripts.as_slice(), workers);
             let (hub, _) = explorer.finish(root);
@@ -323,7 +332,7 @@ fn one_reply<R: Wait>(
 fn a_session_is_opened_and_taken_back(rt: HostRuntime) -> Result<(), Fail> {
     let alloc = rt.alloc();
     let problems = two_problems(alloc)?;
-    match Explorer::new(&rt, alloc, problems, &OpenGate) {
+    match Explorer::new(&rt, alloc, problems, &OpenGate, 2) {
         Ok((explorer, mut root)) => {
             let replied = one_reply(&rt, alloc, &explorer, &mut root);
             let (hub, _) = explorer.finish(root);
@@ -398,5 +407,61 @@ fn two_workers_serve_side_by_side(rt: HostRuntime) -> Result<(), Fail> {
 #[test]
 fn one_worker_serves_in_order(rt: HostRuntime) -> Result<(), Fail> {
     assert!(rt; !goes_on(&rt, rt.alloc(), 1, 1000)?);
+    Ok(())
+}
+
+// The sets of one atom to five.
+fn five_problems(alloc: Global) -> Result<Vec<Problem>, Fail>
+    ensures { IfOk result (λ problems. All IsServable problems.items × (length problems.items ≡ 5)) }
+{
+    let problems = vec![in alloc;
+        sets_of(alloc, &[0])?,
+        sets_of(alloc, &[0, 1])?,
+        sets_of(alloc, &[0, 1, 2])?,
+        sets_of(alloc, &[0, 1, 2, 3])?,
+        sets_of(alloc, &[0, 1, 2, 3, 4])?,
+    ]?;
+    Ok(problems)
+}
+
+// The translations of the five problems, made by so many workers at most.
+fn translations<R: Threads + Wait + Sync>(
+    rt: &R,
+    alloc: Global,
+    workers: u32,
+) -> Result<Vec<Arc<Translation>>, Fail>
+    requires { (1 ≤ workers) × (workers ≤ 16) }
+{
+    let problems = five_problems(alloc)?;
+    match Explorer::new(rt, alloc, problems, &OpenGate, workers) {
+        Ok((explorer, root)) => {
+            let (_hub, translations) = explorer.finish(root);
+            Ok(translations)
+        }
+        Err(error) => Err(error)?,
+    }
+}
+
+fn are_equal(first: &Cnf, second: &Cnf) -> bool {
+    first.vars() == second.vars()
+        && first.len() == second.len()
+        && first
+            .clauses()
+            .iter()
+            .zip(second.clauses())
+            .all(|(one, other)| one.lits() == other.lits())
+}
+
+#[test]
+fn workers_make_the_translations_that_one_makes(rt: HostRuntime) -> Result<(), Fail> {
+    let alone = translations(&rt, rt.alloc(), 1)?;
+    assert!(rt; alone.len() == 5 && !are_equal(alone[0].cnf(), alone[4].cnf()));
+    for workers in [2_u32, 3, 4, 16] {
+        let beside = translations(&rt, rt.alloc(), workers)?;
+        assert!(rt; beside.len() == 5);
+        for (one, other) in alone.iter().zip(&beside) {
+            assert!(rt; are_equal(one.cnf(), other.cnf()));
+        }
+    }
     Ok(())
 }

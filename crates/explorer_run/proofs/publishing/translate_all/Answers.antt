@@ -1,15 +1,21 @@
-use Rattle.std.proofs.Common.{sym, subst}
-use Rattle.rel_formula.specs.Renaming.{IsSymmetric}
-use Rattle.rel_terms.specs.Terms.{IsTranslatable}
-use Rattle.explorer_run.specs.Served.{IsServable}
+use Rattle.std.proofs.Common.{◌≡◌, ◌*◌, ◌≤◌, ℕ, map, length, sym, subst, arith}
+use Rattle.std.proofs.lemmas.Result.{IfOk-weaker}
+use Rattle.std.proofs.lemmas.Grind.{div_ceil_times}
+use Rattle.translation_rules.specs.Translation.{Translated}
+use Rattle.explorer_run.specs.Served.{values_of}
+use Rattle.explorer_run.specs.Parts.{Made, AreJoined}
+use Rattle.explorer_run.proofs.Joined.{some_in_a_part, all_translated}
 use Rattle.explorer_run.proofs.publishing.translate_all.Goals as goal
 
-pub build-requires-clause-translatable : goal.build-requires-clause-translatable
-build-requires-clause-translatable c =
-    let servable = subst IsServable (sym c.problem-item.is) (c.requires c.loop-problem.problem-index c.problem-item.result c.loop-problem-test.true) in
-    subst IsTranslatable (sym c.in_ok-copy.ensures) servable.translatable
+pub translate_parts-requires-clause-size : goal.translate_parts-requires-clause-size
+translate_parts-requires-clause-size g c κs within =
+    let most = div_ceil_times (length c.args.problems.now) c.args.workers c.requires.workers in
+    let size = c.div_ceil-size.ensures in
+    some_in_a_part c.div_ceil-size.result c.args.workers (length c.args.problems.now) (subst (λ (n : ℕ). length c.args.problems.now ≤ n * c.args.workers) (sym size) most.0) (omega arith)
 
-pub build-requires-clause-symmetric : goal.build-requires-clause-symmetric
-build-requires-clause-symmetric c =
-    let servable = subst IsServable (sym c.problem-item.is) (c.requires c.loop-problem.problem-index c.problem-item.result c.loop-problem-test.true) in
-    subst IsSymmetric (sym c.in_ok-copy.ensures) servable.symmetric
+pub returns : goal.returns
+returns g c =
+    let parts = c.in_ok-parts.parts in
+    let problems = c.args.problems.now in
+    IfOk-weaker c.put_together.result (λ (all : Made). AreJoined parts.items all) (λ (all : Made). map (λ (t : Translated). t.problem) (values_of all.items) ≡ problems)
+    (λ all joined. all_translated c.div_ceil-size.result problems parts.items all c.in_ok-parts.ensures.enough c.in_ok-parts.ensures.each joined) c.put_together.ensures
