@@ -4,3 +4,5 @@ pub mod Domains
 pub mod LoweredCalls
 pub mod Chains
 pub mod Kernel
+pub mod Nodes
+pub mod FormulaNodes

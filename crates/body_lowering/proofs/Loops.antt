@@ -8,7 +8,7 @@ use Rattle.lowering_rules.specs.Binders as binders
 use Rattle.body_lowering.specs.declared.locals.Local.{Local}
 use Rattle.body_lowering.specs.Locals.{local_view, locals_view}
 
-next_is : {X : Type 0} (all : List X) (i : ℕ) (x : X) → i < length all → x ≡ get_or all i x → drop i all ≡ x ∷ drop (i + 1) all
+pub next_is : {X : Type 0} (all : List X) (i : ℕ) (x : X) → i < length all → x ≡ get_or all i x → drop i all ≡ x ∷ drop (i + 1) all
 next_is all i x l is = drop_more all i x l ∙ ap (λ z. z ∷ drop (i + 1) all) (sym is)
 
 -- one part more

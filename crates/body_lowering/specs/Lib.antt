@@ -1,3 +1,5 @@
 pub mod Locals
 pub mod Steps
 pub mod Kernel
+pub mod Nodes
+pub mod Copies

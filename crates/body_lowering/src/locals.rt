@@ -3,6 +3,7 @@ ghost use Rattle.std.specs.Prelude.{◌≡◌, ◌+◌, IfOk, OnOk};
 ghost use Rattle.rel_formula.specs.View.{expression_tree};
 ghost use Rattle.lowering_rules.specs.Binders.{local_at, behind_variables};
 ghost use Rattle.body_lowering.specs.Locals.{locals_view};
+ghost use Rattle.body_lowering.specs.Nodes.{nodes_of};
 
 use crate::charges::charge;
 use crate::kernel_parts::shifts::shifted;
@@ -17,7 +18,8 @@ pub struct Local {
     pub expression: Expression,
 }
 
-/// What the local name of a number stands for, counted outward from the last one; nothing, where there is none.
+/// What the local name of a number stands for, counted outward from the last one; nothing, where there is none. What is built
+/// is taken from the room.
 pub fn local_at(
     alloc: Global,
     at: Depth,
@@ -25,9 +27,11 @@ pub fn local_at(
     room: &mut Room,
     number: usize,
 ) -> Result<Expression, AllocError>
-    ensures { IfOk result (λ e. expression_tree e ≡ local_at (locals_view locals.now) number at.binders) }
+    ensures value { IfOk result (λ e. expression_tree e ≡ local_at (locals_view locals.now) number at.binders) }
+    ensures taken { IfOk result (λ e. room.new.nodes + nodes_of (expression_tree e) ≡ room.old.nodes) }
 {
     if number >= locals.len() {
+        room.take(1)?;
         return Ok(Expression::None);
     }
     let local = &locals[locals.len() - 1 - number];
@@ -45,6 +49,7 @@ pub fn enter_variables(
 ) -> Result<u32, AllocError>
     ensures level { IfOk result (λ level. level ≡ first + count) }
     ensures locals { OnOk result (locals_view locals.new.items ≡ behind_variables first count (locals_view locals.old.items)) }
+    ensures taken { OnOk result (room.new.nodes + count ≡ room.old.nodes) }
 {
     room.take(count)?;
     let Some(end) = first.checked_add(count) else {

@@ -1,5 +1,5 @@
 // Parts of bodies.
-ghost use Rattle.std.specs.Prelude.{◌≡◌, ◌+◌, ◌++◌, map, IfOk, OnOk};
+ghost use Rattle.std.specs.Prelude.{◌≡◌, ◌+◌, ◌*◌, ◌++◌, map, IfOk, OnOk};
 ghost use Rattle.rel_formula.specs.Kernel.{conjunction, more_formulas, formulas_of};
 ghost use Rattle.rel_formula.specs.View.{expression_tree, formula_tree};
 ghost use Rattle.named_model.specs.Phrase.{links_of, steps_of, domains_of};
@@ -10,6 +10,7 @@ ghost use Rattle.lowering_rules.specs.Parts.{formula, expression_in, formula_in,
 ghost use Rattle.lowering_rules.specs.Binders.{arguments, behind_variables, behind_domains, variables_in, domain_of_each, differences_in, quantified_by};
 ghost use Rattle.lowering_rules.specs.Lowering.{base_within, calls_within, lowered, formulas_lowered, expressions_lowered, links_lowered, operands_lowered, steps_lowered, domains_lowered, behind_values, meaning_lowered};
 ghost use Rattle.body_lowering.specs.Locals.{locals_view};
+ghost use Rattle.body_lowering.specs.Nodes.{nodes_of};
 ghost use Rattle.body_lowering.specs.Steps.{step_lowered};
 
 use crate::charges::charge_copies;
@@ -661,7 +662,8 @@ fn add_domain(
     Ok(enter(alloc, at, locals, room, all, &e, domain.count)?)
 }
 
-// Adds the domain of each of so many variables, and enters them; the number of binders behind them.
+// Adds the domain of each of so many variables, and enters them; the number of binders behind them. A node for each domain and one
+// for each variable are taken beside those of the copies.
 fn enter(
     alloc: Global,
     at: Depth,
@@ -674,6 +676,7 @@ fn enter(
     ensures value { OnOk result (map expression_tree all.new.items ≡ map expression_tree all.old.items ++ domain_of_each 0 (expression_tree domain.now) count) }
     ensures binders { IfOk result (λ binders. binders ≡ at.binders + count) }
     ensures locals { OnOk result (locals_view locals.new.items ≡ behind_variables at.binders count (locals_view locals.old.items)) }
+    ensures taken { OnOk result (room.new.nodes + count + count * (nodes_of (expression_tree domain.now) + 1) ≡ room.old.nodes) }
 {
     let count = number(count)?;
     charge_copies(room, at.levels, domain, count)?;

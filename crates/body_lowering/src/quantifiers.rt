@@ -1,10 +1,11 @@
 // Quantifiers over the variables of domains.
-ghost use Rattle.std.specs.Prelude.{◌≡◌, ◌≤◌, ◌+◌, ◌-◌, ◌++◌, [], map, IfOk, OnOk, if◌then◌else◌};
+ghost use Rattle.std.specs.Prelude.{◌≡◌, ◌≤◌, ◌+◌, ◌*◌, ◌-◌, ◌++◌, [], map, IfOk, OnOk, if◌then◌else◌};
 ghost use Rattle.rel_formula.specs.View.{expression_tree, formula_tree};
 ghost use Rattle.named_model.specs.Phrase.{domains_of};
 ghost use Rattle.named_model.specs.View.{domain_view};
 ghost use Rattle.lowering_rules.specs.Binders as binders;
 ghost use Rattle.lowering_rules.specs.Binders.{differences_in, quantified_by};
+ghost use Rattle.body_lowering.specs.Copies.{copied_by_quantifier};
 
 use crate::charges::charge_quantified;
 use crate::kernel_parts::binders::{add_differences, quantified};
@@ -75,8 +76,10 @@ pub fn number(count: usize) -> Result<u32, AllocError>
     }
 }
 
-// Takes the nodes of a formula for each two of so many variables.
-fn take_pairs(room: &mut Room, count: u32) -> Result<(), AllocError> {
+// Takes four nodes for each two of so many variables.
+fn take_pairs(room: &mut Room, count: u32) -> Result<(), AllocError>
+    ensures { OnOk result (room.new.nodes + 2 * (count * count) ≡ room.old.nodes + 2 * count) }
+{
     for before in 0..count {
         let Some(nodes) = before.checked_mul(4) else {
             return Err(AllocError);
@@ -96,8 +99,9 @@ pub fn bind(
     apart: Vec<Formula>,
     body: Formula,
 ) -> Result<Formula, AllocError>
-    ensures { IfOk result (λ f. formula_tree f ≡ quantified_by quantifier (map expression_tree domains.items) (map formula_tree apart.items) (formula_tree body)) }
+    ensures value { IfOk result (λ f. formula_tree f ≡ quantified_by quantifier (map expression_tree domains.items) (map formula_tree apart.items) (formula_tree body)) }
+    ensures taken { OnOk result (room.new.nodes + copied_by_quantifier quantifier (map expression_tree domains.items) (map formula_tree apart.items) (formula_tree body) ≡ room.old.nodes) }
 {
     charge_quantified(room, levels, quantifier, &domains, &apart, &body)?;
-    quantified(alloc, quantifier, domains, apart, body)
+    Ok(quantified(alloc, quantifier, domains, apart, body)?)
 }

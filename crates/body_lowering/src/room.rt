@@ -1,5 +1,5 @@
 // What may still be built.
-ghost use Rattle.std.specs.Prelude.{◌≡◌, ◌+◌, IfOk, OnOk, OnErr};
+ghost use Rattle.std.specs.Prelude.{◌≡◌, ◌+◌, ◌<◌, OnOk, OnErr};
 
 use std::alloc::AllocError;
 
@@ -21,6 +21,7 @@ impl Room {
     pub fn take(&mut self, nodes: u32) -> Result<(), AllocError>
         ensures ok { OnOk result (self.new.nodes + nodes ≡ self.old.nodes) }
         ensures err { OnErr result (self.new.nodes ≡ self.old.nodes) }
+        ensures few { OnErr result (self.old.nodes < nodes) }
     {
         match self.nodes.checked_sub(nodes) {
             Some(left) => {

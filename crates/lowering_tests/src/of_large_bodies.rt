@@ -14,6 +14,9 @@ const PLACE: Place = Place { line: 1, column: 1 };
 // The first signature.
 const FIRST: Phrase = Phrase::Refers(PLACE, Referent::Signature(0));
 
+// The innermost name.
+const INNERMOST: Phrase = Phrase::Refers(PLACE, Referent::Local(0));
+
 fn signature(alloc: Global, name: &str) -> Result<Signature, AllocError> {
     Ok(Signature {
         name: Text::of(alloc, name)?,
@@ -68,7 +71,7 @@ fn model_with(alloc: Global, callees: Vec<Callee>) -> Result<Named, AllocError> 
 // A call of a predicate with the innermost variable.
 fn call(alloc: Global, number: usize) -> Result<Phrase, AllocError> {
     let mut given = Vec::new(alloc);
-    given.push(Phrase::Refers(PLACE, Referent::Local(0)))?;
+    given.push(INNERMOST)?;
     Ok(Phrase::Called(PLACE, number, given))
 }
 
@@ -168,6 +171,37 @@ fn long_chains_are_bounded(rt: HostRuntime) -> Result<(), Fail> {
         (Operator::Iff, 100, false),
     ] {
         assert_eq!(rt; is_chained(rt.alloc(), operator, count)?, expected);
+    }
+    Ok(())
+}
+
+// x + x, where x is the innermost name.
+fn doubled(alloc: Global) -> Result<Phrase, AllocError> {
+    let mut links = Vec::new(alloc);
+    links.push(Link {
+        operator: Operator::Union,
+        place: PLACE,
+        operand: INNERMOST,
+    })?;
+    Ok(Phrase::Chain(Box::new(alloc, INNERMOST)?, links))
+}
+
+// The innermost of so many names behind the first, each of which is twice the one before it.
+fn doubled_values(alloc: Global, count: usize) -> Result<Phrase, AllocError> {
+    let mut values = Vec::new(alloc);
+    values.push(FIRST)?;
+    for _value in 0..count {
+        values.push(doubled(alloc)?)?;
+    }
+    Ok(Phrase::Let(PLACE, values, Box::new(alloc, INNERMOST)?))
+}
+
+// The last value has 2 ^ (count + 1) - 1 nodes, and what is named takes some three times as many.
+#[test]
+fn values_are_counted_where_they_are_named(rt: HostRuntime) -> Result<(), Fail> {
+    for (count, expected) in [(1, true), (10, true), (19, true), (20, false), (30, false)] {
+        let body = doubled_values(rt.alloc(), count)?;
+        assert_eq!(rt; is_expression(rt.alloc(), &body)?, expected);
     }
     Ok(())
 }
