@@ -2,6 +2,7 @@
 ghost use Rattle.std.specs.Prelude.{◌≡◌, ◌≤◌, ◌++◌, ℕ, List, length, codes, decimal, All, IfOk};
 ghost use Rattle.std.specs.List.{AllZip};
 ghost use Rattle.alloy_syntax.specs.declared.tree.CommandKind.TheVariants.{Check};
+ghost use Rattle.named_model.specs.Model.{NamedTree};
 ghost use Rattle.named_model.specs.View.{named_view};
 ghost use Rattle.rel_lower.specs.Lowered.{IsTyped};
 ghost use Rattle.decision_reports.specs.Decided.{IsDecision};
@@ -126,12 +127,25 @@ fn decision_on(
     requires problem { CanBeRun (named_view model.now) number }
     ensures { IfOk result (λ text. IsDecisionOn budget name.now (named_view model.now) number text.items) }
 {
-    let front = command_front(alloc, name, number)?;
     let translation = translation_of(alloc, model, number)?;
+    lines_over(alloc, budget, name, number, &translation)
+}
+
+// What is decided over the translation of a command's problem, and the lines that tell it.
+fn lines_over(
+    alloc: Global,
+    budget: u32,
+    name: &str,
+    number: u32,
+    translation: &Translation,
+) -> Result<Vec<u8>, AllocError>
+    requires { budget ≤ 100000000 }
+    ensures { IfOk result (λ text. (m : NamedTree) → IsProblemOf m number translation.now.problem → IsDecisionOn budget name.now m number text.items) }
+{
     let _ = translation.problem(); // for the proof
-    let decision = decide(alloc, &translation, u64::from(budget))?;
-    let text = decision_text(alloc, front, budget, &translation, &decision)?;
-    Ok(text)
+    let front = command_front(alloc, name, number)?;
+    let decision = decide(alloc, translation, u64::from(budget))?;
+    decision_text(alloc, front, budget, translation, &decision)
 }
 
 // The translation of the problem of a model's command that has one.

@@ -8,6 +8,7 @@ ghost use Rattle.rel_lower.specs.Lowered.{IsTyped};
 ghost use Rattle.lowering_rules.specs.declared.fault.LowerFault.TheVariants.{Memory};
 ghost use Rattle.decision_reports.specs.Taken.{CanBeRun, IsTaken};
 ghost use Rattle.decision_reports.specs.Texts.{AreTexts};
+ghost use Rattle.decision_reports.specs.Reports.{command_front};
 ghost use Rattle.decision_reports.specs.FactReports.{AreFactSetsOf, IsFactReport, IsFactSetOn, core_text, fact_line, set_text};
 
 use crate::assertions::{Report, command_front};
@@ -117,13 +118,24 @@ fn set_on(
 {
     problems_are_not_refused();
     match facts_of(alloc, model, number, u64::from(budget)) {
-        Ok(set) => {
-            let front = command_front(alloc, name, number)?;
-            let text = set_text(front, budget, model, &set)?;
-            Ok(text)
-        }
+        Ok(set) => lines_of(alloc, budget, name, model, number, &set),
         Err(fault) => Err(memory_in(fault)),
     }
+}
+
+// The lines that tell what is known of the facts under a command.
+fn lines_of(
+    alloc: Global,
+    budget: u32,
+    name: &str,
+    model: &Named,
+    number: u32,
+    set: &FactSet,
+) -> Result<Vec<u8>, AllocError>
+    ensures { IfOk result (λ text. text.items ≡ command_front name.now number ++ set_text model.now.fact_names.items budget set.now) }
+{
+    let front = command_front(alloc, name, number)?;
+    set_text(front, budget, model, set)
 }
 
 // The want of memory that the fault is.

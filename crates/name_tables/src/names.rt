@@ -31,7 +31,6 @@ pub struct Entry {
 
 /// The names in force at a place of a model: the global ones, each kind in order of declaration, and the local ones. Contracts
 /// see the lists of them, of the local ones the innermost first.
-#[derive(Drop)]
 pub struct Names {
     words: Words,
     signatures: Firsts,
@@ -50,6 +49,21 @@ impl Model for Names {
     ghost view = { λ n. in_force n.words n.signatures n.fields n.entries.items n.assertions n.locals };
 
     ghost invariant = { λ n. AreTables n.words n.signatures n.fields n.callees n.entries.items n.assertions n.locals };
+}
+
+// By hand, so that a caller's proof has one step wherever names are dropped.
+impl Drop for Names {
+    fn drop(self) {
+        let Names {
+            words: _,
+            signatures: _,
+            fields: _,
+            callees: _,
+            entries: _,
+            assertions: _,
+            locals: _,
+        } = self;
+    }
 }
 
 impl Names {

@@ -5,11 +5,12 @@ use Rattle.std.specs.Prelude.{Vec, Box}
 use Rattle.std.specs.declared.alloc.Global.{Global}
 use Rattle.alloy_lex.specs.declared.token.Place.{Place}
 use Rattle.alloy_syntax.specs.declared.tree.Bound.{Bound, fold-roll-Bound}
-use Rattle.alloy_syntax.specs.declared.tree.Bound.TheVariants.{rolls-Union}
+use Rattle.alloy_syntax.specs.declared.tree.Bound.TheVariants.{rolls-Union, rolls-Arrows}
+use Rattle.alloy_syntax.specs.declared.tree.BoundArrow.{BoundArrow}
 use Rattle.alloy_syntax.specs.declared.tree.Bound.TheOpen.{Bound-F}
 use Rattle.alloy_syntax.specs.declared.tree.Bound.TheVariants as bound
-use Rattle.alloy_syntax.specs.Tree.{BoundTree, BoundArrowTree, BoundUnions, bound_union, unions_of}
-use Rattle.alloy_syntax.specs.View.{bound_view, bound_level, arrow_level}
+use Rattle.alloy_syntax.specs.Tree.{BoundTree, BoundArrowTree, BoundUnions, BoundArrows, bound_union, bound_arrows, unions_of, arrows_of}
+use Rattle.alloy_syntax.specs.View.{bound_view, arrow_view, bound_level, arrow_level}
 use Rattle.named_model.specs.declared.fault.NameFault.{NameFault}
 use Rattle.named_model.specs.declared.phrase.Link.{Link}
 use Rattle.named_model.specs.declared.phrase.Phrase.{Phrase, fold-roll-Phrase}
@@ -19,8 +20,8 @@ use Rattle.named_model.specs.declared.phrase.Phrase.TheOpen.{Phrase-F}
 use Rattle.named_model.specs.Phrase.{PhraseTree, StepTree, DomainTree, LinkTree, chain, LinkTrees, links_of, no_links}
 use Rattle.named_model.specs.View.{phrase_view, phrase_level, step_level, domain_level, link_level, link_view}
 use Rattle.named_model.specs.Names.{Globals}
-use Rattle.named_model.specs.Declarations.{bound_resolved, unions_resolved}
-use Rattle.named_model.specs.Faults.{bound_faults, union_faults}
+use Rattle.named_model.specs.Declarations.{bound_resolved, unions_resolved, arrows_resolved}
+use Rattle.named_model.specs.Faults.{bound_faults, union_faults, arrow_faults}
 use Rattle.name_tables.specs.Told.{IsTold}
 use Rattle.name_tables.proofs.Reaching.{Reached, reached_start, reached_more, reached_fault, reached_all, next_is, none_is, link_first, links_are}
 use Rattle.name_tables.specs.Signatures.Bounds.{placed_view}
@@ -57,6 +58,10 @@ module _ {X : Type 0} (faults : List X → List NameFault) (values : List X → 
 pub seen_union : (b : Box Bound Global) (us : Vec (Place × Bound) Global) → bound_view (bound.Union b us) ≡ bound_union (bound_view b.value) (unions_of (map placed_view us.items))
 seen_union b us = ap bound_view (sym (rolls-Union b us)) ∙ fold-roll-Bound BoundTree BoundArrowTree bound_level arrow_level (Bound-F.Union b us)
 
+-- an arrow with its sides
+pub seen_arrows : (b : Box Bound Global) (as' : Vec BoundArrow Global) → bound_view (bound.Arrows b as') ≡ bound_arrows (bound_view b.value) (arrows_of (map arrow_view as'.items))
+seen_arrows b as' = ap bound_view (sym (rolls-Arrows b as')) ∙ fold-roll-Bound BoundTree BoundArrowTree bound_level arrow_level (Bound-F.Arrows b as')
+
 pub seen_chain : (b : Box Phrase Global) (ls : Vec Link Global) → phrase_view (phrase.Chain b ls) ≡ chain (phrase_view b.value) (links_of (map link_view ls.items))
 seen_chain b ls = ap phrase_view (sym (rolls-Chain b ls)) ∙ fold-roll-Phrase PhraseTree StepTree DomainTree LinkTree phrase_level step_level domain_level link_level (Phrase-F.Chain b ls)
 
@@ -65,3 +70,10 @@ union_faults_are g b us none more = ap (λ fs. fs ++ union_faults g us) none ∙
 
 pub union_value_is : (g : Globals) (b : BoundTree) (us : BoundUnions) (x : PhraseTree) (ls : LinkTrees) → x ≡ bound_resolved g b → ls ≡ unions_resolved g us → chain x ls ≡ bound_resolved g (bound_union b us)
 union_value_is g b us x ls first more = ap (λ y. chain y ls) first ∙ ap (chain (bound_resolved g b)) more
+
+-- the same of arrows
+pub arrow_faults_are : (g : Globals) (b : BoundTree) (as' : BoundArrows) → bound_faults g b ≡ [] → arrow_faults g as' ≡ [] → bound_faults g (bound_arrows b as') ≡ []
+arrow_faults_are g b as' none more = ap (λ fs. fs ++ arrow_faults g as') none ∙ more
+
+pub arrow_value_is : (g : Globals) (b : BoundTree) (as' : BoundArrows) (x : PhraseTree) (ls : LinkTrees) → x ≡ bound_resolved g b → ls ≡ arrows_resolved g as' → chain x ls ≡ bound_resolved g (bound_arrows b as')
+arrow_value_is g b as' x ls first more = ap (λ y. chain y ls) first ∙ ap (chain (bound_resolved g b)) more

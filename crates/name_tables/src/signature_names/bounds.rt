@@ -36,20 +36,33 @@ pub fn bound(
             Ok(Phrase::Refers(name.place, Referent::Signature(number)))
         }
         Bound::Bracketed(place, inner) => {
-            let inner = self::bound(alloc, names, room, inner)?;
-            Ok(Phrase::Bracketed(*place, Box::new(alloc, inner)?))
+            Ok(Phrase::Bracketed(*place, boxed(alloc, names, room, inner)?))
         }
         Bound::Union(first, others) => {
-            let first = self::bound(alloc, names, room, first)?;
+            let first = boxed(alloc, names, room, first)?;
             let links = unions(alloc, names, room, others)?;
-            Ok(Phrase::Chain(Box::new(alloc, first)?, links))
+            Ok(Phrase::Chain(first, links))
         }
         Bound::Arrows(first, others) => {
-            let first = self::bound(alloc, names, room, first)?;
+            let first = boxed(alloc, names, room, first)?;
             let links = arrows(alloc, names, room, others)?;
-            Ok(Phrase::Chain(Box::new(alloc, first)?, links))
+            Ok(Phrase::Chain(first, links))
         }
     }
+}
+
+// A bound in its box.
+#[cycle(bounds)]
+fn boxed(
+    alloc: Global,
+    names: &Names,
+    room: &mut usize,
+    inner: &Bound,
+) -> Result<Box<Phrase>, NameFault>
+    ensures { Answers result (bound_faults names.now.globals (bound_view inner.now)) (λ x. phrase_view x.value ≡ bound_resolved names.now.globals (bound_view inner.now)) }
+{
+    let phrase = bound(alloc, names, room, inner)?;
+    Ok(Box::new(alloc, phrase)?)
 }
 
 // The operands of a union behind the first one.

@@ -29,10 +29,11 @@ fn field(
     ensures { Answers result [] (λ x. seen.field_view x ≡ field_named names.now.globals (field_view written.now) name.now owner.now) }
 {
     spend(room, name.text.text().len())?;
+    let text = name.text.copy(alloc)?;
     let bound = bound(alloc, names, room, &written.bound)?;
     let (left, right) = words_beside(&written.bound);
     Ok(Field {
-        name: name.text.copy(alloc)?,
+        name: text,
         place: name.place,
         owner: names.signature(owner.text.text()).unwrap_or(0),
         mark: written.mark,

@@ -37,62 +37,58 @@ fn part(alloc: Global, names: &mut Names, behind: usize, node: &Node) -> Result<
         Node::Numbered(number) => Ok(Phrase::Numbered(*number)),
         Node::Constant(constant, place) => Ok(Phrase::Constant(*constant, *place)),
         Node::Bracketed(place, inner) => {
-            let inner = part(alloc, names, 0, inner)?;
-            Ok(Phrase::Bracketed(*place, Box::new(alloc, inner)?))
+            Ok(Phrase::Bracketed(*place, boxed(alloc, names, inner)?))
         }
-        Node::Block(place, nodes) => {
-            let parts = formulas(alloc, names, nodes)?;
-            Ok(Phrase::Block(*place, parts))
-        }
+        Node::Block(place, nodes) => Ok(Phrase::Block(*place, formulas(alloc, names, nodes)?)),
         Node::Prefixed(prefix, place, inner) => {
-            let inner = part(alloc, names, 0, inner)?;
-            Ok(Phrase::Prefixed(*prefix, *place, Box::new(alloc, inner)?))
+            Ok(Phrase::Prefixed(*prefix, *place, boxed(alloc, names, inner)?))
         }
         Node::Chain(first, others) => {
-            let first = part(alloc, names, 0, first)?;
-            let others = links(alloc, names, others)?;
-            Ok(Phrase::Chain(Box::new(alloc, first)?, others))
+            let first = boxed(alloc, names, first)?;
+            Ok(Phrase::Chain(first, links(alloc, names, others)?))
         }
         Node::Path(head, steps) => {
             let head = part(alloc, names, bracketed_in(steps), head)?;
             Ok(path(alloc, names, steps, head)?)
         }
         Node::Compared(left, comparing, right) => {
-            let left = part(alloc, names, 0, left)?;
-            let right = part(alloc, names, 0, right)?;
-            let left = Box::new(alloc, left)?;
-            Ok(Phrase::Compared(left, *comparing, Box::new(alloc, right)?))
+            let left = boxed(alloc, names, left)?;
+            Ok(Phrase::Compared(left, *comparing, boxed(alloc, names, right)?))
         }
         Node::Implies(left, place, right) => {
-            let left = part(alloc, names, 0, left)?;
-            let right = part(alloc, names, 0, right)?;
-            let left = Box::new(alloc, left)?;
-            Ok(Phrase::Implies(left, *place, Box::new(alloc, right)?))
+            let left = boxed(alloc, names, left)?;
+            Ok(Phrase::Implies(left, *place, boxed(alloc, names, right)?))
         }
         Node::ImpliesElse(left, place, right, other) => {
-            let left = part(alloc, names, 0, left)?;
-            let right = part(alloc, names, 0, right)?;
-            let other = part(alloc, names, 0, other)?;
-            let left = Box::new(alloc, left)?;
-            let right = Box::new(alloc, right)?;
-            Ok(Phrase::ImpliesElse(left, *place, right, Box::new(alloc, other)?))
+            let left = boxed(alloc, names, left)?;
+            let right = boxed(alloc, names, right)?;
+            Ok(Phrase::ImpliesElse(left, *place, right, boxed(alloc, names, other)?))
         }
         Node::Quantified(quantifier, place, declarations, inner) => {
             let depth = names.depth();
             let domains = domains(alloc, names, declarations)?;
-            let inner = part(alloc, names, 0, inner)?;
+            let inner = boxed(alloc, names, inner)?;
             leave_until(names, depth);
-            let inner = Box::new(alloc, inner)?;
             Ok(Phrase::Quantified(*quantifier, *place, domains, inner))
         }
         Node::Let(place, bindings, inner) => {
             let depth = names.depth();
             let values = values(alloc, names, bindings)?;
-            let inner = part(alloc, names, 0, inner)?;
+            let inner = boxed(alloc, names, inner)?;
             leave_until(names, depth);
-            Ok(Phrase::Let(*place, values, Box::new(alloc, inner)?))
+            Ok(Phrase::Let(*place, values, inner))
         }
     }
+}
+
+// A part in its box, behind which no brackets stand.
+#[cycle(parts)]
+fn boxed(alloc: Global, names: &mut Names, node: &Node) -> Result<Box<Phrase>, NameFault>
+    ensures value { Answers result (spec.faults_of names.old.globals names.old.locals 0 (view node.now)) (λ x. seen.phrase_view x.value ≡ spec.resolved names.old.globals names.old.locals (view node.now)) }
+    ensures names { OnOk result (names.new ≡ names.old) }
+{
+    let phrase = part(alloc, names, 0, node)?;
+    Ok(Box::new(alloc, phrase)?)
 }
 
 /// Formulas, or other parts that see the same names, or the first fault of their names.
@@ -166,8 +162,8 @@ fn path(alloc: Global, names: &mut Names, steps: &[Step], head: Phrase) -> Resul
             Ok(call(alloc, names, steps, place, number, given)?)
         }
         head => {
-            let steps = steps_from(alloc, names, steps, 0)?;
-            Ok(Phrase::Path(Box::new(alloc, head)?, steps))
+            let head = Box::new(alloc, head)?;
+            Ok(Phrase::Path(head, steps_from(alloc, names, steps, 0)?))
         }
     }
 }
@@ -288,13 +284,13 @@ pub fn domain(
     ensures value { Answers result (spec.faults_of names.old.globals names.old.locals 0 (declaration_view declaration.now).domain) (λ x. seen.domain_view x ≡ domain_resolved names.old.globals names.old.locals (declaration_view declaration.now)) }
     ensures names { OnOk result (names.new ≡ with_locals names.old (spec.onto (declaration_view declaration.now).names names.old.locals)) }
 {
-    let domain = part(alloc, names, 0, &declaration.domain)?;
+    let domain = boxed(alloc, names, &declaration.domain)?;
     enter_all(alloc, names, &declaration.names)?;
     Ok(Domain {
         disjoint: declaration.disjoint,
         count: declaration.names.len(),
         mark: declaration.mark,
-        domain,
+        domain: Box::into_inner(domain),
     })
 }
 
@@ -318,7 +314,7 @@ fn value(alloc: Global, names: &mut Names, binding: &Binding) -> Result<Phrase, 
     ensures value { Answers result (spec.faults_of names.old.globals names.old.locals 0 (binding_view binding.now).value) (λ x. seen.phrase_view x ≡ spec.resolved names.old.globals names.old.locals (binding_view binding.now).value) }
     ensures names { OnOk result (names.new ≡ with_locals names.old ((binding_view binding.now).name.text ∷ names.old.locals)) }
 {
-    let value = part(alloc, names, 0, &binding.value)?;
+    let value = boxed(alloc, names, &binding.value)?;
     names.enter(alloc, binding.name.text.text())?;
-    Ok(value)
+    Ok(Box::into_inner(value))
 }

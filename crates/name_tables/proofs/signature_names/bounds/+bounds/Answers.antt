@@ -9,7 +9,7 @@ use Rattle.named_model.specs.Declarations.{bound_resolved, unions_resolved, arro
 use Rattle.named_model.specs.Faults.{bound_faults, union_faults, arrow_faults}
 use Rattle.name_tables.proofs.Reaching.{link_first}
 use Rattle.name_tables.specs.Signatures.Bounds.{placed_view}
-use Rattle.name_tables.proofs.Signatures.BoundOperands.{links_more, links_fault, links_all, seen_union, seen_chain, union_faults_are, union_value_is}
+use Rattle.name_tables.proofs.Signatures.BoundOperands.{links_more, links_fault, links_all, seen_union, seen_arrows, seen_chain, union_faults_are, union_value_is, arrow_faults_are, arrow_value_is}
 use Rattle.name_tables.proofs.signature_names.bounds.+bounds.Goals as goal
 
 pub arrows-loop-arrow-preserved : goal.arrows-loop-arrow-preserved
@@ -46,8 +46,8 @@ unions-returns t c =
     links_all (λ us. union_faults g (unions_of (map placed_view us))) (λ us. unions_resolved g (unions_of (map placed_view us))) c.args.operands.now c.loop-operand.operand-index c.loop-operand.links.items c.loop-operand.invariant
     c.loop-operand-test.false refl refl
 
-pub bound-returns-in_ok-new-in-Union : goal.bound-returns-in_ok-new-in-Union
-bound-returns-in_ok-new-in-Union t c =
+pub bound-returns-in_ok-links-in-Union : goal.bound-returns-in_ok-links-in-Union
+bound-returns-in_ok-links-in-Union t c =
     let g = c.args.names.now.globals in
     let e = ap bound_view c.in-Union.is ∙ seen_union c.in-Union.first c.in-Union.others in
     let at = c.deref-in-Union.ensures in
@@ -55,9 +55,25 @@ bound-returns-in_ok-new-in-Union t c =
     let us = unions_of (map placed_view c.in-Union.others.items) in (
       ap (bound_faults g) e
           ∙ union_faults_are g (bound_view c.in-Union.first.value) us (sym (ap (λ b. bound_faults g (bound_view b)) at) ∙ c.in_ok-first-in-Union.ensures.0) (sym (ap (λ os. union_faults g (unions_of (map placed_view os))) row) ∙ c.in_ok-links-in-Union.ensures.0),
-      seen_chain c.in_ok-new-in-Union.field-0 c.in_ok-links-in-Union.links
-          ∙ union_value_is g (bound_view c.in-Union.first.value) us (phrase_view c.in_ok-new-in-Union.field-0.value) (links_of (map link_view c.in_ok-links-in-Union.links.items))
-          (ap phrase_view c.in_ok-new-in-Union.ensures.ok ∙ c.in_ok-first-in-Union.ensures.1 ∙ ap (λ b. bound_resolved g (bound_view b)) at)
+      seen_chain c.in_ok-first-in-Union.first c.in_ok-links-in-Union.links
+          ∙ union_value_is g (bound_view c.in-Union.first.value) us (phrase_view c.in_ok-first-in-Union.first.value) (links_of (map link_view c.in_ok-links-in-Union.links.items))
+          (c.in_ok-first-in-Union.ensures.1 ∙ ap (λ b. bound_resolved g (bound_view b)) at)
           (c.in_ok-links-in-Union.ensures.1 ∙ ap (λ os. unions_resolved g (unions_of (map placed_view os))) row)
+          ∙ sym (ap (bound_resolved g) e),
+    )
+
+pub bound-returns-in_ok-links-in-Arrows : goal.bound-returns-in_ok-links-in-Arrows
+bound-returns-in_ok-links-in-Arrows t c =
+    let g = c.args.names.now.globals in
+    let e = ap bound_view c.in-Arrows.is ∙ seen_arrows c.in-Arrows.first c.in-Arrows.others in
+    let at = c.deref-in-Arrows.ensures in
+    let row = c.deref-in-Arrows-2.ensures.value in
+    let as' = arrows_of (map arrow_view c.in-Arrows.others.items) in (
+      ap (bound_faults g) e
+          ∙ arrow_faults_are g (bound_view c.in-Arrows.first.value) as' (sym (ap (λ b. bound_faults g (bound_view b)) at) ∙ c.in_ok-first-in-Arrows.ensures.0) (sym (ap (λ xs. arrow_faults g (arrows_of (map arrow_view xs))) row) ∙ c.in_ok-links-in-Arrows.ensures.0),
+      seen_chain c.in_ok-first-in-Arrows.first c.in_ok-links-in-Arrows.links
+          ∙ arrow_value_is g (bound_view c.in-Arrows.first.value) as' (phrase_view c.in_ok-first-in-Arrows.first.value) (links_of (map link_view c.in_ok-links-in-Arrows.links.items))
+          (c.in_ok-first-in-Arrows.ensures.1 ∙ ap (λ b. bound_resolved g (bound_view b)) at)
+          (c.in_ok-links-in-Arrows.ensures.1 ∙ ap (λ xs. arrows_resolved g (arrows_of (map arrow_view xs))) row)
           ∙ sym (ap (bound_resolved g) e),
     )

@@ -189,14 +189,14 @@ call-returns-in-Some-Join-clause-value t c =
     let same = call_joined n.globals n.locals c.args.steps.now c.in-Some-Join.field-0.now c.in-Some-Join.field-0-0 c.in-Some-Join.field-0-1 c.args.place c.args.number (seen.phrases_view c.args.given.items) there c.in-Some-Join.field-0-is in
     subst (λ (z : phrase.PhraseTree). Answers c.plain-in-Some-Join.result (spec.step_faults n.globals n.locals (steps_of (map step_view c.args.steps.now))) (λ x. seen.phrase_view x ≡ z)) same c.plain-in-Some-Join.ensures.value
 
-pub part-returns-in_ok-inner-in-Quantified-2-clause-names : goal.part-returns-in_ok-inner-in-Quantified-2-clause-names
-part-returns-in_ok-inner-in-Quantified-2-clause-names t c =
+pub part-returns-in_ok-inner-in-Quantified-clause-names : goal.part-returns-in_ok-inner-in-Quantified-clause-names
+part-returns-in_ok-inner-in-Quantified-clause-names t c =
     let n : InForce = c.args.names.now in
     let ds = declarations_of (map declaration_view c.deref-in-Quantified.result.now) in
-    all_left n c.part-in-Quantified.new.names c.leave_until.new.names c.depth-depth.result (spec.behind_declarations n.locals ds) (declarations_inside ds n.locals) (c.in_ok-inner-in-Quantified.ensures.names ∙ c.in_ok-domains-in-Quantified.ensures.names) c.leave_until.ensures.left c.depth-depth.ensures
+    all_left n c.boxed-in-Quantified.new.names c.leave_until.new.names c.depth-depth.result (spec.behind_declarations n.locals ds) (declarations_inside ds n.locals) (c.in_ok-inner-in-Quantified.ensures.names ∙ c.in_ok-domains-in-Quantified.ensures.names) c.leave_until.ensures.left c.depth-depth.ensures
 
-pub part-returns-in_ok-new-in-Let-clause-names : goal.part-returns-in_ok-new-in-Let-clause-names
-part-returns-in_ok-new-in-Let-clause-names t c =
+pub part-returns-in_ok-inner-in-Let-clause-names : goal.part-returns-in_ok-inner-in-Let-clause-names
+part-returns-in_ok-inner-in-Let-clause-names t c =
     let n : InForce = c.args.names.now in
     let bs = bindings_of (map binding_view c.deref-in-Let.result.now) in
-    all_left n c.part-in-Let.new.names c.leave_until-in-Let.new.names c.depth-depth-in-Let.result (spec.behind_bindings n.locals bs) (bindings_inside bs n.locals) (c.in_ok-inner-in-Let.ensures.names ∙ c.in_ok-values-in-Let.ensures.names) c.leave_until-in-Let.ensures.left c.depth-depth-in-Let.ensures
+    all_left n c.boxed-in-Let.new.names c.leave_until-in-Let.new.names c.depth-depth-in-Let.result (spec.behind_bindings n.locals bs) (bindings_inside bs n.locals) (c.in_ok-inner-in-Let.ensures.names ∙ c.in_ok-values-in-Let.ensures.names) c.leave_until-in-Let.ensures.left c.depth-depth-in-Let.ensures
