@@ -4,7 +4,7 @@ import re
 from functools import cache
 from pathlib import Path
 
-TOP = [Path("crates/explorer_cli/src", name) for name in ("top_call.rt", "laws.rt", "worker_laws.rt")]
+TOP = [Path("crates/explorer_cli/src", name) for name in ("top_call.rt", "laws.rt", "worker_laws.rt", "crew_laws.rt")]
 
 
 @cache

@@ -21,9 +21,9 @@ def library(room):
     return made
 
 
-def ran(program, script, **more):
+def ran(program, script, word="run", **more):
     """The status and the output of a run by one worker: with several, requests would come in another order each time."""
-    done = subprocess.run([program, "run", "--workers", "1"], input=script, capture_output=True, env={**os.environ, **more})
+    done = subprocess.run([program, word, "--workers", "1"], input=script, capture_output=True, env={**os.environ, **more})
     return done.returncode, done.stdout
 
 
@@ -37,28 +37,28 @@ def commands(lines):
             yield number
 
 
-def answers(program, script):
-    """The whole output, and each output in which one command is answered by `memory`."""
+def answers(program, script, word):
+    """The whole output, and under `run` each output in which one command is answered by `memory`."""
     lines = script.splitlines(keepends=True)
-    yield ran(program, script)[1]
-    for number in commands(lines):
+    yield ran(program, script, word)[1]
+    for number in commands(lines) if word == "run" else ():
         before = ran(program, b"".join(lines[:number]))[1]
         without = ran(program, b"".join(lines[:number] + lines[number + 1 :]))[1]
         if without.startswith(before):
             yield before + b"memory\n" + without[len(before) :]
 
 
-def refusals(program, script, first=1, last=None):
+def refusals(program, script, first=1, last=None, word="run"):
     """How runs ended in which one request was refused, and what was otherwise."""
     with tempfile.TemporaryDirectory(prefix="memory-") as room:
         front = {"LD_PRELOAD": str(library(room))}
         counted = Path(room) / "counted"
-        whole, *cut = answers(program, script)
-        ran(program, script, **front, COUNTED=str(counted))
+        whole, *cut = answers(program, script, word)
+        ran(program, script, word, **front, COUNTED=str(counted))
         requests = int(counted.read_text())
 
         def ended(number):
-            status, output = ran(program, script, **front, REFUSED=str(number))
+            status, output = ran(program, script, word, **front, REFUSED=str(number))
             if (status, output) == (7, b""):
                 return number, "status 7 and nothing written"
             if status == 0 and output in cut:

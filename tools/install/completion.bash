@@ -6,11 +6,13 @@ _explore() {
         --budget | --workers | =) return ;;
     esac
     if [ "$COMP_CWORD" -eq 1 ]; then
-        mapfile -t COMPREPLY < <(compgen -W "run distinct assert facts check" -- "$word")
-    elif [[ "${COMP_WORDS[1]}" =~ ^(run|distinct)$ ]]; then
+        mapfile -t COMPREPLY < <(compgen -W "run distinct crew assert facts check load" -- "$word")
+    elif [[ "${COMP_WORDS[1]}" =~ ^(run|distinct|crew)$ ]]; then
         mapfile -t COMPREPLY < <(compgen -W "--budget --workers" -- "$word")
     elif [[ "${COMP_WORDS[1]}" =~ ^(assert|facts)$ ]]; then
         mapfile -t COMPREPLY < <(compgen -W "--budget" -- "$word")
+    elif [ "${COMP_WORDS[1]}" = load ]; then
+        mapfile -t COMPREPLY < <(compgen -W "--workers" -- "$word")
     fi
 }
 

@@ -2,7 +2,7 @@
 use Rattle.std.proofs.Common.{◌≡◌, ◌⊎◌, ◌++◌, ℕ, List, [], ◌∷◌, codes, get_or, refl, sym, subst, ap, ◌∙◌, arith, inl, inr}
 use Rattle.command_words.specs.Words.{AreOfLoad, AreOptions, IsBehind, IsBudgetAlone, IsLoadNumber, IsNumber, IsWorkers, Says, number_after}
 use Rattle.command_words.specs.declared.reading.Command.{Command}
-use Rattle.command_words.specs.declared.reading.Command.TheVariants.{Run, Check, Distinct, Assert, Facts, Load}
+use Rattle.command_words.specs.declared.reading.Command.TheVariants.{Run, Check, Distinct, Assert, Facts, Load, Crew}
 use Rattle.command_words.proofs.OptionLemmas.{BeginsWithOption, begin_value, begins_once, first_bytes, not_both, some_words, alone}
 
 -- the option alone, or no words and its default
@@ -162,6 +162,7 @@ name_said (Distinct workers budget) = codes "distinct"
 name_said (Assert budget) = codes "assert"
 name_said (Facts budget) = codes "facts"
 name_said (Load number workers) = codes "load"
+name_said (Crew workers budget) = codes "crew"
 
 abbrev pub first_word : List (List ℕ) → List ℕ
 first_word [] = []
@@ -174,6 +175,7 @@ is_first_word words (Distinct workers budget) says = ap first_word says.1
 is_first_word words (Assert budget) says = ap first_word says.1
 is_first_word words (Facts budget) says = ap first_word says.1
 is_first_word words (Load number workers) says = ap first_word says.1
+is_first_word words (Crew workers budget) says = ap first_word says.1
 
 -- the names differ in their second byte
 abbrev pub second_byte : List ℕ → ℕ
@@ -205,36 +207,49 @@ same_named words (Run workers budget) (Distinct others other) a b e = absurd (om
 same_named words (Run workers budget) (Assert other) a b e = absurd (omega (arith, ap second_byte e))
 same_named words (Run workers budget) (Facts other) a b e = absurd (omega (arith, ap second_byte e))
 same_named words (Run workers budget) (Load number more) a b e = absurd (omega (arith, ap second_byte e))
+same_named words (Run workers budget) (Crew others other) a b e = absurd (omega (arith, ap second_byte e))
 same_named words Check (Run others other) a b e = absurd (omega (arith, ap second_byte e))
 same_named words Check Check a b e = refl
 same_named words Check (Distinct others other) a b e = absurd (omega (arith, ap second_byte e))
 same_named words Check (Assert other) a b e = absurd (omega (arith, ap second_byte e))
 same_named words Check (Facts other) a b e = absurd (omega (arith, ap second_byte e))
 same_named words Check (Load number workers) a b e = absurd (omega (arith, ap second_byte e))
+same_named words Check (Crew workers budget) a b e = absurd (omega (arith, ap second_byte e))
 same_named words (Distinct workers budget) (Run others other) a b e = absurd (omega (arith, ap second_byte e))
 same_named words (Distinct workers budget) Check a b e = absurd (omega (arith, ap second_byte e))
 same_named words (Distinct workers budget) (Distinct others other) a b e = same_options_said Distinct (codes "distinct") words workers others budget other a b
 same_named words (Distinct workers budget) (Assert other) a b e = absurd (omega (arith, ap second_byte e))
 same_named words (Distinct workers budget) (Facts other) a b e = absurd (omega (arith, ap second_byte e))
 same_named words (Distinct workers budget) (Load number more) a b e = absurd (omega (arith, ap second_byte e))
+same_named words (Distinct workers budget) (Crew others other) a b e = absurd (omega (arith, ap second_byte e))
 same_named words (Assert budget) (Run others other) a b e = absurd (omega (arith, ap second_byte e))
 same_named words (Assert budget) Check a b e = absurd (omega (arith, ap second_byte e))
 same_named words (Assert budget) (Distinct others other) a b e = absurd (omega (arith, ap second_byte e))
 same_named words (Assert budget) (Assert other) a b e = same_budget_said Assert (codes "assert") words budget other a b
 same_named words (Assert budget) (Facts other) a b e = absurd (omega (arith, ap second_byte e))
 same_named words (Assert budget) (Load number workers) a b e = absurd (omega (arith, ap second_byte e))
+same_named words (Assert budget) (Crew workers other) a b e = absurd (omega (arith, ap second_byte e))
 same_named words (Facts budget) (Run others other) a b e = absurd (omega (arith, ap second_byte e))
 same_named words (Facts budget) Check a b e = absurd (omega (arith, ap second_byte e))
 same_named words (Facts budget) (Distinct others other) a b e = absurd (omega (arith, ap second_byte e))
 same_named words (Facts budget) (Assert other) a b e = absurd (omega (arith, ap second_byte e))
 same_named words (Facts budget) (Facts other) a b e = same_budget_said Facts (codes "facts") words budget other a b
 same_named words (Facts budget) (Load number workers) a b e = absurd (omega (arith, ap second_byte e))
+same_named words (Facts budget) (Crew workers other) a b e = absurd (omega (arith, ap second_byte e))
 same_named words (Load number workers) (Run others other) a b e = absurd (omega (arith, ap second_byte e))
 same_named words (Load number workers) Check a b e = absurd (omega (arith, ap second_byte e))
 same_named words (Load number workers) (Distinct others other) a b e = absurd (omega (arith, ap second_byte e))
 same_named words (Load number workers) (Assert other) a b e = absurd (omega (arith, ap second_byte e))
 same_named words (Load number workers) (Facts other) a b e = absurd (omega (arith, ap second_byte e))
 same_named words (Load number workers) (Load other others) a b e = same_load_said words number other workers others a b
+same_named words (Load number workers) (Crew others other) a b e = absurd (omega (arith, ap second_byte e))
+same_named words (Crew workers budget) (Run others other) a b e = absurd (omega (arith, ap second_byte e))
+same_named words (Crew workers budget) Check a b e = absurd (omega (arith, ap second_byte e))
+same_named words (Crew workers budget) (Distinct others other) a b e = absurd (omega (arith, ap second_byte e))
+same_named words (Crew workers budget) (Assert other) a b e = absurd (omega (arith, ap second_byte e))
+same_named words (Crew workers budget) (Facts other) a b e = absurd (omega (arith, ap second_byte e))
+same_named words (Crew workers budget) (Load number more) a b e = absurd (omega (arith, ap second_byte e))
+same_named words (Crew workers budget) (Crew others other) a b e = same_options_said Crew (codes "crew") words workers others budget other a b
 
 pub one_command : (words : List (List ℕ)) (c d : Command) → Says words c → Says words d → c ≡ d
 one_command words c d a b = same_named words c d a b (sym (is_first_word words c a) ∙ is_first_word words d b)

@@ -13,7 +13,7 @@ use Rattle.clap.specs.declared.builder.value_parser.ValueParser.TheVariants.{Sig
 use Rattle.command_words.specs.Words.{AreOptions, IsBehind, IsBudget, IsBudgetAlone, IsNumber, IsWorkers, Says, SaysNone}
 use Rattle.command_words.specs.Program.{ReadsBudget, ReadsLoad, ReadsNumber, ReadsOptions, ReadsWithBudget, ReadsWithOptions, program}
 use Rattle.command_words.specs.declared.reading.Command.{Command}
-use Rattle.command_words.specs.declared.reading.Command.TheVariants.{Run, Check, Distinct, Assert, Facts, Load}
+use Rattle.command_words.specs.declared.reading.Command.TheVariants.{Run, Check, Distinct, Assert, Facts, Load, Crew}
 use Rattle.command_words.proofs.CommandLemmas.{first_word, is_first_word, name_said, second_byte}
 use Rattle.command_words.proofs.LongWords.{dashes}
 use Rattle.command_words.proofs.Numbers.{accepted_number, number_in_range, number_plain}
@@ -21,7 +21,7 @@ use Rattle.command_words.proofs.LoadParts.{all_words, parts_rows}
 use Rattle.command_words.proofs.Options.{AllPlain, Pass, Use, all_written, has_dashes, name_of, spelled, use_kinds, use_rows, used_all, written}
 use Rattle.command_words.proofs.ReadOptions.{IsTaken, absent, number_here, taken}
 use Rattle.command_words.proofs.LoadCommand.{load_clean, load_is_read, read_load}
-use Rattle.command_words.proofs.Program.{HasParts, HasUses, WithOptions, run, distinct, asserts, facts, accepted, check_passes, check_rows, name_with, rows_of_load, rows_of_options, uses_pass}
+use Rattle.command_words.proofs.Program.{HasParts, HasUses, WithOptions, run, distinct, crew, asserts, facts, accepted, check_passes, check_rows, name_with, rows_of_load, rows_of_options, uses_pass}
 
 -- ---- one use
 
@@ -291,6 +291,7 @@ options_clean c words options e good =
     name_safe : (c : WithOptions) → bytes_eq (name_with c) dashes ≡ false
     name_safe run = refl
     name_safe distinct = refl
+    name_safe crew = refl
     name_safe asserts = refl
     name_safe facts = refl
 
@@ -300,6 +301,7 @@ says_clean words Check says = record { safe = ap has_dashes says; passes = ap (f
 says_clean words (Distinct workers budget) says = options_clean distinct words says.0 says.1 (good_options says.0 workers budget says.2)
 says_clean words (Assert budget) says = options_clean asserts words says.0 says.1 (good_budget says.0 budget says.2).good
 says_clean words (Facts budget) says = options_clean facts words says.0 says.1 (good_budget says.0 budget says.2).good
+says_clean words (Crew workers budget) says = options_clean crew words says.0 says.1 (good_options says.0 workers budget says.2)
 says_clean words (Load number workers) says = let clean = load_clean words number workers says in record { safe = clean.safe; passes = clean.passes }
 
 pub escape_says_none : (words : List Text) → has_dashes words ≡ true → SaysNone words
@@ -354,6 +356,7 @@ budget_at_all c words is reads budget says =
 abbrev Reads : WithOptions → List Row → Option Command → Type 0
 Reads run = ReadsWithOptions Run
 Reads distinct = ReadsWithOptions Distinct
+Reads crew = ReadsWithOptions Crew
 Reads asserts = ReadsWithBudget Assert
 Reads facts = ReadsWithBudget Facts
 
@@ -365,28 +368,40 @@ none_said run words is reads (Distinct workers budget) says e = absurd (omega (a
 none_said run words is reads (Assert budget) says e = absurd (omega (arith, ap second_byte e))
 none_said run words is reads (Facts budget) says e = absurd (omega (arith, ap second_byte e))
 none_said run words is reads (Load number workers) says e = absurd (omega (arith, ap second_byte e))
+none_said run words is reads (Crew workers budget) says e = absurd (omega (arith, ap second_byte e))
 none_said distinct words is reads (Run workers budget) says e = absurd (omega (arith, ap second_byte e))
 none_said distinct words is reads Check says e = absurd (omega (arith, ap second_byte e))
 none_said distinct words is reads (Distinct workers budget) says e = read_at_all distinct words is reads workers budget says
 none_said distinct words is reads (Assert budget) says e = absurd (omega (arith, ap second_byte e))
 none_said distinct words is reads (Facts budget) says e = absurd (omega (arith, ap second_byte e))
 none_said distinct words is reads (Load number workers) says e = absurd (omega (arith, ap second_byte e))
+none_said distinct words is reads (Crew workers budget) says e = absurd (omega (arith, ap second_byte e))
+none_said crew words is reads (Run workers budget) says e = absurd (omega (arith, ap second_byte e))
+none_said crew words is reads Check says e = absurd (omega (arith, ap second_byte e))
+none_said crew words is reads (Distinct workers budget) says e = absurd (omega (arith, ap second_byte e))
+none_said crew words is reads (Assert budget) says e = absurd (omega (arith, ap second_byte e))
+none_said crew words is reads (Facts budget) says e = absurd (omega (arith, ap second_byte e))
+none_said crew words is reads (Load number workers) says e = absurd (omega (arith, ap second_byte e))
+none_said crew words is reads (Crew workers budget) says e = read_at_all crew words is reads workers budget says
 none_said asserts words is reads (Run workers budget) says e = absurd (omega (arith, ap second_byte e))
 none_said asserts words is reads Check says e = absurd (omega (arith, ap second_byte e))
 none_said asserts words is reads (Distinct workers budget) says e = absurd (omega (arith, ap second_byte e))
 none_said asserts words is reads (Assert budget) says e = budget_at_all asserts words is reads budget says
 none_said asserts words is reads (Facts budget) says e = absurd (omega (arith, ap second_byte e))
 none_said asserts words is reads (Load number workers) says e = absurd (omega (arith, ap second_byte e))
+none_said asserts words is reads (Crew workers budget) says e = absurd (omega (arith, ap second_byte e))
 none_said facts words is reads (Run workers budget) says e = absurd (omega (arith, ap second_byte e))
 none_said facts words is reads Check says e = absurd (omega (arith, ap second_byte e))
 none_said facts words is reads (Distinct workers budget) says e = absurd (omega (arith, ap second_byte e))
 none_said facts words is reads (Assert budget) says e = absurd (omega (arith, ap second_byte e))
 none_said facts words is reads (Facts budget) says e = budget_at_all facts words is reads budget says
 none_said facts words is reads (Load number workers) says e = absurd (omega (arith, ap second_byte e))
+none_said facts words is reads (Crew workers budget) says e = absurd (omega (arith, ap second_byte e))
 
 some_said : (c : WithOptions) (words : List Text) (is : HasUses (name_with c) words) (d : Command) → Reads c (matched is.uses) (Some d) → Says words d
 some_said run words is d reads = subst (Says words) (sym reads.2) (all_written is.uses, is.are, read_options is.uses is.pass reads.0.workers reads.0.budget reads.1.0 reads.1.1)
 some_said distinct words is d reads = subst (Says words) (sym reads.2) (all_written is.uses, is.are, read_options is.uses is.pass reads.0.workers reads.0.budget reads.1.0 reads.1.1)
+some_said crew words is d reads = subst (Says words) (sym reads.2) (all_written is.uses, is.are, read_options is.uses is.pass reads.0.workers reads.0.budget reads.1.0 reads.1.1)
 some_said asserts words is d reads = subst (Says words) (sym reads.2) (all_written is.uses, is.are, read_budget is.uses is.pass reads.1.0 reads.0 reads.1.1)
 some_said facts words is d reads = subst (Says words) (sym reads.2) (all_written is.uses, is.are, read_budget is.uses is.pass reads.1.0 reads.0 reads.1.1)
 
@@ -405,6 +420,7 @@ no_load_said words is reads (Distinct workers budget) says e = absurd (omega (ar
 no_load_said words is reads (Assert budget) says e = absurd (omega (arith, ap second_byte e))
 no_load_said words is reads (Facts budget) says e = absurd (omega (arith, ap second_byte e))
 no_load_said words is reads (Load number workers) says e = load_is_read words is reads number workers says
+no_load_said words is reads (Crew workers budget) says e = absurd (omega (arith, ap second_byte e))
 
 said_load : (words : List Text) (said : Option Command) (is : HasParts words) → ReadsLoad (rows_of_load (parts_rows [] is.parts)) said → IsSaid words said
 said_load words None is reads = record {
@@ -418,9 +434,10 @@ said_load words (Some d) is reads = record {
 
 pub is_said : (words : List Text) (found : Found) (said : Option Command) → has_dashes words ≡ false → fault_of program words ≡ [] → found ≡ subcommand_of program words
     → ((rows : List Row) → found ≡ Some (codes "run", rows) → ReadsWithOptions Run rows said) → ((rows : List Row) → found ≡ Some (codes "distinct", rows) → ReadsWithOptions Distinct rows said)
+    → ((rows : List Row) → found ≡ Some (codes "crew", rows) → ReadsWithOptions Crew rows said)
     → ((rows : List Row) → found ≡ Some (codes "assert", rows) → ReadsWithBudget Assert rows said) → ((rows : List Row) → found ≡ Some (codes "facts", rows) → ReadsWithBudget Facts rows said)
     → ((rows : List Row) → found ≡ Some (codes "load", rows) → ReadsLoad rows said) → ((rows : List Row) → found ≡ Some (codes "check", rows) → said ≡ Some Check) → IsSaid words said
-is_said words found said safe none is by_run by_distinct by_assert by_facts by_load check =
+is_said words found said safe none is by_run by_distinct by_crew by_assert by_facts by_load check =
     elim (accepted words safe none) [
       | inl e ↦ said_check words said e (check [] (is ∙ ap (subcommand_of program) e ∙ check_rows))
       | inr (inl l) ↦ said_load words said l (by_load (rows_of_load (parts_rows [] l.parts)) (is ∙ l.rows))
@@ -430,5 +447,6 @@ is_said words found said safe none is by_run by_distinct by_assert by_facts by_l
     reads : (c : WithOptions) (rows : List Row) → found ≡ Some (name_with c, rows) → Reads c rows said
     reads run = by_run
     reads distinct = by_distinct
+    reads crew = by_crew
     reads asserts = by_assert
     reads facts = by_facts

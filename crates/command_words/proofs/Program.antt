@@ -52,12 +52,14 @@ kinds_of words = walk_fault whole.top names start words
 pub data WithOptions : Type 0 where
   run : WithOptions
   distinct : WithOptions
+  crew : WithOptions
   asserts : WithOptions
   facts : WithOptions
 
 abbrev pub name_with : WithOptions → Text
 name_with run = codes "run"
 name_with distinct = codes "distinct"
+name_with crew = codes "crew"
 name_with asserts = codes "assert"
 name_with facts = codes "facts"
 
@@ -65,6 +67,7 @@ walk_with : (c : WithOptions) (rest : List Text) → walk_of (name_with c ∷ re
 unfolding walked
 walk_with run rest = sym (walk_stopped whole.top.rules names start (codes "run") [] rest)
 walk_with distinct rest = sym (walk_stopped whole.top.rules names start (codes "distinct") [] rest)
+walk_with crew rest = sym (walk_stopped whole.top.rules names start (codes "crew") [] rest)
 walk_with asserts rest = sym (walk_stopped whole.top.rules names start (codes "assert") [] rest)
 walk_with facts rest = sym (walk_stopped whole.top.rules names start (codes "facts") [] rest)
 
@@ -80,6 +83,7 @@ kinds_with : (c : WithOptions) (rest : List Text) → kinds_of (name_with c ∷ 
 unfolding walked walk_fault
 kinds_with run rest = no_fault_behind whole.top names (codes "run") [] rest
 kinds_with distinct rest = no_fault_behind whole.top names (codes "distinct") [] rest
+kinds_with crew rest = no_fault_behind whole.top names (codes "crew") [] rest
 kinds_with asserts rest = no_fault_behind whole.top names (codes "assert") [] rest
 kinds_with facts rest = no_fault_behind whole.top names (codes "facts") [] rest
 
@@ -99,6 +103,7 @@ faults_with : (c : WithOptions) (rest : List Text) → fault_of program (name_wi
 unfolding defaults_fault
 faults_with run rest = ap₂ faults_by (walk_with run rest) (kinds_with run rest)
 faults_with distinct rest = ap₂ faults_by (walk_with distinct rest) (kinds_with distinct rest)
+faults_with crew rest = ap₂ faults_by (walk_with crew rest) (kinds_with crew rest)
 faults_with asserts rest = ap₂ faults_by (walk_with asserts rest) (kinds_with asserts rest)
 faults_with facts rest = ap₂ faults_by (walk_with facts rest) (kinds_with facts rest)
 
@@ -151,6 +156,7 @@ module _ (command : Text) where
 rows_with : (c : WithOptions) (rest : List Text) → subcommand_of program (name_with c ∷ rest) ≡ Some (name_with c, rows_of_options (settled_end (end_of start rest)))
 rows_with run rest = ap (λ (w : Walk). entered whole w.stopped) (walk_with run rest)
 rows_with distinct rest = ap (λ (w : Walk). entered whole w.stopped) (walk_with distinct rest)
+rows_with crew rest = ap (λ (w : Walk). entered whole w.stopped) (walk_with crew rest)
 rows_with asserts rest = ap (λ (w : Walk). entered whole w.stopped) (walk_with asserts rest)
 rows_with facts rest = ap (λ (w : Walk). entered whole w.stopped) (walk_with facts rest)
 
@@ -298,10 +304,11 @@ unfolding clap_on_literals
 no_words e = absurd (cc)
 
 -- which command a word is, by its comparison with each name
-abbrev met_by : Bool → Bool → Bool → Bool → Bool → Bool → Option Text
-met_by r k d a f l =
+abbrev met_by : Bool → Bool → Bool → Bool → Bool → Bool → Bool → Option Text
+met_by r k d a f l c =
     option_map (λ (s : Text × List Text). s.0) (cond (r || false) (Some (codes "run", [])) (cond (k || false) (Some (codes "check", [])) (cond (d || false) (Some (codes "distinct", []))
-    (cond (a || false) (Some (codes "assert", [])) (cond (f || false) (Some (codes "facts", [])) (cond (l || false) (Some (codes "load", [])) None))))))
+    (cond (a || false) (Some (codes "assert", [])) (cond (f || false) (Some (codes "facts", [])) (cond (l || false) (Some (codes "load", []))
+    (cond (c || false) (Some (codes "crew", [])) None)))))))
 
 accepted_with : (c : WithOptions) (word : Text) (rest : List Text) → has_dashes (word ∷ rest) ≡ false → fault_of program (word ∷ rest) ≡ [] → bytes_eq (name_with c) word ≡ true → Accepted (word ∷ rest)
 accepted_with c word rest safe e is =
@@ -322,20 +329,23 @@ accepted_word word rest safe e is =
 pub accepted : (words : List Text) → has_dashes words ≡ false → fault_of program words ≡ [] → Accepted words
 accepted [] safe e = absurd (no_words e)
 accepted (word ∷ rest) safe e =
-    go (bytes_eq (codes "run") word) (bytes_eq (codes "check") word) (bytes_eq (codes "distinct") word) (bytes_eq (codes "assert") word) (bytes_eq (codes "facts") word) (bytes_eq (codes "load") word) refl refl refl refl refl refl
+    go (bytes_eq (codes "run") word) (bytes_eq (codes "check") word) (bytes_eq (codes "distinct") word) (bytes_eq (codes "assert") word) (bytes_eq (codes "facts") word) (bytes_eq (codes "load") word) (bytes_eq (codes "crew") word) refl refl refl
+    refl refl refl refl
   where
-    go : (r k d a f l : Bool) → bytes_eq (codes "run") word ≡ r → bytes_eq (codes "check") word ≡ k → bytes_eq (codes "distinct") word ≡ d → bytes_eq (codes "assert") word ≡ a → bytes_eq (codes "facts") word ≡ f
-        → bytes_eq (codes "load") word ≡ l → Accepted (word ∷ rest)
-    go true k d a f l is-r is-k is-d is-a is-f is-l = accepted_with run word rest safe e is-r
-    go false true d a f l is-r is-k is-d is-a is-f is-l = accepted_word word rest safe e is-k
-    go false false true a f l is-r is-k is-d is-a is-f is-l = accepted_with distinct word rest safe e is-d
-    go false false false true f l is-r is-k is-d is-a is-f is-l = accepted_with asserts word rest safe e is-a
-    go false false false false true l is-r is-k is-d is-a is-f is-l = accepted_with facts word rest safe e is-f
-    go false false false false false true is-r is-k is-d is-a is-f is-l = accepted_load word rest safe e is-l
-    go false false false false false false is-r is-k is-d is-a is-f is-l =
+    go : (r k d a f l c : Bool) → bytes_eq (codes "run") word ≡ r → bytes_eq (codes "check") word ≡ k → bytes_eq (codes "distinct") word ≡ d → bytes_eq (codes "assert") word ≡ a → bytes_eq (codes "facts") word ≡ f
+        → bytes_eq (codes "load") word ≡ l → bytes_eq (codes "crew") word ≡ c → Accepted (word ∷ rest)
+    go true k d a f l c is-r is-k is-d is-a is-f is-l is-c = accepted_with run word rest safe e is-r
+    go false true d a f l c is-r is-k is-d is-a is-f is-l is-c = accepted_word word rest safe e is-k
+    go false false true a f l c is-r is-k is-d is-a is-f is-l is-c = accepted_with distinct word rest safe e is-d
+    go false false false true f l c is-r is-k is-d is-a is-f is-l is-c = accepted_with asserts word rest safe e is-a
+    go false false false false true l c is-r is-k is-d is-a is-f is-l is-c = accepted_with facts word rest safe e is-f
+    go false false false false false true c is-r is-k is-d is-a is-f is-l is-c = accepted_load word rest safe e is-l
+    go false false false false false false true is-r is-k is-d is-a is-f is-l is-c = accepted_with crew word rest safe e is-c
+    go false false false false false false false is-r is-k is-d is-a is-f is-l is-c =
         let none : subcommand_met names idle word ≡ None =
-        ap₂ (λ (x y : Bool). met_by x y (bytes_eq (codes "distinct") word) (bytes_eq (codes "assert") word) (bytes_eq (codes "facts") word) (bytes_eq (codes "load") word)) is-r is-k
-        ∙ ap₂ (λ (x y : Bool). met_by false false x y (bytes_eq (codes "facts") word) (bytes_eq (codes "load") word)) is-d is-a ∙ ap₂ (met_by false false false false) is-f is-l in
+        ap₂ (λ (x y : Bool). met_by x y (bytes_eq (codes "distinct") word) (bytes_eq (codes "assert") word) (bytes_eq (codes "facts") word) (bytes_eq (codes "load") word) (bytes_eq (codes "crew") word)) is-r is-k
+        ∙ ap₂ (λ (x y : Bool). met_by false false x y (bytes_eq (codes "facts") word) (bytes_eq (codes "load") word) (bytes_eq (codes "crew") word)) is-d is-a
+        ∙ ap₂ (λ (x y : Bool). met_by false false false false x y (bytes_eq (codes "crew") word)) is-f is-l ∙ ap (met_by false false false false false false) is-c in
         absurd (other_word word rest (first_safe word rest safe) none e)
 
 -- ---- and only they do

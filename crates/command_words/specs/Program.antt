@@ -47,8 +47,9 @@ with_command name a = with_subcommand a (command_with_options name).top
 
 abbrev pub program : App
 program =
-    with_subcommand
-    (with_command (codes "facts") (with_command (codes "assert") (with_command (codes "distinct") (with_subcommand (with_command (codes "run") without_commands) check_command.top)))) load_command.top
+    with_command (codes "crew")
+    (with_subcommand
+    (with_command (codes "facts") (with_command (codes "assert") (with_command (codes "distinct") (with_subcommand (with_command (codes "run") without_commands) check_command.top)))) load_command.top)
 
 -- what is read under a name: the number that its text is
 abbrev pub ReadsGiven : Text → List Row → Option ℕ → Type 0

@@ -1,7 +1,7 @@
 -- Which words tell the program what to do.
 use Rattle.std.specs.Prelude.{◌≡◌, ◌≤◌, ◌+◌, ◌*◌, ◌-◌, ◌⊎◌, ◌++◌, ◌∷◌, [], ℕ, List, All, codes, length}
 use Rattle.command_words.specs.declared.reading.Command.{Command}
-use Rattle.command_words.specs.declared.reading.Command.TheVariants.{Run, Check, Distinct, Assert, Facts, Load}
+use Rattle.command_words.specs.declared.reading.Command.TheVariants.{Run, Check, Distinct, Assert, Facts, Load, Crew}
 
 abbrev pub IsDigit : ℕ → Type 0
 IsDigit b = (48 ≤ b) × (b ≤ 57)
@@ -81,6 +81,7 @@ Says words (Distinct workers budget) = IsBehind (codes "distinct") words (λ opt
 Says words (Assert budget) = IsBehind (codes "assert") words (λ options. IsBudgetAlone options budget)
 Says words (Facts budget) = IsBehind (codes "facts") words (λ options. IsBudgetAlone options budget)
 Says words (Load number workers) = IsBehind (codes "load") words (λ behind. AreOfLoad behind number workers)
+Says words (Crew workers budget) = IsBehind (codes "crew") words (λ options. AreOptions options workers budget)
 
 -- no command is said
 abbrev pub SaysNone : List (List ℕ) → Type 0

@@ -7,7 +7,7 @@ ghost use Rattle.command_words.specs.Words.{IsNumber, Says, SaysNone};
 ghost use Rattle.command_words.specs.Program.{command_with_options, load_command, load_number, number_option, program, without_commands, workers, ReadsBudget, ReadsGiven, ReadsLoad, ReadsNumber, ReadsOptions, ReadsWithBudget, ReadsWithOptions};
 ghost use Rattle.command_words.specs.Read.{texts, has_escape};
 ghost use Rattle.command_words.specs.declared.reading.Command.{Command as Said};
-ghost use Rattle.command_words.specs.declared.reading.Command.TheVariants.{Assert, Check, Distinct, Facts, Run};
+ghost use Rattle.command_words.specs.declared.reading.Command.TheVariants.{Assert, Check, Crew, Distinct, Facts, Run};
 
 use clap::builder::ValueParser;
 use clap::error::ErrorKind;
@@ -29,6 +29,8 @@ pub enum Command {
     Facts { budget: u32 },
     /// Run the script of a number from 1 to 16, which the program makes, by 1 to 16 workers, and count what is shown.
     Load { number: u32, workers: u32 },
+    /// List what a script's keys ask for by 1 to 16 workers that share one search, each with a budget of at most 100,000 units a round.
+    Crew { workers: u32, budget: u32 },
 }
 
 /// What the options of a command say; where one isn't given, its default.
@@ -145,6 +147,7 @@ fn program<'a>(alloc: Global) -> Result<clap::Command<'a>, AllocError>
     let program = with_command(alloc, program, "assert")?;
     let program = with_command(alloc, program, "facts")?;
     let program = with_load(alloc, program)?;
+    let program = with_command(alloc, program, "crew")?;
     Ok(program)
 }
 
@@ -223,6 +226,14 @@ fn distinct_with(matches: &ArgMatches<'_>) -> Option<Command>
     Some(Command::Distinct { workers, budget })
 }
 
+// The command `crew` with its options.
+fn crew_with(matches: &ArgMatches<'_>) -> Option<Command>
+    ensures { ReadsWithOptions Crew (rows_of (found_of matches.now)) result }
+{
+    let Options { workers, budget } = options_in(matches)?;
+    Some(Command::Crew { workers, budget })
+}
+
 // The command `assert` with its budget.
 fn assert_with(matches: &ArgMatches<'_>) -> Option<Command>
     ensures { ReadsWithBudget Assert (rows_of (found_of matches.now)) result }
@@ -252,6 +263,7 @@ fn load_with(matches: &ArgMatches<'_>) -> Option<Command>
 fn said_by(matches: &ArgMatches<'_>) -> Option<Command>
     ensures run { (rows : List Row) → subcommand_rows_of matches.now ≡ Some (codes "run", rows) → ReadsWithOptions Run rows result }
     ensures distinct { (rows : List Row) → subcommand_rows_of matches.now ≡ Some (codes "distinct", rows) → ReadsWithOptions Distinct rows result }
+    ensures crew { (rows : List Row) → subcommand_rows_of matches.now ≡ Some (codes "crew", rows) → ReadsWithOptions Crew rows result }
     ensures asserts { (rows : List Row) → subcommand_rows_of matches.now ≡ Some (codes "assert", rows) → ReadsWithBudget Assert rows result }
     ensures facts { (rows : List Row) → subcommand_rows_of matches.now ≡ Some (codes "facts", rows) → ReadsWithBudget Facts rows result }
     ensures load { (rows : List Row) → subcommand_rows_of matches.now ≡ Some (codes "load", rows) → ReadsLoad rows result }
@@ -261,6 +273,8 @@ fn said_by(matches: &ArgMatches<'_>) -> Option<Command>
         run_with(options)
     } else if let Some(options) = matches.subcommand_matches("distinct") {
         distinct_with(options)
+    } else if let Some(options) = matches.subcommand_matches("crew") {
+        crew_with(options)
     } else if let Some(options) = matches.subcommand_matches("assert") {
         assert_with(options)
     } else if let Some(options) = matches.subcommand_matches("facts") {
@@ -279,7 +293,7 @@ fn has_escape(words: &[String]) -> bool
     words.iter().any(|word| word.as_str() == "--")
 }
 
-/// What the words say: `run` or `distinct` with the options `--workers N` and `--budget N` in any order, each at most once,
+/// What the words say: `run`, `distinct` or `crew` with the options `--workers N` and `--budget N` in any order, each at most once,
 /// `assert` or `facts` with `--budget N` at most, `load` with a number from 1 to 16 and `--workers N` at most, before or behind
 /// it, or `check` alone. A number is one to nine digits, and may stand behind `=` in its option's word. None where the words aren't
 /// so, and an error where memory is wanting.

@@ -2,7 +2,7 @@
 use Rattle.std.proofs.Common.{◌≡◌, ◌≤◌, ◌⊎◌, inl, inr, ℕ, List, Option, Some, None, subst, arith}
 use Rattle.std.specs.Prelude.{IfSome, IfNone}
 use Rattle.command_words.specs.declared.reading.Command.{Command}
-use Rattle.command_words.specs.declared.reading.Command.TheVariants.{Run, Distinct, Check, Assert, Facts, Load}
+use Rattle.command_words.specs.declared.reading.Command.TheVariants.{Run, Distinct, Check, Assert, Facts, Load, Crew}
 use Rattle.command_words.specs.Words.{Says, SaysNone, AreOfLoad, AreOptions, IsBudgetAlone}
 use Rattle.explorer_cli.specs.Outcome.{HasNumbersInRange, HasFailed, IsStatusOf, IsStatus}
 
@@ -30,6 +30,7 @@ numbers_in_range words Check says = tt
 numbers_in_range words (Assert budget) says = few_alone says.0 budget says.2
 numbers_in_range words (Facts budget) says = few_alone says.0 budget says.2
 numbers_in_range words (Load number workers) says = numbers_of_load says.0 number workers says.2
+numbers_in_range words (Crew workers budget) says = numbers_of_options says.0 workers budget says.2
 
 -- what is answered of the words, where the answer is known
 pub some_said : (words : List (List ℕ)) (said : Option Command) (command : Command) → said ≡ Some command → IfSome said (Says words) → Says words command
@@ -46,6 +47,7 @@ is_status Check n is = grind arith
 is_status (Assert budget) n is = grind arith
 is_status (Facts budget) n is = grind arith
 is_status (Load number workers) n is = grind arith
+is_status (Crew workers budget) n is = grind arith
 
 pub never_two : (command : Command) (n : ℕ) → HasFailed n ⊎ IsStatusOf command n → n ≡ 2 → ⊥
 never_two (Run workers budget) n is two = grind arith
@@ -54,6 +56,7 @@ never_two Check n is two = grind arith
 never_two (Assert budget) n is two = grind arith
 never_two (Facts budget) n is two = grind arith
 never_two (Load number workers) n is two = grind arith
+never_two (Crew workers budget) n is two = grind arith
 
 -- the statuses of answers are low ones
 pub low_status : (command : Command) (n : ℕ) → IsStatusOf command n → n ≤ 4
@@ -63,3 +66,4 @@ low_status Check n is = grind arith
 low_status (Assert budget) n is = grind arith
 low_status (Facts budget) n is = grind arith
 low_status (Load number workers) n is = grind arith
+low_status (Crew workers budget) n is = grind arith

@@ -7,7 +7,7 @@ use Rattle.script_format.specs.declared.entries.Script.{Script}
 use Rattle.script_format.specs.Script.{HasFault}
 use Rattle.served_models.specs.declared.purposes.Purpose.TheVariants.{Lists, Classes}
 use Rattle.command_words.specs.declared.reading.Command.{Command}
-use Rattle.command_words.specs.declared.reading.Command.TheVariants.{Run, Distinct, Check, Assert, Facts, Load}
+use Rattle.command_words.specs.declared.reading.Command.TheVariants.{Run, Distinct, Check, Assert, Facts, Load, Crew}
 use Rattle.proof_command.proofs.WholeTexts.{answers_whole as proof_whole}
 use Rattle.explorer_cli.specs.Outcome.{IsAnswerOfRuns, IsAnswerToScript, IsAnswerTo, limit_of}
 use Rattle.explorer_cli.proofs.AnswersBy.{IsAnswerBy}
@@ -43,3 +43,4 @@ answers_whole Check bytes status text answer = proof_whole bytes status text ans
 answers_whole (Assert budget) bytes status text answer = script_whole (IsAnswerToScript (Assert budget)) bytes status text answer
 answers_whole (Facts budget) bytes status text answer = script_whole (IsAnswerToScript (Facts budget)) bytes status text answer
 answers_whole (Load number workers) bytes status text answer = answer
+answers_whole (Crew workers budget) bytes status text answer = script_whole (IsAnswerToScript (Crew workers budget)) bytes status text answer

@@ -1,5 +1,5 @@
 -- The problems of commands under their keys.
-use Rattle.std.proofs.Common.{◌≡◌, ◌≢◌, ◌≤◌, ◌<◌, ◌+◌, ◌*◌, ◌^◌, ◌==◌, ◌∙◌, ℕ, Bool, true, false, cond, Option, None, Some, List, [], ◌∷◌, ◌++◌, map, length, take, get_or, All, AllPairs, Contains, inl, inr, refl, sym, ap, subst, arith, length-append, append-nil, append_assoc}
+use Rattle.std.proofs.Common.{◌≡◌, ◌≢◌, ◌≤◌, ◌<◌, ◌+◌, ◌*◌, ◌==◌, ◌∙◌, ℕ, Bool, true, false, cond, Option, None, Some, List, [], ◌∷◌, ◌++◌, map, length, take, get_or, All, AllPairs, Contains, inl, inr, sym, ap, subst, arith, length-append, append-nil, append_assoc}
 use Rattle.std.specs.Prelude.{slice_get, nat_lt}
 use Rattle.std.specs.List.{position, position_or_len}
 use Rattle.std.specs.Global.{Vec}
@@ -215,13 +215,17 @@ module _ (purpose : Purpose) (sessions : List SessionEntry) where
       let rest = few_problems (place + 1) ms xs few are.1 in
       omega (arith, here, long, joined, rest, few)
 
-  -- each can be translated
+  -- each of a model can be translated, and so can all
+  pub made_servable : AreSymmetric → (place : ℕ) (m : NamedTree) (made : List ServedCommand) → AreMade purpose sessions place m made → All (λ (c : ServedCommand). IsServable c.problem) made
+  made_servable symmetric place m made are =
+      let Servable : ServedCommand → Type 0 = λ c. IsServable c.problem in
+      let each : (c : ServedCommand) → IsProblemOf m c.number c.problem → Servable c = λ c is. record { translatable = is.lowered.translatable; symmetric = symmetric m c.number (all_facts m) c.problem is.lowered.is } in
+      All-weaker (λ (c : ServedCommand). IsProblemOf m c.number c.problem) Servable each made are.each
+
   pub all_servable : AreSymmetric → (place : ℕ) (ms : List NamedTree) (models : List (Vec ServedCommand)) → AreAllMade purpose sessions place ms models → All IsServable (problems_of models)
   all_servable symmetric place [] [] are = All-nil IsServable
   all_servable symmetric place [] (x ∷ xs) are = absurd are
   all_servable symmetric place (m ∷ ms) [] are = absurd are
   all_servable symmetric place (m ∷ ms) (x ∷ xs) are =
-      let Servable : ServedCommand → Type 0 = λ c. IsServable c.problem in
-      let each : (c : ServedCommand) → IsProblemOf m c.number c.problem → Servable c = λ c is. record { translatable = is.lowered.translatable; symmetric = symmetric m c.number (all_facts m) c.problem is.lowered.is } in
-      let own = All-weaker (λ (c : ServedCommand). IsProblemOf m c.number c.problem) Servable each x.items are.0.each in
+      let own = made_servable symmetric place m x.items are.0 in
       All-append IsServable (problems_in x) (problems_of xs) (All-map IsServable (λ (c : ServedCommand). c.problem) x.items own) (all_servable symmetric (place + 1) ms xs are.1)

@@ -2,10 +2,13 @@ pub mod AnswersBy
 pub mod BackedReplies
 pub mod ClassedReplies
 pub mod Commands
+pub mod CrewBlocks
 pub mod FewCommands
 pub mod FloorsBehind
 pub mod Fronts
 pub mod KeyedProblems
+pub mod OneCrew
+pub mod OneOrder
 pub mod OneOutput
 pub mod Problems
 pub mod ProperReplies
@@ -20,5 +23,4 @@ pub mod Usables
 pub mod Sums
 pub mod Summaries
 pub mod SummedRuns
-pub mod LoadAnswers
 pub mod Unread

@@ -1,9 +1,8 @@
 -- Scripts of `all` and `budget` alone have one output.
-use Rattle.std.proofs.Common.{◌≡◌, ◌↔◌, ◌⊎◌, inl, inr, ℕ, suc, List, [], ◌∷◌, All, AllPairs, Contains, refl, sym, ap, ◌∙◌, subst, arith}
+use Rattle.std.proofs.Common.{◌≡◌, ◌↔◌, ◌⊎◌, inl, inr, ℕ, List, [], ◌∷◌, All, AllPairs, Contains, refl, sym, ap, ◌∙◌, subst}
 use Rattle.std.specs.List.{AllZip, AllByRecursion}
 use Rattle.std.proofs.lemmas.List.Elements.{All-head, All-tail, recursion_from_All}
 use Rattle.rel_formula.specs.Bounds.{Bounded}
-use Rattle.rel_formula.proofs.OpenCells.{cons_cases}
 use Rattle.swap_symmetry.specs.Due.{IsDue}
 use Rattle.swap_symmetry.specs.Order.{IsEarlier}
 use Rattle.swap_symmetry.proofs.ScenarioOrders.{only_one}
@@ -23,48 +22,9 @@ use Rattle.script_text.specs.Printed.{Printed, listed, budget_set, printed, all_
 use Rattle.script_text.specs.Replies.{PrintedSession}
 use Rattle.explorer_cli.specs.Runs.{Translations, IsRunAmong}
 use Rattle.explorer_cli.specs.Shown.{AsksForList, IsListed}
+use Rattle.explorer_cli.proofs.OneOrder.{one_order}
 use Rattle.explorer_cli.proofs.Problems.{OneProblem, one_problem_at}
 use Rattle.explorer_cli.proofs.ShowingReplies.{reached_on, top_comes}
-
--- ---- lists in one order
-
-no_earlier_itself : (s : List ℕ) → IsEarlier s s → ⊥
-no_earlier_itself s e = e.2 e.1
-
-first_of_all : (x : List ℕ) (xs : List (List ℕ)) (y : List ℕ) → AllPairs IsEarlier (x ∷ xs) → Contains xs y → IsEarlier x y
-first_of_all x xs y sorted c = subst (IsEarlier x) c.2 (sorted 0 (suc c.0) y (omega arith) (let l = c.1 in omega arith))
-
-later_pairs : (x : List ℕ) (xs : List (List ℕ)) → AllPairs IsEarlier (x ∷ xs) → AllPairs IsEarlier xs
-later_pairs x xs sorted i j d l m = sorted (suc i) (suc j) d (omega arith) (omega arith)
-
-has_first : (x : List ℕ) (xs : List (List ℕ)) → Contains (x ∷ xs) x
-has_first x xs = (0, omega arith, refl)
-
-has_later : (x : List ℕ) (xs : List (List ℕ)) (y : List ℕ) → Contains xs y → Contains (x ∷ xs) y
-has_later x xs y c = (suc c.0, let l = c.1 in omega arith, c.2)
-
--- what is later than the first isn't the first
-rest_has : (x : List ℕ) (xs : List (List ℕ)) (y z : List ℕ) (ys : List (List ℕ)) → AllPairs IsEarlier (x ∷ xs) → x ≡ y → Contains xs z → Contains (y ∷ ys) z → Contains ys z
-rest_has x xs y z ys sorted same c d = elim (cons_cases y ys z d) [
-  | inl e ↦ absurd (no_earlier_itself x (subst (IsEarlier x) (sym (same ∙ e)) (first_of_all x xs z sorted c)))
-  | inr later ↦ later
-]
-
--- scenarios in this order are one list
-pub one_order : (xs ys : List (List ℕ)) → AllPairs IsEarlier xs → AllPairs IsEarlier ys → ((z : List ℕ) → Contains xs z → Contains ys z) → ((z : List ℕ) → Contains ys z → Contains xs z) → xs ≡ ys
-one_order [] [] sx sy to back = refl
-one_order [] (y ∷ ys) sx sy to back = absurd (let l = (back y (has_first y ys)).1 in omega arith)
-one_order (x ∷ xs) [] sx sy to back = absurd (let l = (to x (has_first x xs)).1 in omega arith)
-one_order (x ∷ xs) (y ∷ ys) sx sy to back =
-    let heads : x ≡ y = elim (cons_cases y ys x (to x (has_first x xs))) [
-      | inl e ↦ sym e
-      | inr c ↦ elim (cons_cases x xs y (back y (has_first y ys))) [
-        | inl e ↦ e
-        | inr d ↦ absurd (only_one x y (first_of_all x xs y sx d) (first_of_all y ys x sy c))
-      ]
-    ] in
-    let rest = one_order xs ys (later_pairs x xs sx) (later_pairs y ys sy) (λ z c. rest_has x xs y z ys sx heads c (to z (has_later x xs z c))) (λ z c. rest_has y ys x z xs sy (sym heads) c (back z (has_later y ys z c))) in
-    ap (λ (z : List ℕ). z ∷ xs) heads ∙ ap (λ (zs : List (List ℕ)). y ∷ zs) rest
 
 -- ---- replies
 
@@ -159,7 +119,7 @@ one_fixed p floor c a b (inl h) (inl k) = h.1 ∙ ap budget_set (same_budget h.0
 one_fixed p floor c a b (inl h) (inr k) = absurd (no_budget h.0 k.asked (sym h.2 ∙ k.command_is))
 one_fixed p floor c a b (inr h) (inl k) = absurd (no_budget k.0 h.asked (sym k.2 ∙ h.command_is))
 one_fixed p floor c a b (inr h) (inr k) =
-    h.is ∙ ap listed (one_order h.scenarios k.scenarios h.sorted k.sorted (λ z in'. (k.due z).1 ((h.due z).0 in')) (λ z in'. (h.due z).1 ((k.due z).0 in'))) ∙ sym k.is
+    h.is ∙ ap listed (one_order IsEarlier only_one h.scenarios k.scenarios h.sorted k.sorted (λ z in'. (k.due z).1 ((h.due z).0 in')) (λ z in'. (h.due z).1 ((k.due z).0 in'))) ∙ sym k.is
 
 module _ (sound : Sound) (lists : ListsDue) (p : Bounded) (t u : Translated) where
   -- two transcripts that begin at one floor print the same

@@ -1,5 +1,5 @@
 -- Which status and text the answers to bytes have.
-use Rattle.std.proofs.Common.{◌≡◌, ℕ, List, ap, subst, ◌∙◌, inl, inr}
+use Rattle.std.proofs.Common.{◌≡◌, ◌⊎◌, ℕ, List, ap, subst, ◌∙◌, inl, inr}
 use Rattle.script_format.specs.declared.entries.Script.{Script}
 use Rattle.script_format.specs.declared.entries.ModelEntry.{ModelEntry}
 use Rattle.script_format.specs.declared.entries.SessionEntry.{SessionEntry}
@@ -10,12 +10,8 @@ use Rattle.script_text.specs.Faults.{script_line, fault_words}
 use Rattle.named_model.specs.Model.{NamedTree}
 use Rattle.served_models.specs.declared.purposes.Purpose.{Purpose}
 use Rattle.served_models.specs.Served.{AreUsable, IsFirstRefused, model_line}
-use Rattle.explorer_cli.specs.Outcome.{AreToldRuns, IsAnswerOfRuns, IsRunsAnswer}
-use Rattle.explorer_cli.proofs.AnswersBy.{fault_by, to_script}
-
--- of runs of sessions
-pub fault_answer : (purpose : Purpose) (budget : ℕ) (bytes : List ℕ) (f : ScriptFault) (status : ℕ) (text : List ℕ) → HasFault bytes f → IsRunsAnswer purpose budget bytes status text → (status ≡ 3) × (text ≡ script_line (fault_words f))
-fault_answer purpose budget bytes f status text has answer = fault_by (IsAnswerOfRuns purpose budget) bytes f status text has answer
+use Rattle.explorer_cli.specs.Outcome.{IsModelAnswer}
+use Rattle.explorer_cli.proofs.AnswersBy.{IsAnswerBy, fault_by, to_script}
 
 -- what the laws of models say, as they are used here
 abbrev pub OneList : Type 0
@@ -27,27 +23,34 @@ OneFirstRefused = (purpose : Purpose) (sessions : List SessionEntry) (entries : 
 abbrev pub NotBoth : Type 0
 NotBoth = (purpose : Purpose) (sessions : List SessionEntry) (entries : List ModelEntry) (ms : List NamedTree) (name words : List ℕ) → AreUsable purpose sessions 0 entries ms → IsFirstRefused purpose sessions entries name words → ⊥
 
-module _ (one_list : OneList) (one_first_refused : OneFirstRefused) (not_both : NotBoth) (purpose : Purpose) (budget : ℕ) where
-  model_of : (s : Script) (name words : List ℕ) (status : ℕ) (text : List ℕ) → IsFirstRefused purpose s.sessions s.models name words → IsAnswerOfRuns purpose budget s status text
+-- a script is answered with its first model that can't be used for this, or with what is told of it on its models
+abbrev pub IsToldOn : Purpose → (Script → List NamedTree → List ℕ → Type 0) → Script → ℕ → List ℕ → Type 0
+IsToldOn purpose IsTold s status text =
+    IsModelAnswer (IsFirstRefused purpose s.sessions s.models) status text ⊎ ((status ≡ 0) × ((models : List NamedTree) × AreUsable purpose s.sessions 0 s.models models × IsTold s models text))
+
+module _ (one_list : OneList) (one_first_refused : OneFirstRefused) (not_both : NotBoth) (purpose : Purpose) (IsTold : Script → List NamedTree → List ℕ → Type 0) where
+  model_of : (s : Script) (name words : List ℕ) (status : ℕ) (text : List ℕ) → IsFirstRefused purpose s.sessions s.models name words → IsToldOn purpose IsTold s status text
       → (status ≡ 4) × (text ≡ model_line name words)
   model_of s name words status text first (inl model) =
       let same = one_first_refused purpose s.sessions s.models model.1.0 model.1.1 name words model.1.2 first in
       (model.0, model.1.3 ∙ ap (λ (n : List ℕ). model_line n model.1.1) same.0 ∙ ap (model_line name) same.1)
-  model_of s name words status text first (inr run) = absurd (not_both purpose s.sessions s.models run.1.0 name words run.1.1 first)
+  model_of s name words status text first (inr told) = absurd (not_both purpose s.sessions s.models told.1.0 name words told.1.1 first)
 
-  run_of : (s : Script) (models : List NamedTree) (status : ℕ) (text : List ℕ) → AreUsable purpose s.sessions 0 s.models models → IsAnswerOfRuns purpose budget s status text
-      → (status ≡ 0) × AreToldRuns purpose budget s.sessions models text
-  run_of s models status text are (inl model) = absurd (not_both purpose s.sessions s.models models model.1.0 model.1.1 are model.1.2)
-  run_of s models status text are (inr run) =
-      (run.0, subst (λ (ms : List NamedTree). AreToldRuns purpose budget s.sessions ms text) (one_list purpose s.sessions s.models run.1.0 models run.1.1 are) run.1.2)
+  told_of : (s : Script) (models : List NamedTree) (status : ℕ) (text : List ℕ) → AreUsable purpose s.sessions 0 s.models models → IsToldOn purpose IsTold s status text → (status ≡ 0) × IsTold s models text
+  told_of s models status text are (inl model) = absurd (not_both purpose s.sessions s.models models model.1.0 model.1.1 are model.1.2)
+  told_of s models status text are (inr told) =
+      (told.0, subst (λ (ms : List NamedTree). IsTold s ms text) (one_list purpose s.sessions s.models told.1.0 models told.1.1 are) told.1.2)
+
+  pub fault_answer : (bytes : List ℕ) (f : ScriptFault) (status : ℕ) (text : List ℕ) → HasFault bytes f → IsAnswerBy (IsToldOn purpose IsTold) bytes status text → (status ≡ 3) × (text ≡ script_line (fault_words f))
+  fault_answer bytes f status text has answer = fault_by (IsToldOn purpose IsTold) bytes f status text has answer
 
   pub model_answer : (bytes : List ℕ) (s : Script) (name words : List ℕ) (status : ℕ) (text : List ℕ) → IsScript bytes s → IsFirstRefused purpose s.sessions s.models name words
-      → IsRunsAnswer purpose budget bytes status text → (status ≡ 4) × (text ≡ model_line name words)
-  model_answer bytes s name words status text is first answer = model_of s name words status text first (to_script (IsAnswerOfRuns purpose budget) bytes s status text is answer)
+      → IsAnswerBy (IsToldOn purpose IsTold) bytes status text → (status ≡ 4) × (text ≡ model_line name words)
+  model_answer bytes s name words status text is first answer = model_of s name words status text first (to_script (IsToldOn purpose IsTold) bytes s status text is answer)
 
-  pub run_answer : (bytes : List ℕ) (s : Script) (models : List NamedTree) (status : ℕ) (text : List ℕ) → IsScript bytes s → AreUsable purpose s.sessions 0 s.models models
-      → IsRunsAnswer purpose budget bytes status text → (status ≡ 0) × AreToldRuns purpose budget s.sessions models text
-  run_answer bytes s models status text is are answer = run_of s models status text are (to_script (IsAnswerOfRuns purpose budget) bytes s status text is answer)
+  pub told_answer : (bytes : List ℕ) (s : Script) (models : List NamedTree) (status : ℕ) (text : List ℕ) → IsScript bytes s → AreUsable purpose s.sessions 0 s.models models
+      → IsAnswerBy (IsToldOn purpose IsTold) bytes status text → (status ≡ 0) × IsTold s models text
+  told_answer bytes s models status text is are answer = told_of s models status text are (to_script (IsToldOn purpose IsTold) bytes s status text is answer)
 
 -- bytes that are one script say one list of models that can be used
 pub one_list_of : OneList → (purpose : Purpose) (bytes : List ℕ) (s t : Script) (ms ns : List NamedTree) → IsScript bytes s → IsScript bytes t → AreUsable purpose s.sessions 0 s.models ms → AreUsable purpose t.sessions 0 t.models ns → ms ≡ ns

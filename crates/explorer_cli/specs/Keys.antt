@@ -1,15 +1,18 @@
 -- The keys under which the problems of commands are served, and what is asked of sessions.
-use Rattle.std.specs.Prelude.{◌≡◌, ◌≤◌, ◌<◌, ◌+◌, ◌^◌, ◌==◌, ℕ, List, All, length, map, flat_map, take, Option, None, Some, slice_get}
+use Rattle.std.specs.Prelude.{◌≡◌, ◌≤◌, ◌<◌, ◌+◌, ◌^◌, ◌==◌, ℕ, List, All, length, map, flat_map, take, Option, None, Some, slice_get, Result, MatchResult}
 use Rattle.std.specs.List.{AllZip, position_or_len}
 use Rattle.std.specs.Global.{Vec}
 use Rattle.rel_formula.specs.Bounds.{Bounded}
 use Rattle.session_rules.specs.declared.script.SessionScript.{SessionScript}
+use Rattle.proof_command.specs.declared.answer.Answer.{Answer}
 use Rattle.script_format.specs.declared.entries.Script.{Script}
 use Rattle.script_format.specs.declared.entries.SessionEntry.{SessionEntry}
+use Rattle.script_format.specs.Script.{IsScript}
 use Rattle.script_format.specs.Limits.{IsAllowed, asked_by, asked_in}
 use Rattle.served_models.specs.declared.commands.ServedCommand.{ServedCommand}
 use Rattle.explorer_run.specs.Served.{AreServed}
 use Rattle.explorer_cli.specs.Runs.{IsServed}
+use Rattle.explorer_cli.specs.Outcome.{IsFaultAnswer}
 use Rattle.explorer_cli.specs.declared.sessions.Ran.{Ran}
 
 -- the problems of a model's commands
@@ -62,3 +65,9 @@ pub record KeepsToLimits (s : Script) : Type 0 where
   pub allowed : All (λ x. All IsAllowed x.commands) s.sessions
   pub asked : asked_in s.sessions ≤ 20000
   pub commands : All (λ x. length x.commands ≤ 4096) s.sessions
+
+-- ---- what is read
+
+-- the script that the bytes are, which keeps to the limits, or the answer that tells their fault
+abbrev pub IsScriptOrFault : List ℕ → Result Script Answer → Type 0
+IsScriptOrFault bytes found = MatchResult found (λ (s : Script). IsScript bytes s × KeepsToLimits s) (λ (a : Answer). IsFaultAnswer bytes a.status a.text.items)

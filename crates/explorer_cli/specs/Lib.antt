@@ -4,4 +4,6 @@ pub mod Load
 pub mod Tallies
 pub mod Keys
 pub mod Classes
+pub mod CrewTexts
+pub mod ServedCrews
 pub mod Shown

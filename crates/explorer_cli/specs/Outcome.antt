@@ -2,7 +2,7 @@
 use Rattle.std.specs.Prelude.{◌≡◌, ◌≤◌, ◌⊎◌, ℕ, List, codes}
 use Rattle.command_words.specs.declared.reading.Command.{Command}
 use Rattle.alloy_syntax.specs.declared.tree.CommandKind.TheVariants as kind
-use Rattle.command_words.specs.declared.reading.Command.TheVariants.{Run, Distinct, Check, Assert, Facts, Load}
+use Rattle.command_words.specs.declared.reading.Command.TheVariants.{Run, Distinct, Check, Assert, Facts, Load, Crew}
 use Rattle.proof_command.specs.Answer as check
 use Rattle.script_format.specs.declared.entries.Script.{Script}
 use Rattle.script_format.specs.declared.entries.SessionEntry.{SessionEntry}
@@ -20,6 +20,7 @@ use Rattle.decision_reports.specs.FactReports.{AreFactSetsOf}
 use Rattle.explorer_cli.specs.Runs.{AreRunsOf}
 use Rattle.explorer_cli.specs.Classes.{AreClassedRunsOf}
 use Rattle.explorer_cli.specs.Load.{IsSummaryOf}
+use Rattle.explorer_cli.specs.CrewTexts.{AreCrewTexts}
 
 -- the line that names refused words
 abbrev pub words_line : List ℕ
@@ -40,10 +41,15 @@ WritesRuns purpose budget s text = (models : List NamedTree) × AreUsable purpos
 abbrev pub WritesSummary : ℕ → Script → List ℕ → Type 0
 WritesSummary budget s text = (models : List NamedTree) × AreUsable Lists s.sessions 0 s.models models × IsSummaryOf budget s.sessions models text
 
+-- what crews of so many workers with this budget find of the commands on which the script's sessions are, on its models, which can
+-- all be used for lists
+abbrev pub WritesCrews : ℕ → ℕ → Script → List ℕ → Type 0
+WritesCrews workers budget s text = (models : List NamedTree) × AreUsable Lists s.sessions 0 s.models models × AreCrewTexts workers budget s.sessions s.models models text
+
 -- the text that a command writes for a script: of `run` and `distinct` that of such runs, from the budget of the words; of `assert`
 -- the decisions on each `check` command of its models, each with that budget; of `facts` what is known of the facts under each
--- `run` command, where each search has that budget; of `load` the summary of such runs as `run` has by itself; `check` reads no
--- script
+-- `run` command, where each search has that budget; of `load` the summary of such runs as `run` has by itself; of `crew` what
+-- crews find of each command on which sessions are; `check` reads no script
 abbrev pub Writes : Command → Script → List ℕ → Type 0
 Writes (Run workers budget) s text = WritesRuns Lists budget s text
 Writes (Distinct workers budget) s text = WritesRuns Classes budget s text
@@ -51,9 +57,10 @@ Writes Check s text = ⊥
 Writes (Assert budget) s text = AreAssertionsOf budget s.models text
 Writes (Facts budget) s text = AreFactSetsOf budget s.models text
 Writes (Load number workers) s text = WritesSummary 20000 s text
+Writes (Crew workers budget) s text = WritesCrews workers budget s text
 
--- the first model of a script that a command can't use has this name, and these words tell why: `run`, `distinct` and `load` use
--- the commands on which sessions are, `assert` each `check` command, and `facts` each `run` command
+-- the first model of a script that a command can't use has this name, and these words tell why: `run`, `distinct`, `load` and
+-- `crew` use the commands on which sessions are, `assert` each `check` command, and `facts` each `run` command
 abbrev pub IsFirstUnusable : Command → Script → List ℕ → List ℕ → Type 0
 IsFirstUnusable (Run workers budget) s name words = IsFirstRefused Lists s.sessions s.models name words
 IsFirstUnusable (Distinct workers budget) s name words = IsFirstRefused Classes s.sessions s.models name words
@@ -61,6 +68,7 @@ IsFirstUnusable Check s name words = ⊥
 IsFirstUnusable (Assert budget) s name words = IsFirstRefusedFor kind.Check s.models name words
 IsFirstUnusable (Facts budget) s name words = IsFirstRefusedFor kind.Run s.models name words
 IsFirstUnusable (Load number workers) s name words = IsFirstRefused Lists s.sessions s.models name words
+IsFirstUnusable (Crew workers budget) s name words = IsFirstRefused Lists s.sessions s.models name words
 
 -- the bytes are no script, and under 3 the text is the line that tells their fault
 abbrev pub IsFaultAnswer : List ℕ → ℕ → List ℕ → Type 0
@@ -117,6 +125,7 @@ HasNumbersInRange Check = Unit {0}
 HasNumbersInRange (Assert budget) = budget ≤ 100000
 HasNumbersInRange (Facts budget) = budget ≤ 100000
 HasNumbersInRange (Load number workers) = (1 ≤ number) × (number ≤ 16) × (1 ≤ workers) × (workers ≤ 16)
+HasNumbersInRange (Crew workers budget) = (1 ≤ workers) × (workers ≤ 16) × (budget ≤ 100000)
 
 -- ---- what is answered where sessions are run
 

@@ -3,17 +3,17 @@ ghost use Rattle.std.specs.Prelude.{◌≡◌, ◌≤◌, ◌⊎◌, IfOk};
 ghost use Rattle.explorer_cli.specs.Keys.{KeepsToLimits};
 ghost use Rattle.explorer_cli.specs.Outcome.{HasNumbersInRange, IsStatusOf, IsAnswerTo, IsAnswerOfRuns, IsRunsAnswer};
 
+use crate::crew_command::answer_of_crew;
 use crate::load_command::answer_of_load;
 use crate::reports::{answer_of_assert, answer_of_facts};
+use crate::scripts::script_of;
 use crate::sessions::{run_sessions, text_of_sessions};
 use command_words::Command;
 use explorer_run::Gate;
 use hub_turns::journal_laws::{a_told_session_is_backed, what_was_published_stands};
 use lowering_rules::laws::problems_are_symmetric;
 use proof_command::Answer;
-use script_format::laws::scripts_keep_to_limits;
-use script_format::{Script, read_script};
-use script_text::fault_line;
+use script_format::Script;
 use served_models::{Models, Purpose, read_models};
 use std::alloc::{AllocError, Global};
 use std::sync::Wait;
@@ -43,6 +43,9 @@ pub fn answer_to<R: Threads + Wait + Sync, G: Gate + Sync>(
         Command::Assert { budget } => answer_of_assert(alloc, budget, bytes),
         Command::Facts { budget } => answer_of_facts(alloc, budget, bytes),
         Command::Load { number, workers } => answer_of_load(rt, alloc, gate, number, workers),
+        Command::Crew { workers, budget } => {
+            answer_of_crew(rt, alloc, gate, workers, budget, bytes)
+        }
     }
 }
 
@@ -61,13 +64,9 @@ fn answer_of_runs<R: Threads + Wait + Sync, G: Gate + Sync>(
     ensures answer { IfOk result (λ a. IsRunsAnswer purpose budget bytes.now a.status a.text.items) }
     ensures status { IfOk result (λ a. (a.status ≡ 0) ⊎ (a.status ≡ 3) ⊎ (a.status ≡ 4)) }
 {
-    scripts_keep_to_limits();
-    match read_script(alloc, bytes) {
+    match script_of(alloc, bytes)? {
         Ok(script) => Ok(answer_script(rt, alloc, gate, purpose, workers, budget, &script)?),
-        Err(fault) => Ok(Answer {
-            status: 3,
-            text: fault_line(alloc, fault)?,
-        }),
+        Err(answer) => Ok(answer),
     }
 }
 

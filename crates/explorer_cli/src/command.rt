@@ -45,7 +45,8 @@ fn most_bytes(command: Command) -> Option<usize>
         Command::Run { .. }
         | Command::Distinct { .. }
         | Command::Assert { .. }
-        | Command::Facts { .. } => Some(script_format::MOST_BYTES),
+        | Command::Facts { .. }
+        | Command::Crew { .. } => Some(script_format::MOST_BYTES),
         Command::Check => Some(refutation_check::MOST_BYTES),
         Command::Load { .. } => None,
     }

@@ -219,7 +219,7 @@ pub fn printed_proofs_are_right()
 }
 
 /// A budget that is told as spent was spent: the work of a step at that floor, over the translation and steps that rest on it
-/// alone, has exactly so many units.
+/// alone, has exactly so many units, and was stopped there: one more step can be derived, or there is one more copy.
 pub fn spent_budgets_were_spent()
     ensures { (t : Translated) (budget : ℕ) (x : SessionData) (s : PrintedSession) → (run : IsRunOn t budget x s) → (place : ℕ) (done : WorkDone) (floor : List ℕ)
         → IsReplyAt run.replies run.floors place (Refused (Spent done)) floor

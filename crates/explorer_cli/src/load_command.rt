@@ -8,6 +8,7 @@ ghost use Rattle.explorer_cli.specs.Keys.{KeepsToLimits};
 ghost use Rattle.explorer_cli.specs.Tallies.{scenarios_in, ends_in, sum_in, summary_in, HasLines};
 ghost use Rattle.explorer_cli.specs.Outcome.{IsAnswerToText, IsAnswerToScript};
 
+use crate::scripts::script_of;
 use crate::sessions::{Ran, run_sessions, text_of_sessions};
 use crate::tallies::tally_of;
 use command_words::DEFAULT_BUDGET;
@@ -15,9 +16,8 @@ use explorer_run::Gate;
 use hub_turns::journal_laws::{a_told_session_is_backed, what_was_published_stands};
 use lowering_rules::laws::problems_are_symmetric;
 use proof_command::Answer;
-use script_format::laws::scripts_keep_to_limits;
-use script_format::{Script, generate, read_script};
-use script_text::{fault_line, push_number_line};
+use script_format::{Script, generate};
+use script_text::push_number_line;
 use served_models::{Models, Purpose, read_models};
 use std::alloc::{AllocError, Global};
 use std::sync::Wait;
@@ -52,13 +52,9 @@ fn answer_made<R: Threads + Wait + Sync, G: Gate + Sync>(
     ensures answer { IfOk result (λ a. (number : ℕ) → IsAnswerToText (Load number workers) bytes.now a.status a.text.items) }
     ensures status { IfOk result (λ a. (a.status ≡ 0) ⊎ (a.status ≡ 3) ⊎ (a.status ≡ 4)) }
 {
-    scripts_keep_to_limits();
-    match read_script(alloc, bytes) {
+    match script_of(alloc, bytes)? {
         Ok(script) => Ok(answer_script(rt, alloc, gate, workers, &script)?),
-        Err(fault) => Ok(Answer {
-            status: 3,
-            text: fault_line(alloc, fault)?,
-        }),
+        Err(answer) => Ok(answer),
     }
 }
 

@@ -6,12 +6,10 @@ ghost use Rattle.decision_reports.specs.Reports.{IsAssertionReport};
 ghost use Rattle.decision_reports.specs.FactReports.{IsFactReport};
 ghost use Rattle.explorer_cli.specs.Outcome.{IsAnswerTo, IsAnswerToScript};
 
+use crate::scripts::script_of;
 use decision_reports::assertions::{Report, assertions_of};
 use decision_reports::fact_sets::fact_sets_of;
 use proof_command::Answer;
-use script_format::laws::scripts_keep_to_limits;
-use script_format::read_script;
-use script_text::fault_line;
 use std::alloc::{AllocError, Global};
 
 /// The answer of `assert` to the bytes of its input, where each command is decided with this budget.
@@ -20,16 +18,12 @@ pub fn answer_of_assert(alloc: Global, budget: u32, bytes: &[u8]) -> Result<Answ
     ensures answer { IfOk result (λ a. IsAnswerTo (Assert budget) bytes.now a.status a.text.items) }
     ensures status { IfOk result (λ a. (a.status ≡ 0) ⊎ (a.status ≡ 3) ⊎ (a.status ≡ 4)) }
 {
-    scripts_keep_to_limits();
-    match read_script(alloc, bytes) {
+    match script_of(alloc, bytes)? {
         Ok(script) => {
             let report = assertions_of(alloc, budget, script.models.entries())?;
             Ok(answer_of_report(report))
         }
-        Err(fault) => Ok(Answer {
-            status: 3,
-            text: fault_line(alloc, fault)?,
-        }),
+        Err(answer) => Ok(answer),
     }
 }
 
@@ -39,16 +33,12 @@ pub fn answer_of_facts(alloc: Global, budget: u32, bytes: &[u8]) -> Result<Answe
     ensures answer { IfOk result (λ a. IsAnswerTo (Facts budget) bytes.now a.status a.text.items) }
     ensures status { IfOk result (λ a. (a.status ≡ 0) ⊎ (a.status ≡ 3) ⊎ (a.status ≡ 4)) }
 {
-    scripts_keep_to_limits();
-    match read_script(alloc, bytes) {
+    match script_of(alloc, bytes)? {
         Ok(script) => {
             let report = fact_sets_of(alloc, budget, script.models.entries())?;
             Ok(answer_of_report(report))
         }
-        Err(fault) => Ok(Answer {
-            status: 3,
-            text: fault_line(alloc, fault)?,
-        }),
+        Err(answer) => Ok(answer),
     }
 }
 

@@ -23,7 +23,7 @@ use std::thread::Threads;
 /// nothing of these.
 ///
 /// Sessions run side by side, by as many workers as the words say, each in a thread of its own; a worker waits for its turn, and at
-/// the gate before each command. What the clauses say holds where the call returns.
+/// the gate before each command, or in a crew before each round. What the clauses say holds where the call returns.
 pub fn explore<R: Threads + Wait + Sync, S: Source, K: Sink, G: Gate + Sync>(
     rt: &R,
     alloc: Global,

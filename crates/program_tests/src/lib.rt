@@ -1,4 +1,4 @@
-//! Tests of the program: its words, its input and output, and the answers of its top call to whole scripts.
+//! Tests of the program: its words, and the answers of its top call to whole scripts.
 #![tactic(auto)]
 
 #[cfg(test)]
@@ -7,6 +7,8 @@ mod of_assertions;
 mod of_classes;
 #[cfg(test)]
 mod of_command_words;
+#[cfg(test)]
+mod of_crew;
 #[cfg(test)]
 mod of_explorer_cli;
 #[cfg(test)]
@@ -19,8 +21,6 @@ mod of_load;
 mod of_models;
 #[cfg(test)]
 mod of_orderings;
-#[cfg(test)]
-mod of_outside_io;
 #[cfg(test)]
 mod of_proofs;
 #[cfg(test)]

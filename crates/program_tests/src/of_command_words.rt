@@ -80,7 +80,7 @@ fn other_commands_are_none(rt: HostRuntime) -> Result<(), Fail> {
         &["ru"],
         &["facts", "--workers", "2"],
         &["distinct", "--workers=17"],
-        &["crew", "--workers", "2", "--budget", "5"],
+        &["crews", "--workers", "2", "--budget", "5"],
         &["--", "run"],
         &["check", "check"],
         &["check", "--workers", "4"],
@@ -214,6 +214,52 @@ fn other_loads_are_none(rt: HostRuntime) -> Result<(), Fail> {
         &["load", "--workers", "1"],
         &["load", "1", "--workers", "0"],
         &["load", "--workers=2", "1", "--workers=2"],
+    ];
+    for words in rows {
+        assert_eq!(rt; said(rt.alloc(), words)?, None);
+    }
+    Ok(())
+}
+
+fn crew(workers: u32, budget: u32) -> Option<Command> {
+    Some(Command::Crew { workers, budget })
+}
+
+#[test]
+fn a_crew_has_both_options(rt: HostRuntime) -> Result<(), Fail> {
+    let rows: [(&[&str], Option<Command>); 7] = [
+        (&["crew"], crew(4, 20_000)),
+        (&["crew", "--workers", "16", "--budget", "0"], crew(16, 0)),
+        (
+            &["crew", "--budget=100000", "--workers=1"],
+            crew(1, 100_000),
+        ),
+        (&["crew", "--budget=7"], crew(4, 7)),
+        (&["crew", "--budget", "007"], crew(4, 7)),
+        (&["crew", "--workers=2"], crew(2, 20_000)),
+        (&["crew", "--workers", "3", "--budget=5"], crew(3, 5)),
+    ];
+    for (words, command) in rows {
+        assert_eq!(rt; said(rt.alloc(), words)?, command);
+    }
+    Ok(())
+}
+
+#[test]
+fn other_crews_are_none(rt: HostRuntime) -> Result<(), Fail> {
+    let rows: [&[&str]; 12] = [
+        &["crew", "3"],
+        &["crew", ""],
+        &["crew", "crew"],
+        &["crew", "--"],
+        &["crew", "--help"],
+        &["crew", "--workers", "0"],
+        &["crew", "--workers", "17"],
+        &["crew", "--workers="],
+        &["crew", "--budget", "100001"],
+        &["crew", "--budget", "0", "--budget", "0"],
+        &["crew", "--workers=2", "--workers=2"],
+        &["crew", "--number", "1"],
     ];
     for words in rows {
         assert_eq!(rt; said(rt.alloc(), words)?, None);

@@ -79,22 +79,28 @@ fn sixteen_workers_serve_64_sessions(rt: HostRuntime) -> Result<(), Fail> {
     Ok(())
 }
 
-// A gate that holds the first session before its first command until the second has passed before its own, for so many looks at
-// most.
+/// A gate that holds the first of two before its first command, or round, until the second has passed before its own, for so many
+/// looks at most.
 #[derive(Drop)]
-struct Holding {
+pub struct Holding {
     looks: u32,
     passed: AtomicBool,
     gave_up: AtomicBool,
 }
 
 impl Holding {
-    fn new(looks: u32) -> Holding {
+    /// A gate that gives up after so many looks.
+    pub fn new(looks: u32) -> Holding {
         Holding {
             looks,
             passed: AtomicBool::new(false),
             gave_up: AtomicBool::new(false),
         }
+    }
+
+    /// Whether it gave up.
+    pub fn has_given_up(&self) -> bool {
+        self.gave_up.load(Ordering::SeqCst)
     }
 
     fn hold(&self) {
@@ -129,7 +135,7 @@ fn gives_up<R: Threads + Wait + Abort + Sync>(
     let (status, text) = run_through(rt, alloc, &gate, workers, &script)?;
     assert_eq!(rt; text.as_str(), told.as_str(), "{workers} workers");
     assert_eq!(rt; status, 0, "{workers} workers");
-    Ok(gate.gave_up.load(Ordering::SeqCst))
+    Ok(gate.has_given_up())
 }
 
 // The first session waits for the second: only where both run at once does the gate let it go on.

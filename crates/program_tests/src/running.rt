@@ -85,6 +85,21 @@ pub fn explored_widely<R: Threads + Wait + Abort + Sync>(
     Ok((status, String::from_utf8_lossy(alloc, sink.bytes())?))
 }
 
+/// The status and the output for these words and this script, where workers pass this gate.
+pub fn explored_through<R: Threads + Wait + Abort + Sync, G: Gate + Sync>(
+    rt: &R,
+    alloc: Global,
+    gate: &G,
+    words: &[&str],
+    script: &str,
+) -> Result<(u8, String), AllocError> {
+    let owned = owned(alloc, words)?;
+    let mut source = wide_source(alloc, script.as_bytes(), &[])?;
+    let mut sink = wide_sink(alloc, &[])?;
+    let status = explore(rt, alloc, &owned, &mut source, &mut sink, gate);
+    Ok((status, String::from_utf8_lossy(alloc, sink.bytes())?))
+}
+
 /// The status and the output for `run` with so many workers, who pass this gate, and this script.
 pub fn run_through<R: Threads + Wait + Abort + Sync, G: Gate + Sync>(
     rt: &R,
@@ -94,11 +109,7 @@ pub fn run_through<R: Threads + Wait + Abort + Sync, G: Gate + Sync>(
     script: &str,
 ) -> Result<(u8, String), AllocError> {
     let workers = format!(in alloc; "{workers}")?;
-    let words = owned(alloc, &["run", "--workers", &workers])?;
-    let mut source = wide_source(alloc, script.as_bytes(), &[])?;
-    let mut sink = wide_sink(alloc, &[])?;
-    let status = explore(rt, alloc, &words, &mut source, &mut sink, gate);
-    Ok((status, String::from_utf8_lossy(alloc, sink.bytes())?))
+    explored_through(rt, alloc, gate, &["run", "--workers", &workers], script)
 }
 
 /// The status and the output for the word `run` and this script.

@@ -45,3 +45,10 @@ returns-in-Load-clause-answer g c =
 
 pub returns-in-Load-clause-status : goal.returns-in-Load-clause-status
 returns-in-Load-clause-status g c = subst (λ (x : Command). IfOk c.answer_of_load.result (λ a. IsStatusOf x a.status)) (sym c.in-Load.is) c.answer_of_load.ensures.status
+
+pub returns-in-Crew-clause-answer : goal.returns-in-Crew-clause-answer
+returns-in-Crew-clause-answer g c =
+    subst (λ (x : Command). IfOk c.answer_of_crew.result (λ a. IsAnswerTo x c.args.bytes.now a.status a.text.items)) (sym c.in-Crew.is) c.answer_of_crew.ensures.answer
+
+pub returns-in-Crew-clause-status : goal.returns-in-Crew-clause-status
+returns-in-Crew-clause-status g c = subst (λ (x : Command). IfOk c.answer_of_crew.result (λ a. IsStatusOf x a.status)) (sym c.in-Crew.is) c.answer_of_crew.ensures.status
