@@ -17,6 +17,11 @@ def program():
     return PROGRAM
 
 
+def builds():
+    """That program, as LLVM has built it, and as Rattle's own compiler has."""
+    return PROGRAM, PROGRAM.with_name("explore.by-rattle")
+
+
 def noted(folder):
     """What the note of a program's folder says: the text behind each word."""
     note = folder / "built_from"
