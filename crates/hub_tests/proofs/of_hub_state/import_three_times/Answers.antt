@@ -11,19 +11,11 @@ use Rattle.hub_tests.proofs.of_hub_state.import_three_times.Goals as goal
 at_first : (problems : List Bounded) (p : Bounded) → problems ≡ always ∷ [] → p ≡ always → slice_get problems 0 ≡ Some p
 at_first problems p is same = ap (λ (ps : List Bounded). slice_get ps 0) is ∙ ap Some (sym same)
 
-pub share_and_import-first-requires-clause-problem : goal.share_and_import-first-requires-clause-problem
-share_and_import-first-requires-clause-problem c =
+pub share_and_import-requires-clause-problem : goal.share_and_import-requires-clause-problem
+share_and_import-requires-clause-problem c =
     at_first c.args.hub.now.problems c.in_ok-translated.field-0.value.problem (ap (λ (h : HubView). h.problems) c.requires) c.in_ok-translated.ensures
 
-pub share_and_import-first-requires-clause-begins : goal.share_and_import-first-requires-clause-begins
-share_and_import-first-requires-clause-begins c =
+pub share_and_import-requires-clause-begins : goal.share_and_import-requires-clause-begins
+share_and_import-requires-clause-begins c =
     let pool = pool_of 0 c.args.hub.now.journal in
     subst (λ (xs : List LogStep). IsPrefix xs pool) (sym c.new-have.ensures) (pool, refl)
-
-pub share_and_import-second-requires-clause-problem : goal.share_and_import-second-requires-clause-problem
-share_and_import-second-requires-clause-problem c =
-    at_first c.share_and_import.new.hub.problems c.in_ok-translated-2.field-0.value.problem (c.in_ok-first.ensures.problems ∙ ap (λ (h : HubView). h.problems) c.requires) c.in_ok-translated-2.ensures
-
-pub share_and_import-third-requires-clause-problem : goal.share_and_import-third-requires-clause-problem
-share_and_import-third-requires-clause-problem c =
-    at_first c.share_and_import-2.new.hub.problems c.in_ok-translated-3.field-0.value.problem (c.in_ok-second.ensures.problems ∙ c.in_ok-first.ensures.problems ∙ ap (λ (h : HubView). h.problems) c.requires) c.in_ok-translated-3.ensures
