@@ -1,7 +1,6 @@
 -- What is still to be read behind the parts that have been read.
 use Rattle.std.specs.Prelude.{true, List, Bool, if◌then◌else◌, Option, Some, None, Ok, Err}
 use Rattle.alloy_lex.specs.declared.token.Place.{Place}
-use Rattle.alloy_syntax.specs.declared.class.Class.{Class}
 use Rattle.alloy_syntax.specs.declared.class.Class.TheVariants as class
 use Rattle.alloy_syntax.specs.declared.reading.Form.TheVariants as form
 use Rattle.alloy_syntax.specs.declared.reading.Around.{Around}
@@ -41,10 +40,6 @@ right_side i a left comparing ts = counted_over i a ts >>= λ y. Ok (compared le
 -- what stands behind `else`
 abbrev pub otherwise : Reader → Around → Tree → Place → Tree → Parser Tree
 otherwise i a left p then_part ts = i a inside.Implied ts >>= λ y. Ok (implies_else left p then_part y.0, y.1)
-
--- the closing bracket
-abbrev pub closed : Class → Tree → Parser Tree
-closed c tree ts = expect c ts >>= λ closing. Ok (tree, closing.1)
 
 -- "{" fields "}" of signatures, behind which a block is refused
 abbrev pub with_fields : Bool → Option MultiplicityWord → List Name → Option Parent → Parser ParagraphTree

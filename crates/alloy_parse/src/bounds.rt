@@ -151,9 +151,10 @@ fn side<'a>(
         return Ok((read, rest));
     }
     let (inner, rest) = bound_within(alloc, after(tokens), room, standing)?;
+    let bound = Box::new(alloc, inner.bound)?;
     let (_, rest) = expect(rest, Class::RightParen)?;
     let read = ReadBound {
-        bound: Bound::Bracketed(place_at(tokens), Box::new(alloc, inner.bound)?),
+        bound: Bound::Bracketed(place_at(tokens), bound),
         marked: inner.marked,
         has_arrow: inner.has_arrow,
     };
@@ -240,11 +241,12 @@ fn bound_arrows<'a>(
         marked: first.marked,
         has_arrow: first.has_arrow,
     };
+    let left = Box::new(alloc, first.bound)?;
     let marked = word_beside(rest);
     let (arrow, rest) = bound_arrow(alloc, rest, room, before)?;
     let (arrows, rest) = more_bound_arrows(alloc, arrow, marked, rest, room, standing)?;
     let read = ReadBound {
-        bound: Bound::Arrows(Box::new(alloc, first.bound)?, arrows),
+        bound: Bound::Arrows(left, arrows),
         marked,
         has_arrow: true,
     };
@@ -307,9 +309,10 @@ fn bound<'a>(
         return Ok((first, rest));
     }
     refuse_word(first.marked)?;
+    let left = Box::new(alloc, first.bound)?;
     let (others, has_arrow, rest) = operands(alloc, rest, room, standing)?;
     let read = ReadBound {
-        bound: Bound::Union(Box::new(alloc, first.bound)?, others),
+        bound: Bound::Union(left, others),
         marked: None,
         has_arrow: first.has_arrow || has_arrow,
     };

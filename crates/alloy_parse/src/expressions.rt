@@ -2,7 +2,6 @@
 
 mod binders;
 mod chains;
-mod closing;
 pub mod levels;
 pub mod nodes;
 mod paths;

@@ -99,7 +99,6 @@ pub struct Comparing {
 }
 
 /// An operator of a chain, and the operand behind it.
-#[derive(Drop)]
 #[cycle(tree)]
 pub struct Link {
     pub operator: Operator,
@@ -107,16 +106,37 @@ pub struct Link {
     pub operand: Node,
 }
 
+// By hand, so that a caller's proof has one step wherever one is dropped.
+impl Drop for Link {
+    #[cycle(tree)]
+    fn drop(self) {
+        let Link {
+            operator: _,
+            place: _,
+            operand: _,
+        } = self;
+    }
+}
+
 /// What stands behind an expression: `.` and an expression, or brackets with what is in them.
-#[derive(Drop)]
 #[cycle(tree)]
 pub enum Step {
     Join(Place, Node),
     Brackets(Place, Vec<Node>),
 }
 
+// By hand, so that a caller's proof has one step wherever one is dropped.
+impl Drop for Step {
+    #[cycle(tree)]
+    fn drop(self) {
+        match self {
+            Step::Join(_, _) => {}
+            Step::Brackets(_, _) => {}
+        }
+    }
+}
+
 /// Variables with their domain, and whether they are disjoint.
-#[derive(Drop)]
 #[cycle(tree)]
 pub struct Declaration {
     pub disjoint: bool,
@@ -125,16 +145,35 @@ pub struct Declaration {
     pub domain: Node,
 }
 
+// By hand, so that a caller's proof has one step wherever one is dropped.
+impl Drop for Declaration {
+    #[cycle(tree)]
+    fn drop(self) {
+        let Declaration {
+            disjoint: _,
+            names: _,
+            mark: _,
+            domain: _,
+        } = self;
+    }
+}
+
 /// A name that `let` gives to an expression.
-#[derive(Drop)]
 #[cycle(tree)]
 pub struct Binding {
     pub name: Name,
     pub value: Node,
 }
 
+// By hand, so that a caller's proof has one step wherever one is dropped.
+impl Drop for Binding {
+    #[cycle(tree)]
+    fn drop(self) {
+        let Binding { name: _, value: _ } = self;
+    }
+}
+
 /// An expression, a formula or a number.
-#[derive(Drop)]
 #[cycle(tree)]
 pub enum Node {
     Named(Name),
@@ -157,8 +196,29 @@ pub enum Node {
     Let(Place, Vec<Binding>, Box<Node>),
 }
 
+// By hand, so that a caller's proof has one step wherever one is dropped.
+impl Drop for Node {
+    #[cycle(tree)]
+    fn drop(self) {
+        match self {
+            Node::Named(_) => {}
+            Node::Numbered(_) => {}
+            Node::Constant(_, _) => {}
+            Node::Bracketed(_, _) => {}
+            Node::Block(_, _) => {}
+            Node::Prefixed(_, _, _) => {}
+            Node::Chain(_, _) => {}
+            Node::Path(_, _) => {}
+            Node::Compared(_, _, _) => {}
+            Node::Implies(_, _, _) => {}
+            Node::ImpliesElse(_, _, _, _) => {}
+            Node::Quantified(_, _, _, _) => {}
+            Node::Let(_, _, _) => {}
+        }
+    }
+}
+
 /// An arrow of a field's bound: the multiplicity words beside it, and its right side.
-#[derive(Drop)]
 #[cycle(bound)]
 pub struct BoundArrow {
     pub left: Option<MultiplicityWord>,
@@ -167,8 +227,20 @@ pub struct BoundArrow {
     pub side: Bound,
 }
 
+// By hand, so that a caller's proof has one step wherever one is dropped.
+impl Drop for BoundArrow {
+    #[cycle(bound)]
+    fn drop(self) {
+        let BoundArrow {
+            left: _,
+            place: _,
+            right: _,
+            side: _,
+        } = self;
+    }
+}
+
 /// A field's bound.
-#[derive(Drop)]
 #[cycle(bound)]
 pub enum Bound {
     Named(Name),
@@ -178,6 +250,19 @@ pub enum Bound {
     Union(Box<Bound>, Vec<(Place, Bound)>),
     /// The first side, and the others with their arrows.
     Arrows(Box<Bound>, Vec<BoundArrow>),
+}
+
+// By hand, so that a caller's proof has one step wherever one is dropped.
+impl Drop for Bound {
+    #[cycle(bound)]
+    fn drop(self) {
+        match self {
+            Bound::Named(_) => {}
+            Bound::Bracketed(_, _) => {}
+            Bound::Union(_, _) => {}
+            Bound::Arrows(_, _) => {}
+        }
+    }
 }
 
 /// Fields with their bound.

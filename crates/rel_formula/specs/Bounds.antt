@@ -58,10 +58,14 @@ pub record IsRelation (relation : Relation) : Type 0 where
   pub arity : relation.upper.arity ≡ relation.lower.arity
   pub within : All (Contains relation.upper.rows) relation.lower.rows
 
+-- a problem has at most so many cells
+abbrev pub most_cells : ℕ
+most_cells = 4096
+
 -- what is true of every problem
 pub record IsProblem (p : Bounded) : Type 0 where
   pub few : length p.relations ≤ 128
-  pub few_cells : length (cells_of p) ≤ 4096
+  pub few_cells : length (cells_of p) ≤ most_cells
   pub relations : All IsRelation p.relations
   pub names : AllPairs (λ r s. r.name ≢ s.name) p.relations
   -- the top-level signatures are unary relations, in rising order

@@ -4,7 +4,7 @@ ghost use Rattle.tuple_core.specs.Swap.{swap_atoms};
 ghost use Rattle.tuple_core.specs.Gains.{SomeGives};
 ghost use Rattle.tuple_core.specs.Rows.{IsSetOf, SetGains};
 ghost use Rattle.rel_formula.specs.View.{formula_tree};
-ghost use Rattle.rel_formula.specs.Bounds.{IsProblem, InAtoms, cells_of, cells_from, open_tuples, cell_of};
+ghost use Rattle.rel_formula.specs.Bounds.{IsProblem, InAtoms, cells_of, cells_from, most_cells, open_tuples, cell_of};
 ghost use Rattle.rel_formula.specs.Renaming.{IsCellImage};
 
 use crate::formula::Formula;
@@ -40,13 +40,25 @@ pub struct Cell {
 }
 
 /// Relations between bounds, those among them that are top-level signatures, and a formula.
-#[derive(Drop)]
 pub struct Problem {
     relations: Vec<Relation>,
     tops: Vec<u8>,
     formula: Formula,
     cells: Vec<Cell>,
     atoms: TupleSet,
+}
+
+// By hand, so that a caller's proof has one step wherever one is dropped.
+impl Drop for Problem {
+    fn drop(self) {
+        let Problem {
+            relations: _,
+            tops: _,
+            formula: _,
+            cells: _,
+            atoms: _,
+        } = self;
+    }
 }
 
 impl Model for Problem {
@@ -112,7 +124,7 @@ impl Problem {
     /// How many cells there are: at most 4,096.
     pub fn cells(&self) -> u32
         ensures value { result ≡ length (cells_of self.now) }
-        ensures few { result ≤ 4096 }
+        ensures few { result ≤ most_cells }
     {
         self.cells.len() as u32
     }

@@ -6,19 +6,9 @@ use Rattle.alloy_syntax.specs.declared.parse_stop.Tokens.{Tokens}
 use Rattle.alloy_syntax.specs.declared.reading.Around.{Around}
 use Rattle.alloy_syntax.specs.declared.reading.Inside.{Inside}
 use Rattle.alloy_syntax.specs.declared.tree.Node.{Node}
-use Rattle.alloy_syntax.specs.Tree.{Tree}
-use Rattle.alloy_syntax.specs.Readers.{Parser}
 use Rattle.alloy_syntax.specs.View.{view}
 use Rattle.alloy_syntax.specs.Nodes.{within}
 use Rattle.alloy_syntax.specs.Gives.{Gives}
-
--- what it answers is what that parser says
-abbrev pub ReadsAs : Parser Tree → (Tokens → Result (Node × Tokens) ParseStop → Type 0) → Type 0
-ReadsAs item post = (tokens : Tokens) (read : Result (Node × Tokens) ParseStop) → post tokens read → Gives (λ x. (view x.0, x.1.left.now)) read (item tokens.left.now)
-
--- where it reads something, it takes a token
-abbrev pub Shortens : (Tokens → Result (Node × Tokens) ParseStop → Type 0) → Type 0
-Shortens post = (tokens : Tokens) (read : Result (Node × Tokens) ParseStop) → post tokens read → IfOk read (λ x. length x.1.left.now < length tokens.left.now)
 
 -- it may be called for what stands under one construct more, and reads it as the grammar says where so many may nest
 pub record ReadsWithin (room : ℕ) (pre : Global → Tokens → ℕ → Around → Inside → Type 0) (post : Global → Tokens → ℕ → Around → Inside → Result (Node × Tokens) ParseStop → Type 0) : Type 0 where

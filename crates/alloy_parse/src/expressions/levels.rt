@@ -1,13 +1,12 @@
-// The levels of operators, from `||` down to `<:` and `:>`, and what compares and negates between them.
+// What stands between the levels of operators: implications, negations, comparisons, sizes and arrows.
 ghost use Rattle.std.specs.Prelude.{◌≡◌, ◌<◌, ◌≤◌, true, length, map, IfOk};
 ghost use Rattle.alloy_syntax.specs.Gives.{Gives};
 ghost use Rattle.alloy_parse.specs.Nodes.Reader.{ReadsWithin};
 ghost use Rattle.alloy_syntax.specs.View.{view, link_view};
 ghost use Rattle.alloy_syntax.specs.Readers.{many};
 ghost use Rattle.alloy_parse.specs.Behind.{arrowed, compared_with, right_side, otherwise};
-ghost use Rattle.alloy_syntax.specs.Nodes.{within, restrict_over, begins_arrow, arrow_over, arrows_over, meet_over, override_over, size_over, sum_over, counted_over, comparison_over, negation_over, and_over, implication_over, implied_over, iff_over, node_over};
+ghost use Rattle.alloy_syntax.specs.Nodes.{within, begins_arrow, arrow_over, arrows_over, size_over, sum_over, counted_over, comparison_over, negation_over, implication_over, implied_over, node_over};
 
-use crate::expressions::chains::chain;
 use crate::expressions::rules::{Read, Rules};
 use crate::expressions::signs::{
     begins_arrow, begins_comparison, begins_declaration, comparing, counting_of, is_counting,
@@ -22,28 +21,14 @@ use alloy_syntax::tree::{Comparing, Link, Node, Operator, Prefix, Quantifier};
 use std::alloc::Global;
 
 impl<F: for<'a> Fn(Global, Tokens<'a>, u32, Around, Inside) -> Read<'a, Node>> Rules<F> {
-    // Paths with `<:` and `:>` between them.
-    #[tactic(auto, unfolding(alloy_syntax::specs::Nodes::restrict_over))]
-    pub fn restrict<'a>(&self, tokens: Tokens<'a>, around: Around) -> Read<'a, Node>
-        requires { ReadsWithin self.now.room (F.pre self.now.reader) (F.post self.now.reader) }
-        ensures value { Gives (λ x. (view x.0, x.1.left.now)) result (restrict_over (within true self.now.room) around tokens.entry.left.now) }
-        ensures shorter { IfOk result (λ x. length x.1.left.now < length tokens.entry.left.now) }
-    {
-        chain(
-            self.alloc,
-            tokens,
-            Level::Restrict,
-            |rest| self.path(rest, around),
-        )
-    }
-
-    #[tactic(auto, unfolding(alloy_syntax::specs::Nodes::arrows_over))]
-    fn arrows<'a>(&self, tokens: Tokens<'a>, around: Around) -> Read<'a, Node>
+    #[cycle(levels)]
+    #[tactic(auto, unfolding(alloy_syntax::specs::Nodes::arrows_over, alloy_syntax::specs::Nodes::restrict_over))]
+    pub fn arrows<'a>(&self, tokens: Tokens<'a>, around: Around) -> Read<'a, Node>
         requires { ReadsWithin self.now.room (F.pre self.now.reader) (F.post self.now.reader) }
         ensures value { Gives (λ x. (view x.0, x.1.left.now)) result (arrows_over (within true self.now.room) around tokens.entry.left.now) }
         ensures shorter { IfOk result (λ x. length x.1.left.now < length tokens.entry.left.now) }
     {
-        let (first, rest) = self.restrict(tokens, around)?;
+        let (first, rest) = self.chain(tokens, around, Level::Restrict)?;
         if !begins_arrow(rest) {
             return Ok((first, rest));
         }
@@ -51,6 +36,7 @@ impl<F: for<'a> Fn(Global, Tokens<'a>, u32, Around, Inside) -> Read<'a, Node>> R
     }
 
     // The first operand, with the arrows and operands behind it.
+    #[cycle(levels)]
     fn arrowed<'a>(&self, first: Node, tokens: Tokens<'a>, around: Around) -> Read<'a, Node>
         requires { ReadsWithin self.now.room (F.pre self.now.reader) (F.post self.now.reader) }
         ensures value { Gives (λ x. (view x.0, x.1.left.now)) result (arrowed (within true self.now.room) around (view first) tokens.entry.left.now) }
@@ -61,6 +47,7 @@ impl<F: for<'a> Fn(Global, Tokens<'a>, u32, Around, Inside) -> Read<'a, Node>> R
         Ok((Node::Chain(first, links), rest))
     }
 
+    #[cycle(levels)]
     fn arrow_links<'a>(&self, tokens: Tokens<'a>, around: Around) -> Read<'a, Vec<Link>>
         requires { ReadsWithin self.now.room (F.pre self.now.reader) (F.post self.now.reader) }
         ensures value { Gives (λ x. (map link_view x.0.items, x.1.left.now)) result (many begins_arrow (arrow_over (within true self.now.room) around) tokens.entry.left.now) }
@@ -76,7 +63,8 @@ impl<F: for<'a> Fn(Global, Tokens<'a>, u32, Around, Inside) -> Read<'a, Node>> R
         Ok((fitted(all), rest))
     }
 
-    #[tactic(auto, unfolding(alloy_syntax::specs::Nodes::arrow_over))]
+    #[cycle(levels)]
+    #[tactic(auto, unfolding(alloy_syntax::specs::Nodes::arrow_over, alloy_syntax::specs::Nodes::restrict_over))]
     fn arrow_link<'a>(&self, tokens: Tokens<'a>, around: Around) -> Read<'a, Link>
         requires { ReadsWithin self.now.room (F.pre self.now.reader) (F.post self.now.reader) }
         ensures value { Gives (λ x. (link_view x.0, x.1.left.now)) result (arrow_over (within true self.now.room) around tokens.entry.left.now) }
@@ -89,7 +77,7 @@ impl<F: for<'a> Fn(Global, Tokens<'a>, u32, Around, Inside) -> Read<'a, Node>> R
         if is_mark(rest) {
             return Err(ParseStop::Unsupported(Form::ArrowMultiplicity, rest));
         }
-        let (operand, rest) = self.restrict(rest, around)?;
+        let (operand, rest) = self.chain(rest, around, Level::Restrict)?;
         let link = Link {
             operator: Operator::Product,
             place: place_at(tokens),
@@ -98,37 +86,8 @@ impl<F: for<'a> Fn(Global, Tokens<'a>, u32, Around, Inside) -> Read<'a, Node>> R
         Ok((link, rest))
     }
 
-    // With `&` between them.
-    #[tactic(auto, unfolding(alloy_syntax::specs::Nodes::meet_over))]
-    pub fn meet<'a>(&self, tokens: Tokens<'a>, around: Around) -> Read<'a, Node>
-        requires { ReadsWithin self.now.room (F.pre self.now.reader) (F.post self.now.reader) }
-        ensures value { Gives (λ x. (view x.0, x.1.left.now)) result (meet_over (within true self.now.room) around tokens.entry.left.now) }
-        ensures shorter { IfOk result (λ x. length x.1.left.now < length tokens.entry.left.now) }
-    {
-        chain(
-            self.alloc,
-            tokens,
-            Level::Meet,
-            |rest| self.arrows(rest, around),
-        )
-    }
-
-    // With `++` between them.
-    #[tactic(auto, unfolding(alloy_syntax::specs::Nodes::override_over))]
-    pub fn overriding<'a>(&self, tokens: Tokens<'a>, around: Around) -> Read<'a, Node>
-        requires { ReadsWithin self.now.room (F.pre self.now.reader) (F.post self.now.reader) }
-        ensures value { Gives (λ x. (view x.0, x.1.left.now)) result (override_over (within true self.now.room) around tokens.entry.left.now) }
-        ensures shorter { IfOk result (λ x. length x.1.left.now < length tokens.entry.left.now) }
-    {
-        chain(
-            self.alloc,
-            tokens,
-            Level::Override,
-            |rest| self.meet(rest, around),
-        )
-    }
-
-    #[tactic(auto, unfolding(alloy_syntax::specs::Nodes::size_over))]
+    #[cycle(levels)]
+    #[tactic(auto, unfolding(alloy_syntax::specs::Nodes::size_over, alloy_syntax::specs::Nodes::override_over))]
     pub fn size<'a>(&self, tokens: Tokens<'a>, around: Around) -> Read<'a, Node>
         requires { ReadsWithin self.now.room (F.pre self.now.reader) (F.post self.now.reader) }
         ensures value { Gives (λ x. (view x.0, x.1.left.now)) result (size_over (within true self.now.room) around tokens.entry.left.now) }
@@ -137,7 +96,7 @@ impl<F: for<'a> Fn(Global, Tokens<'a>, u32, Around, Inside) -> Read<'a, Node>> R
         if next_is(tokens, Class::Hash) {
             return self.prefixed(tokens, around, Prefix::Size, Inside::Size);
         }
-        self.overriding(tokens, around)
+        self.chain(tokens, around, Level::Override)
     }
 
     // An expression: with `+` and `-` between them.
@@ -147,15 +106,11 @@ impl<F: for<'a> Fn(Global, Tokens<'a>, u32, Around, Inside) -> Read<'a, Node>> R
         ensures value { Gives (λ x. (view x.0, x.1.left.now)) result (sum_over (within true self.now.room) around tokens.entry.left.now) }
         ensures shorter { IfOk result (λ x. length x.1.left.now < length tokens.entry.left.now) }
     {
-        chain(
-            self.alloc,
-            tokens,
-            Level::Sum,
-            |rest| self.size(rest, around),
-        )
+        self.chain(tokens, around, Level::Sum)
     }
 
-    #[tactic(auto, unfolding(alloy_syntax::specs::Nodes::counted_over))]
+    #[cycle(levels)]
+    #[tactic(auto, unfolding(alloy_syntax::specs::Nodes::counted_over, alloy_syntax::specs::Nodes::sum_over))]
     fn counted<'a>(&self, tokens: Tokens<'a>, around: Around) -> Read<'a, Node>
         requires { ReadsWithin self.now.room (F.pre self.now.reader) (F.post self.now.reader) }
         ensures value { Gives (λ x. (view x.0, x.1.left.now)) result (counted_over (within true self.now.room) around tokens.entry.left.now) }
@@ -164,9 +119,10 @@ impl<F: for<'a> Fn(Global, Tokens<'a>, u32, Around, Inside) -> Read<'a, Node>> R
         if is_counting(tokens) {
             return self.prefixed(tokens, around, counting_of(tokens), Inside::Sum);
         }
-        self.sum(tokens, around)
+        self.chain(tokens, around, Level::Sum)
     }
 
+    #[cycle(levels)]
     #[tactic(auto, unfolding(alloy_syntax::specs::Nodes::comparison_over))]
     fn comparison<'a>(&self, tokens: Tokens<'a>, around: Around) -> Read<'a, Node>
         requires { ReadsWithin self.now.room (F.pre self.now.reader) (F.post self.now.reader) }
@@ -181,6 +137,7 @@ impl<F: for<'a> Fn(Global, Tokens<'a>, u32, Around, Inside) -> Read<'a, Node>> R
     }
 
     // The left side, with the comparison and its right side.
+    #[cycle(levels)]
     fn compared_with<'a>(&self, left: Node, tokens: Tokens<'a>, around: Around) -> Read<'a, Node>
         requires { ReadsWithin self.now.room (F.pre self.now.reader) (F.post self.now.reader) }
         ensures value { Gives (λ x. (view x.0, x.1.left.now)) result (compared_with (within true self.now.room) around (view left) tokens.entry.left.now) }
@@ -192,6 +149,7 @@ impl<F: for<'a> Fn(Global, Tokens<'a>, u32, Around, Inside) -> Read<'a, Node>> R
     }
 
     // The right side of a comparison.
+    #[cycle(levels)]
     fn right_side<'a>(
         &self,
         left: Box<Node>,
@@ -208,6 +166,7 @@ impl<F: for<'a> Fn(Global, Tokens<'a>, u32, Around, Inside) -> Read<'a, Node>> R
         Ok((Node::Compared(left, comparing, right), rest))
     }
 
+    #[cycle(levels)]
     #[tactic(auto, unfolding(alloy_syntax::specs::Nodes::negation_over))]
     pub fn negation<'a>(&self, tokens: Tokens<'a>, around: Around) -> Read<'a, Node>
         requires { ReadsWithin self.now.room (F.pre self.now.reader) (F.post self.now.reader) }
@@ -235,28 +194,14 @@ impl<F: for<'a> Fn(Global, Tokens<'a>, u32, Around, Inside) -> Read<'a, Node>> R
         self.comparison(tokens, around)
     }
 
-    // With `&&` between them.
-    #[tactic(auto, unfolding(alloy_syntax::specs::Nodes::and_over))]
-    pub fn conjunction<'a>(&self, tokens: Tokens<'a>, around: Around) -> Read<'a, Node>
-        requires { ReadsWithin self.now.room (F.pre self.now.reader) (F.post self.now.reader) }
-        ensures value { Gives (λ x. (view x.0, x.1.left.now)) result (and_over (within true self.now.room) around tokens.entry.left.now) }
-        ensures shorter { IfOk result (λ x. length x.1.left.now < length tokens.entry.left.now) }
-    {
-        chain(
-            self.alloc,
-            tokens,
-            Level::And,
-            |rest| self.negation(rest, around),
-        )
-    }
-
-    #[tactic(auto, unfolding(alloy_syntax::specs::Nodes::implication_over))]
+    #[cycle(levels)]
+    #[tactic(auto, unfolding(alloy_syntax::specs::Nodes::implication_over, alloy_syntax::specs::Nodes::and_over))]
     pub fn implication<'a>(&self, tokens: Tokens<'a>, around: Around) -> Read<'a, Node>
         requires { ReadsWithin self.now.room (F.pre self.now.reader) (F.post self.now.reader) }
         ensures value { Gives (λ x. (view x.0, x.1.left.now)) result (implication_over (within true self.now.room) around tokens.entry.left.now) }
         ensures shorter { IfOk result (λ x. length x.1.left.now < length tokens.entry.left.now) }
     {
-        let (left, rest) = self.conjunction(tokens, around)?;
+        let (left, rest) = self.chain(tokens, around, Level::And)?;
         if !next_is(rest, Class::Implies) {
             return Ok((left, rest));
         }
@@ -303,21 +248,6 @@ impl<F: for<'a> Fn(Global, Tokens<'a>, u32, Around, Inside) -> Read<'a, Node>> R
         Ok((Node::ImpliesElse(left, place, then_part, last), rest))
     }
 
-    // With `<=>` between them.
-    #[tactic(auto, unfolding(alloy_syntax::specs::Nodes::iff_over))]
-    pub fn equivalence<'a>(&self, tokens: Tokens<'a>, around: Around) -> Read<'a, Node>
-        requires { ReadsWithin self.now.room (F.pre self.now.reader) (F.post self.now.reader) }
-        ensures value { Gives (λ x. (view x.0, x.1.left.now)) result (iff_over (within true self.now.room) around tokens.entry.left.now) }
-        ensures shorter { IfOk result (λ x. length x.1.left.now < length tokens.entry.left.now) }
-    {
-        chain(
-            self.alloc,
-            tokens,
-            Level::Iff,
-            |rest| self.implication(rest, around),
-        )
-    }
-
     // What the grammar calls a node: with `||` between them.
     #[tactic(auto, unfolding(alloy_syntax::specs::Nodes::node_over))]
     pub fn node<'a>(&self, tokens: Tokens<'a>, around: Around) -> Read<'a, Node>
@@ -325,11 +255,6 @@ impl<F: for<'a> Fn(Global, Tokens<'a>, u32, Around, Inside) -> Read<'a, Node>> R
         ensures value { Gives (λ x. (view x.0, x.1.left.now)) result (node_over (within true self.now.room) around tokens.entry.left.now) }
         ensures shorter { IfOk result (λ x. length x.1.left.now < length tokens.entry.left.now) }
     {
-        chain(
-            self.alloc,
-            tokens,
-            Level::Or,
-            |rest| self.equivalence(rest, around),
-        )
+        self.chain(tokens, around, Level::Or)
     }
 }

@@ -4,7 +4,6 @@ ghost use Rattle.alloy_syntax.specs.View.{view, block_view, declaration_view};
 ghost use Rattle.alloy_syntax.specs.Nodes.{within, block_over, sum_over, braced_over, declarations_over};
 ghost use Rattle.alloy_syntax.specs.Gives.{Gives};
 
-use crate::expressions::closing::closed;
 use crate::expressions::rules::{Read, Rules};
 use crate::expressions::signs::stop_at;
 use alloy_syntax::Class;
@@ -89,5 +88,6 @@ pub fn braced<'a>(alloc: Global, tokens: Tokens<'a>, room: u32) -> Read<'a, Node
 {
     let (_, rest) = expect(tokens, Class::LeftBrace)?;
     let (inner, rest) = inside(alloc, rest, room, Around::Parens, Inside::Sum)?;
-    closed(inner, rest, Class::RightBrace)
+    let (_, rest) = expect(rest, Class::RightBrace)?;
+    Ok((inner, rest))
 }

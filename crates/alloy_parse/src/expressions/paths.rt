@@ -7,7 +7,6 @@ ghost use Rattle.alloy_syntax.specs.View.{view, views, step_view, block_view};
 ghost use Rattle.alloy_syntax.specs.Readers.{many, others};
 ghost use Rattle.alloy_syntax.specs.Nodes.{within, is_inner, block_over, block_tree, paren_over, primary_over, behind_prefix, tight_over, path_over, begins_step, step_over, brackets_over, arguments_over};
 
-use crate::expressions::closing::closed;
 use crate::expressions::rules::{Read, Rules};
 use crate::expressions::signs::{
     begins_step, constant_of, is_comprehension, is_constant, is_inner, is_tightening, tightening_of,
@@ -73,7 +72,8 @@ impl<F: for<'a> Fn(Global, Tokens<'a>, u32, Around, Inside) -> Read<'a, Node>> R
         let (place, rest) = expect(tokens, Class::LeftParen)?;
         let (inner, rest) = self.inside(rest, Around::Parens, Inside::Node)?;
         let inner = Box::new(self.alloc, inner)?;
-        closed(Node::Bracketed(place, inner), rest, Class::RightParen)
+        let (_, rest) = expect(rest, Class::RightParen)?;
+        Ok((Node::Bracketed(place, inner), rest))
     }
 
     #[tactic(auto, using(crate::proofs::Nodes::NextTokens::constant_is_there), unfolding(alloy_syntax::specs::Nodes::primary_over))]

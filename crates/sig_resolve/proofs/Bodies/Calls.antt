@@ -1,5 +1,5 @@
 -- Calls, and the steps behind them.
-use Rattle.std.proofs.Common.{◌≡◌, ℕ, ◌+◌, List, [], ◌++◌, map, length, drop, Some, true, false, if◌then◌else◌, refl, sym, ap, ◌∙◌, subst, Vec, Global}
+use Rattle.std.proofs.Common.{◌≡◌, ℕ, ◌+◌, List, [], ◌++◌, map, length, drop, Some, true, false, if◌then◌else◌, refl, sym, ap, ◌∙◌, subst, Result, Vec, Global}
 use Rattle.std.specs.List.{slice_get}
 use Rattle.alloy_lex.specs.declared.token.Place.{Place}
 use Rattle.alloy_syntax.specs.declared.tree.Node.{Node}
@@ -10,9 +10,11 @@ use Rattle.alloy_syntax.specs.Tree as tree
 use Rattle.alloy_syntax.specs.Tree.{Trees, no_trees, more_trees, trees_of, Steps, steps_of}
 use Rattle.alloy_syntax.specs.View.{view, views, step_view, node_level, step_level, binding_level, declaration_level, link_level}
 use Rattle.named_model.specs.declared.fault.NameFault.{NameFault}
+use Rattle.named_model.specs.declared.phrase.Phrase.{Phrase}
+use Rattle.named_model.specs.View.{phrase_view}
 use Rattle.named_model.specs.Phrase.{PhraseTree, called, path, PhraseTrees, StepTrees, brackets_first}
 use Rattle.named_model.specs.Names.{Globals, header_at, takes, phrases_count, trees_count, path_of, call_of, all_resolved, steps_resolved, all_faults, step_faults}
-use Rattle.name_tables.specs.Told.{IsTold}
+use Rattle.name_tables.specs.Told.{IsTold, Answers}
 use Rattle.name_tables.proofs.Telling.{told_first}
 use Rattle.sig_resolve.proofs.Bodies.Steps.{counted, first_is, node_brackets_seen}
 
@@ -75,3 +77,11 @@ module _ (g : Globals) (ls : List (List ℕ)) (steps : List Step) where
       → path_of (called p n xs) (steps_resolved g ls (steps_of (map step_view steps))) ≡ call_of g p n xs (steps_resolved g ls (steps_of (map step_view steps)))
   call_joined s q x p n xs e is =
       subst (λ (t : Steps). path_of (called p n xs) (steps_resolved g ls t) ≡ call_of g p n xs (steps_resolved g ls t)) (sym (join_comes steps s q x e is)) refl
+
+  -- what is seen as a call, which takes no brackets
+  pub plain_told : (r : Result Phrase NameFault) (p : Place) (n : ℕ) (xs : PhraseTrees) (h : PhraseTree) → h ≡ called p n xs
+      → path_of (called p n xs) (steps_resolved g ls (steps_of (map step_view steps))) ≡ call_of g p n xs (steps_resolved g ls (steps_of (map step_view steps)))
+      → Answers r (step_faults g ls (steps_of (map step_view steps))) (λ x. phrase_view x ≡ path_of h (steps_resolved g ls (steps_of (map step_view steps))))
+      → Answers r (step_faults g ls (steps_of (map step_view steps))) (λ x. phrase_view x ≡ call_of g p n xs (steps_resolved g ls (steps_of (map step_view steps))))
+  plain_told r p n xs h is same =
+      subst (λ (z : PhraseTree). Answers r (step_faults g ls (steps_of (map step_view steps))) (λ x. phrase_view x ≡ z)) (ap (λ (k : PhraseTree). path_of k (steps_resolved g ls (steps_of (map step_view steps)))) is ∙ same)

@@ -157,18 +157,20 @@ fn path(alloc: Global, names: &mut Names, steps: &[Step], head: Phrase) -> Resul
     ensures value { Answers result (spec.step_faults names.old.globals names.old.locals (steps_of (map step_view steps.now))) (λ x. seen.phrase_view x ≡ spec.with_steps names.old.globals (seen.phrase_view head) (spec.steps_resolved names.old.globals names.old.locals (steps_of (map step_view steps.now)))) }
     ensures names { OnOk result (names.new ≡ names.old) }
 {
-    match head {
-        Phrase::Called(place, number, given) => {
-            Ok(call(alloc, names, steps, place, number, given)?)
+    match &head {
+        Phrase::Called(place, number, _) => {
+            let place = *place;
+            let number = *number;
+            call(alloc, names, steps, place, number, head)
         }
-        head => {
+        _ => {
             let head = Box::new(alloc, head)?;
             Ok(Phrase::Path(head, steps_from(alloc, names, steps, 0)?))
         }
     }
 }
 
-// A call, which takes the brackets directly behind it, if they are its own.
+// A call, which stands at this place and is of the predicate or the function with this number: it takes the brackets directly behind it, if they are its own.
 #[cycle(parts)]
 fn call(
     alloc: Global,
@@ -176,22 +178,22 @@ fn call(
     steps: &[Step],
     place: Place,
     number: usize,
-    given: Vec<Phrase>,
+    called: Phrase,
 ) -> Result<Phrase, NameFault>
-    ensures value { Answers result (spec.step_faults names.old.globals names.old.locals (steps_of (map step_view steps.now))) (λ x. seen.phrase_view x ≡ spec.call_of names.old.globals place number (seen.phrases_view given.items) (spec.steps_resolved names.old.globals names.old.locals (steps_of (map step_view steps.now)))) }
+    ensures value { (given : phrase.PhraseTrees) → seen.phrase_view called ≡ phrase.called place number given → Answers result (spec.step_faults names.old.globals names.old.locals (steps_of (map step_view steps.now))) (λ x. seen.phrase_view x ≡ spec.call_of names.old.globals place number given (spec.steps_resolved names.old.globals names.old.locals (steps_of (map step_view steps.now)))) }
     ensures names { OnOk result (names.new ≡ names.old) }
 {
     match steps.first() {
         Some(Step::Brackets(_, parts)) => {
             if !takes(names, number, parts.len()) {
-                return plain(alloc, names, steps, place, number, given);
+                return plain(alloc, names, steps, called);
             }
             let arguments = formulas(alloc, names, parts)?;
             let rest = steps_from(alloc, names, steps, 1)?;
             Ok(path_of(alloc, Phrase::Called(place, number, arguments), rest)?)
         }
-        Some(Step::Join(_, _)) => plain(alloc, names, steps, place, number, given),
-        None => plain(alloc, names, steps, place, number, given),
+        Some(Step::Join(_, _)) => plain(alloc, names, steps, called),
+        None => plain(alloc, names, steps, called),
     }
 }
 
@@ -201,15 +203,13 @@ fn plain(
     alloc: Global,
     names: &mut Names,
     steps: &[Step],
-    place: Place,
-    number: usize,
-    given: Vec<Phrase>,
+    called: Phrase,
 ) -> Result<Phrase, NameFault>
-    ensures value { Answers result (spec.step_faults names.old.globals names.old.locals (steps_of (map step_view steps.now))) (λ x. seen.phrase_view x ≡ spec.path_of (phrase.called place number (seen.phrases_view given.items)) (spec.steps_resolved names.old.globals names.old.locals (steps_of (map step_view steps.now)))) }
+    ensures value { Answers result (spec.step_faults names.old.globals names.old.locals (steps_of (map step_view steps.now))) (λ x. seen.phrase_view x ≡ spec.path_of (seen.phrase_view called) (spec.steps_resolved names.old.globals names.old.locals (steps_of (map step_view steps.now)))) }
     ensures names { OnOk result (names.new ≡ names.old) }
 {
     let steps = steps_from(alloc, names, steps, 0)?;
-    Ok(path_of(alloc, Phrase::Called(place, number, given), steps)?)
+    Ok(path_of(alloc, called, steps)?)
 }
 
 // Joins and brackets from a place on.

@@ -11,7 +11,7 @@ use Rattle.named_model.specs.View as seen
 use Rattle.name_tables.specs.InForce.{InForce}
 use Rattle.name_tables.specs.Told.{IsTold, Answers}
 use Rattle.sig_resolve.specs.Bodies.Each.{faults_of_step, resolved_before, domain_resolved}
-use Rattle.sig_resolve.proofs.Bodies.Calls.{call_taken, call_told, call_kept, call_joined}
+use Rattle.sig_resolve.proofs.Bodies.Calls.{call_taken, call_told, call_kept, call_joined, plain_told}
 use Rattle.sig_resolve.proofs.Bodies.Depths.{declarations_inside, bindings_inside, all_left}
 use Rattle.sig_resolve.proofs.Bodies.SeenPaths.{called_seen}
 use Rattle.sig_resolve.proofs.Bodies.Nodes.{nodes_more, nodes_fault, nodes_all, links_more, links_fault, links_all, steps_more, steps_fault, steps_all}
@@ -150,16 +150,16 @@ values-returns-clause-value t c =
     values_all n.globals n.locals c.args.bindings.now c.loop-binding.names.locals c.loop-binding.binding-index c.loop-binding.all.items c.loop-binding-test.false c.loop-binding.invariant.left
 
 pub call-returns-then-not-takes-clause-value : goal.call-returns-then-not-takes-clause-value
-call-returns-then-not-takes-clause-value t c =
+call-returns-then-not-takes-clause-value t c own is =
     let n : InForce = c.args.names.now in
     let there = sym (ap option_copied c.in-Some-Brackets.is) ∙ c.first.ensures.value in
     let count : c.len.result ≡ length c.in-Some-Brackets.parts.items = omega (arith, c.len.ensures, ap vec_len c.in-Some-Brackets.parts-is) in
     let kept = subst (λ k. spec.takes (spec.header_at n.globals c.args.number) k ≡ false) count (sym c.if-not-takes.ensures) in
-    let same = call_kept n.globals n.locals c.args.steps.now c.in-Some-Brackets.field-0.now c.in-Some-Brackets.field-0-0 c.in-Some-Brackets.parts c.args.place c.args.number (seen.phrases_view c.args.given.items) there c.in-Some-Brackets.field-0-is kept in
-    subst (λ (z : phrase.PhraseTree). Answers c.plain.result (spec.step_faults n.globals n.locals (steps_of (map step_view c.args.steps.now))) (λ x. seen.phrase_view x ≡ z)) same c.plain.ensures.value
+    let same = call_kept n.globals n.locals c.args.steps.now c.in-Some-Brackets.field-0.now c.in-Some-Brackets.field-0-0 c.in-Some-Brackets.parts c.args.place c.args.number own there c.in-Some-Brackets.field-0-is kept in
+    plain_told n.globals n.locals c.args.steps.now c.plain.result c.args.place c.args.number own (seen.phrase_view c.args.called) is same c.plain.ensures.value
 
 pub call-returns-in_err-arguments-in-Some-Brackets-clause-value : goal.call-returns-in_err-arguments-in-Some-Brackets-clause-value
-call-returns-in_err-arguments-in-Some-Brackets-clause-value t c =
+call-returns-in_err-arguments-in-Some-Brackets-clause-value t c own is =
     let n : InForce = c.args.names.now in
     let p = err_from_is_err_and c.from_residual.result c.from_residual.ensures.1 in
     let there = sym (ap option_copied c.in-Some-Brackets.is) ∙ c.first.ensures.value in
@@ -168,7 +168,7 @@ call-returns-in_err-arguments-in-Some-Brackets-clause-value t c =
     rw (p.1, p.2) (call_told n.globals n.locals c.args.steps.now c.in-Some-Brackets.field-0.now c.in-Some-Brackets.field-0-0 c.in-Some-Brackets.parts c.in_err-arguments-in-Some-Brackets.field-0.0 there c.in-Some-Brackets.field-0-is told)
 
 pub call-returns-in_ok-path_of-in-Some-Brackets-clause-value : goal.call-returns-in_ok-path_of-in-Some-Brackets-clause-value
-call-returns-in_ok-path_of-in-Some-Brackets-clause-value t c =
+call-returns-in_ok-path_of-in-Some-Brackets-clause-value t c own is =
     let n : InForce = c.args.names.now in
     let there = sym (ap option_copied c.in-Some-Brackets.is) ∙ c.first.ensures.value in
     let count : c.len.result ≡ length c.in-Some-Brackets.parts.items = omega (arith, c.len.ensures, ap vec_len c.in-Some-Brackets.parts-is) in
@@ -180,14 +180,21 @@ call-returns-in_ok-path_of-in-Some-Brackets-clause-value t c =
     let given = subst (λ xs. (spec.all_faults n.globals n.locals (trees_of (views xs)) ≡ []) × (seen.phrases_view arguments.items ≡ spec.all_resolved n.globals n.locals (trees_of (views xs)))) same c.in_ok-arguments-in-Some-Brackets.ensures.value in
     let behind = subst (λ (m : InForce). (spec.step_faults m.globals m.locals more ≡ []) × (rest ≡ spec.steps_resolved m.globals m.locals more)) c.in_ok-arguments-in-Some-Brackets.ensures.names c.in_ok-rest-in-Some-Brackets.ensures.value in
     let made = c.in_ok-path_of-in-Some-Brackets.ensures.1 ∙ ap (λ h. spec.path_of h rest) (called_seen c.args.place c.args.number arguments) in
-    call_taken n.globals n.locals c.args.steps.now c.in-Some-Brackets.field-0.now c.in-Some-Brackets.field-0-0 c.in-Some-Brackets.parts c.args.place c.args.number (seen.phrases_view c.args.given.items) (seen.phrases_view arguments.items) rest (seen.phrase_view c.in_ok-path_of-in-Some-Brackets.field-0) there c.in-Some-Brackets.field-0-is taken given behind made
+    call_taken n.globals n.locals c.args.steps.now c.in-Some-Brackets.field-0.now c.in-Some-Brackets.field-0-0 c.in-Some-Brackets.parts c.args.place c.args.number own (seen.phrases_view arguments.items) rest (seen.phrase_view c.in_ok-path_of-in-Some-Brackets.field-0) there c.in-Some-Brackets.field-0-is taken given behind made
 
 pub call-returns-in-Some-Join-clause-value : goal.call-returns-in-Some-Join-clause-value
-call-returns-in-Some-Join-clause-value t c =
+call-returns-in-Some-Join-clause-value t c own is =
     let n : InForce = c.args.names.now in
     let there = sym (ap option_copied c.in-Some-Join.is) ∙ c.first.ensures.value in
-    let same = call_joined n.globals n.locals c.args.steps.now c.in-Some-Join.field-0.now c.in-Some-Join.field-0-0 c.in-Some-Join.field-0-1 c.args.place c.args.number (seen.phrases_view c.args.given.items) there c.in-Some-Join.field-0-is in
-    subst (λ (z : phrase.PhraseTree). Answers c.plain-in-Some-Join.result (spec.step_faults n.globals n.locals (steps_of (map step_view c.args.steps.now))) (λ x. seen.phrase_view x ≡ z)) same c.plain-in-Some-Join.ensures.value
+    let same = call_joined n.globals n.locals c.args.steps.now c.in-Some-Join.field-0.now c.in-Some-Join.field-0-0 c.in-Some-Join.field-0-1 c.args.place c.args.number own there c.in-Some-Join.field-0-is in
+    plain_told n.globals n.locals c.args.steps.now c.plain-in-Some-Join.result c.args.place c.args.number own (seen.phrase_view c.args.called) is same c.plain-in-Some-Join.ensures.value
+
+pub path-returns-in-Called-clause-value : goal.path-returns-in-Called-clause-value
+path-returns-in-Called-clause-value t c =
+    let n : InForce = c.args.names.now in
+    let is = ap seen.phrase_view c.in-Called.is ∙ called_seen c.in-Called.place c.in-Called.number c.in-Called.field-2 in
+    let steps = steps_of (map step_view c.args.steps.now) in
+    subst (λ (h : phrase.PhraseTree). Answers c.call.result (spec.step_faults n.globals n.locals steps) (λ x. seen.phrase_view x ≡ spec.with_steps n.globals h (spec.steps_resolved n.globals n.locals steps))) (sym is) (c.call.ensures.value (seen.phrases_view c.in-Called.field-2.items) is)
 
 pub part-returns-in_ok-inner-in-Quantified-clause-names : goal.part-returns-in_ok-inner-in-Quantified-clause-names
 part-returns-in_ok-inner-in-Quantified-clause-names t c =
