@@ -4,6 +4,7 @@ pub mod Known
 pub mod Grouped
 pub mod Orders
 pub mod Bounds
+pub mod Kept
 pub mod Ready
 pub mod Callees
 pub mod OutcomeLemmas

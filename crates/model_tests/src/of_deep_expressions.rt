@@ -32,6 +32,7 @@ fn known(alloc: Global) -> Result<Known, AllocError> {
         over: Vec::from_slice(alloc, &[0])?,
         fields: fields(alloc)?,
         bodies: Vec::new(alloc),
+        kept: Vec::new(alloc),
     })
 }
 

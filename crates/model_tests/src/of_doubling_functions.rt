@@ -1,9 +1,10 @@
 // Functions that call others more than once, where a shared name asks for their types.
 use crate::small_models::{PLACE, domain, joined, name};
 use alloy_lex::{Place, Text};
-use alloy_syntax::tree::Operator;
+use alloy_syntax::tree::{Operator, Prefix};
+use alloy_types::check_types;
 use alloy_types::known_callees::declared;
-use named_model::named::{Callee, Field, Meaning, Named, Signature};
+use named_model::named::{Callee, Field, Formulas, Meaning, Named, Signature};
 use named_model::phrase::{Link, Phrase, Referent};
 use overload_resolution::typed_scopes::Scope;
 use std::alloc::{AllocError, Global};
@@ -36,8 +37,8 @@ fn field(alloc: Global, owner: usize) -> Result<Field, AllocError> {
     })
 }
 
-// sig A { f: A } sig B { f: B }, with these functions.
-fn model(alloc: Global, callees: Vec<Callee>) -> Result<Named, AllocError> {
+// sig A { f: A } sig B { f: B }, with these functions and facts.
+fn model(alloc: Global, callees: Vec<Callee>, facts: Vec<Formulas>) -> Result<Named, AllocError> {
     let mut signatures = Vec::new(alloc);
     let mut fields = Vec::new(alloc);
     for (number, text) in ["A", "B"].iter().enumerate() {
@@ -48,7 +49,7 @@ fn model(alloc: Global, callees: Vec<Callee>) -> Result<Named, AllocError> {
         signatures,
         fields,
         callees,
-        facts: Vec::new(alloc),
+        facts,
         fact_names: Vec::new(alloc),
         assertions: Vec::new(alloc),
         commands: Vec::new(alloc),
@@ -117,6 +118,54 @@ fn fields_of(alloc: Global, head: Phrase) -> Result<Phrase, AllocError> {
     joined(alloc, head, name(Referent::Shared(0)))
 }
 
+// some g.f
+fn fact(alloc: Global, number: usize, parameters: usize) -> Result<Formulas, AllocError> {
+    let called = call(alloc, number, parameters, Referent::Signature(0))?;
+    let some = Phrase::Prefixed(
+        Prefix::Some,
+        PLACE,
+        Box::new(alloc, fields_of(alloc, called)?)?,
+    );
+    let mut formulas = Vec::new(alloc);
+    formulas.push(some)?;
+    Ok(Formulas { formulas })
+}
+
+// So many such facts of one function.
+fn facts(
+    alloc: Global,
+    number: usize,
+    parameters: usize,
+    uses: usize,
+) -> Result<Vec<Formulas>, AllocError> {
+    let mut facts = Vec::new(alloc);
+    for _fact in 0..uses {
+        facts.push(fact(alloc, number, parameters)?)?;
+    }
+    Ok(facts)
+}
+
+// Whether a model has types in which so many facts ask for that of the last of so many functions, each of which calls the one
+// before it twice.
+fn has_types(
+    alloc: Global,
+    count: usize,
+    parameters: usize,
+    uses: usize,
+) -> Result<bool, AllocError> {
+    let callees = doubling(alloc, count, parameters)?;
+    let facts = facts(alloc, count, parameters, uses)?;
+    Ok(check_types(alloc, model(alloc, callees, facts)?).is_ok())
+}
+
+#[test]
+fn types_of_functions_without_parameters_are_kept(rt: HostRuntime) -> Result<(), Fail> {
+    for (count, uses) in [(3, 1), (24, 1), (24, 100), (2_000, 100)] {
+        assert!(rt; has_types(rt.alloc(), count, 0, uses)?);
+    }
+    Ok(())
+}
+
 // A function that is `g[A].f`, behind so many functions of one parameter that double, where g is the last of them.
 fn with_value(alloc: Global, count: usize) -> Result<Vec<Callee>, AllocError> {
     let mut callees = doubling(alloc, count, 1)?;
@@ -127,7 +176,7 @@ fn with_value(alloc: Global, count: usize) -> Result<Vec<Callee>, AllocError> {
 
 // How many looks of so many are left where it is known what is declared.
 fn looks_left(alloc: Global, count: usize, looks: u32) -> Result<u32, AllocError> {
-    let model = model(alloc, with_value(alloc, count)?)?;
+    let model = model(alloc, with_value(alloc, count)?, Vec::new(alloc))?;
     let mut scope = Scope::new(alloc);
     scope.work.left = looks;
     let _setting = declared(alloc, &mut scope, &model)?;

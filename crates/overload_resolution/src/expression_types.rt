@@ -8,5 +8,5 @@ mod names;
 mod parts;
 
 pub use crate::expression_types::brackets::brackets_type;
-pub use crate::expression_types::known::Known;
+pub use crate::expression_types::known::{KeptType, Known};
 pub use crate::expression_types::parts::{type_of, types_of};

@@ -63,7 +63,7 @@ module _ (m : NamedTree) where
   pub body_called : (P : ℕ → Type 0) (c : CalleeTree) → EachCalledBy P c → EachCalledIn P (body_of (declared_in m) c)
   body_called P c h = meaning_called P (reverse (map or_unknown (parameters_known (domains_known (declared_in m) [] c.parameters)))) c.meaning h.1
 
-  body_past : (P : ℕ → Type 0) (n : ℕ) (o : Option CalleeTree) → slice_get m.callees n ≡ o → ((c : CalleeTree) → slice_get m.callees n ≡ Some c → EachCalledBy P c) → EachCalledIn P (slice_index_or (bodies_of m) n None)
+  pub body_past : (P : ℕ → Type 0) (n : ℕ) (o : Option CalleeTree) → slice_get m.callees n ≡ o → ((c : CalleeTree) → slice_get m.callees n ≡ Some c → EachCalledBy P c) → EachCalledIn P (slice_index_or (bodies_of m) n None)
   body_past P n None e h = subst (EachCalledIn P) (sym (found_at (body_of (declared_in m)) m.callees n ∙ ap (found (body_of (declared_in m))) e)) tt
   body_past P n (Some c) e h = subst (EachCalledIn P) (sym (body_at n c e)) (body_called P c (h c e))
 
@@ -111,6 +111,10 @@ module _ (m : NamedTree) (rank : ℕ → ℕ) (ranked : AreRanks m rank) (low : 
   same_calls n d xs ys h =
       subst (λ (a : Lists). AreSame (calls_within m.signatures ts bodies (length m.callees) n xs) a) (calls_by_bodies m rank ranked low n ys)
       (calls_alike m.signatures ts (types_of_fields m) each bodies (bodies_of m) done are.each_body are.unknown lower (length m.callees) n d xs ys h)
+
+  -- a call without arguments of what is done, for every depth of calls
+  pub same_within : (k n : ℕ) → Done n → AreSame (calls_within m.signatures ts bodies k n []) (calls_within m.signatures (types_of_fields m) (bodies_of m) k n [])
+  same_within k n d = calls_alike m.signatures ts (types_of_fields m) each bodies (bodies_of m) done are.each_body are.unknown lower k n d [] [] tt
 
   header_is : (n : ℕ) (type : List Lists → Lists) (o : Option Header) (h : typing.Header) → IsHeader o h → ((xs ys : List Lists) → AreEachSame xs ys → AreSame (type xs) (h.type ys))
       → AreSameHeaders (option_map (with_type type) o) (Some h)

@@ -1,5 +1,5 @@
 -- The tables of a model, as one predicate or function after the other is done.
-use Rattle.std.proofs.Common.{◌≡◌, ◌≢◌, ℕ, zero, suc, ◌+◌, ◌<◌, ◌≤◌, Bool, true, false, ◌==◌, List, [], ◌∷◌, map, length, take, replicate, Option, Some, None, refl, sym, ap, ◌∙◌, subst, inl, inr, arith}
+use Rattle.std.proofs.Common.{◌≡◌, ◌≢◌, ℕ, zero, suc, ◌+◌, ◌<◌, ◌≤◌, Bool, true, false, ◌||◌, ◌==◌, List, [], ◌∷◌, map, length, take, replicate, Option, Some, None, IfSome, refl, sym, ap, ◌∙◌, subst, inl, inr, arith}
 use Rattle.std.specs.List.{slice_get, slice_index_or, slice_set}
 use Rattle.std.specs.Option.{option_map}
 use Rattle.std.proofs.lemmas.List.{take_all, length-map, length-set, length-replicate, get_or-set_same, get_or-set_other}
@@ -11,56 +11,64 @@ use Rattle.named_model.specs.Signatures.{tops, top_of}
 use Rattle.named_model.specs.declared.named.Callee.{Callee}
 use Rattle.named_model.specs.View.{phrase_view, callee_view}
 use Rattle.named_model.specs.Faults.{callees_of}
+use Rattle.model_types.specs.Bounding.{Lists}
+use Rattle.model_types.specs.Bounds.Same.{AreSame}
 use Rattle.model_types.specs.Typing.{Field, Declared}
 use Rattle.model_types.specs.Models.{signatures_alone, header_of, declared_in}
 use Rattle.model_types.specs.Parts.Tables.{entry}
 use Rattle.overload_resolution.specs.declared.shared_names.headers.Header.{Header}
 use Rattle.overload_resolution.specs.Names.Headers.{with_type}
-use Rattle.overload_resolution.specs.Expressions.Types.{AreEachSame, calls_within, bodies_view}
+use Rattle.overload_resolution.specs.declared.expression_types.known.KeptType.{KeptType}
+use Rattle.overload_resolution.specs.Expressions.Types.{AreEachSame, calls_within, bodies_view, kept_with, kept_at, AreCallTypes}
 use Rattle.overload_resolution.specs.declared.typed_scopes.setting.Setting.{Setting}
 use Rattle.overload_resolution.specs.Scopes.Declaring.{fields_by, declared_by, alone, AreTables}
 use Rattle.alloy_types.specs.Declarations.Same.{AreSameFields, IsSameHeader, AreSameDeclared}
-use Rattle.alloy_types.specs.Headers.Called.{EachCalledBy}
-use Rattle.alloy_types.specs.Headers.Bodies.{body_of}
+use Rattle.alloy_types.specs.Headers.Called.{EachCalledBy, AreRanks}
+use Rattle.alloy_types.specs.Headers.Bodies.{body_of, AreLow}
 use Rattle.reference_cycles.specs.Cycles.Walks.{among}
 use Rattle.reference_cycles.specs.Cycles.Orders.{IsOrder}
 use Rattle.alloy_types.specs.Calls.Fields.{field_type, field_entry}
-use Rattle.alloy_types.specs.Calls.Known.{IsHeader}
+use Rattle.alloy_types.specs.Calls.Known.{IsHeader, IsKept, AreKnown}
 use Rattle.alloy_types.specs.Calls.Ready.{HasFields, AreKept, IsReady}
 use Rattle.alloy_types.proofs.Calls.Bounds.{fields_same, types_same, each_length}
-use Rattle.alloy_types.proofs.Calls.Known.{types_of_fields, fields_of, declared_with, header_now, body_now, all_same, known_more}
+use Rattle.alloy_types.proofs.Calls.Known.{types_of_fields, fields_of, declared_with, header_now, body_now, all_same, known_more, known_once, same_within}
+use Rattle.alloy_types.proofs.Calls.Kept.{by_all, one_kept, kept_more, unkept_more}
+use Rattle.overload_resolution.proofs.Expressions.Calling.{nothing_kept, nothing_kept_at}
 use Rattle.alloy_types.proofs.Calls.Orders as orders
 
 -- ---- tables
 
 -- other headers, bodies and calls
 pub fields_stay : (m : NamedTree) (old new : Setting) → new.signatures.now ≡ old.signatures.now → new.fields ≡ old.fields → new.types.tops.items ≡ old.types.tops.items → new.types.over.items ≡ old.types.over.items
-    → new.types.fields.items ≡ old.types.fields.items → length new.types.bodies.items ≤ length new.headers.items → HasFields m old → HasFields m new
-fields_stay m old new signatures fields tops_are over types few has = record {
+    → new.types.fields.items ≡ old.types.fields.items → length new.types.bodies.items ≤ length new.headers.items → AreCallTypes new.signatures.now new.types.fields.items (bodies_view new.types.bodies.items) new.types.kept.items → HasFields m old → HasFields m new
+fields_stay m old new signatures fields tops_are over types few kept has = record {
   tables = record {
     at_the_top = tops_are ∙ has.tables.at_the_top ∙ ap tops (sym signatures);
     over = λ n. ap (λ (t : List ℕ). entry t n) over ∙ has.tables.over n ∙ ap (λ s. top_of s n) (sym signatures);
     fields = ap length types ∙ has.tables.fields ∙ ap length (sym fields);
     callees = few;
+    kept = kept;
   };
   signatures = signatures ∙ has.signatures;
   fields = fields ∙ has.fields;
   types = subst (λ ts. AreEachSame ts (map (field_type (signatures_alone m)) m.fields)) (sym types) has.types;
 }
 
-pub fields_kept : (m : NamedTree) (old new : Setting) → AreKept old new → length new.headers.items ≡ length old.headers.items → length new.types.bodies.items ≡ length old.types.bodies.items → HasFields m old → HasFields m new
-fields_kept m old new k h b has = fields_stay m old new k.signatures k.fields k.tops k.over k.types (omega (arith, h, b, has.tables.callees)) has
+pub fields_kept : (m : NamedTree) (old new : Setting) → AreKept old new → length new.headers.items ≡ length old.headers.items → length new.types.bodies.items ≡ length old.types.bodies.items
+    → AreCallTypes new.signatures.now new.types.fields.items (bodies_view new.types.bodies.items) new.types.kept.items → HasFields m old → HasFields m new
+fields_kept m old new k h b kept has = fields_stay m old new k.signatures k.fields k.tops k.over k.types (omega (arith, h, b, has.tables.callees)) kept has
 
 -- fields that are found by the signatures alone
 pub fields_start : (m : NamedTree) (old new : Setting) → AreTables old → declared_by old ≡ alone m.signatures → new.signatures.now ≡ m.signatures → new.signatures.now ≡ old.signatures.now → new.types.tops.items ≡ old.types.tops.items
-    → new.types.over.items ≡ old.types.over.items → length new.types.bodies.items ≤ length new.headers.items → AreEachSame new.types.fields.items (map (field_type (declared_by old)) m.fields)
+    → new.types.over.items ≡ old.types.over.items → length new.types.bodies.items ≤ length new.headers.items → new.types.kept.items ≡ [] → AreEachSame new.types.fields.items (map (field_type (declared_by old)) m.fields)
     → new.fields ≡ map (field_entry (declared_by old)) m.fields → HasFields m new
-fields_start m old new are declared of_model signatures tops_are over few types entries = record {
+fields_start m old new are declared of_model signatures tops_are over few kept types entries = record {
   tables = record {
     at_the_top = tops_are ∙ are.at_the_top ∙ ap tops (sym signatures);
     over = λ n. ap (λ (t : List ℕ). entry t n) over ∙ are.over n ∙ ap (λ s. top_of s n) (sym signatures);
     fields = omega (arith, each_length new.types.fields.items (map (field_type (declared_by old)) m.fields) types, length-map m.fields (field_type (declared_by old)), length-map m.fields (field_entry (declared_by old)), ap length entries);
     callees = few;
+    kept = nothing_kept new.signatures.now new.types.fields.items (bodies_view new.types.bodies.items) new.types.kept.items 0 kept;
   };
   signatures = of_model;
   fields = entries ∙ ap (λ (d : Declared). map (field_entry d) m.fields) declared;
@@ -95,8 +103,8 @@ none_at zero k = refl
 none_at (suc n) zero = refl
 none_at (suc n) (suc k) = none_at n k
 
-pub ready_start : (m : NamedTree) (s : Setting) → HasFields m s → s.calls ≡ length m.callees → length s.headers.items ≡ length m.callees → s.types.bodies.items ≡ replicate (length m.callees) None → IsReady m (λ n. false) s
-ready_start m s has calls headers bodies = record {
+pub ready_start : (m : NamedTree) (s : Setting) → HasFields m s → s.calls ≡ length m.callees → length s.headers.items ≡ length m.callees → s.types.bodies.items ≡ replicate (length m.callees) None → s.types.kept.items ≡ replicate (length m.callees) None → IsReady m (λ n. false) s
+ready_start m s has calls headers bodies kept = record {
   fields = has;
   calls = calls;
   known = record {
@@ -106,6 +114,8 @@ ready_start m s has calls headers bodies = record {
     each_body = λ n h. absurd (never h);
     unknown = λ n h. ap (λ bs. slice_index_or (bodies_view bs) n None) bodies ∙ none_at (length m.callees) n;
   };
+  as_many = ap length kept ∙ length-replicate {A = Option KeptType} (length m.callees) None;
+  unkept = λ n h. nothing_kept_at s.types.kept.items (length m.callees) n kept;
 }
 
 -- the predicate or function of a number
@@ -166,7 +176,8 @@ module _ (m : NamedTree) (order : List ℕ) (is : IsOrder (map callees_of m.call
     -- one more
     module _ (new : Setting) (n : ℕ) (c : CalleeTree) (header : Header) (body : Option PhraseTree) (l : i < length order) (at : n ≡ slice_index_or order i n) (there : slice_get m.callees n ≡ Some c) (kept : AreKept s new)
         (headers : new.headers.items ≡ slice_set s.headers.items n header) (bodies : bodies_view new.types.bodies.items ≡ slice_set (bodies_view s.types.bodies.items) n body)
-        (header_is : IsHeader (Some header) (header_of (declared_by s) c)) (body_is : body ≡ body_of (declared_by s) c) where
+        (header_is : IsHeader (Some header) (header_of (declared_by s) c)) (body_is : body ≡ body_of (declared_by s) c)
+        (value : Option KeptType) (values : new.types.kept.items ≡ slice_set s.types.kept.items n value) (value_is : IfSome value (IsKept (declared_by s) (i + 1) body)) where
       calls : EachCalledBy (λ k. done_at i k ≡ true) c
       calls = orders.calls_before m (map callees_of m.callees) refl order is i n c l (sym at) there
 
@@ -193,13 +204,73 @@ module _ (m : NamedTree) (order : List ℕ) (is : IsOrder (map callees_of m.call
       body_put : slice_index_or (bodies_view new.types.bodies.items) n None ≡ body_of (declared_in m) c
       body_put = ap (λ bs. slice_index_or bs n None) bodies ∙ get_or-set_same (bodies_view s.types.bodies.items) n body None low_bodies ∙ body_is ∙ body_ready c calls
 
+      more_is : (k : ℕ) → done_at (i + 1) k ≡ (done_at i k || (n == k))
+      more_is k = orders.one_more order i n k l at
+
+      known_now : AreKnown m (done_at (i + 1)) new.headers.items (bodies_view new.types.bodies.items)
+      known_now =
+          known_more m (done_at i) (done_at (i + 1)) s.headers.items new.headers.items (bodies_view s.types.bodies.items) (bodies_view new.types.bodies.items) r.known n c there
+          more_is headers_long bodies_long header_put body_put
+          (λ k e. ap (λ hs. slice_get hs k) headers ∙ get_set_other s.headers.items n k header (apart n k e))
+          (λ k e. ap (λ bs. slice_index_or bs k None) bodies ∙ at_set_other (bodies_view s.types.bodies.items) n k body None (apart n k e))
+
+      -- ---- what is kept
+
+      ranked_by : AreRanks m rank
+      ranked_by = orders.ranked m (map callees_of m.callees) refl order is
+
+      low_by : AreLow m rank
+      low_by = orders.low m (map callees_of m.callees) refl order is
+
+      closed_at : (j k : ℕ) (d : CalleeTree) → slice_get m.callees k ≡ Some d → done_at j k ≡ true → EachCalledBy (λ q. done_at j q ≡ true) d
+      closed_at j k d e h = orders.calls_done m (map callees_of m.callees) refl order is j k d e h
+
+      now_done : done_at (i + 1) n ≡ true
+      now_done = more_is n ∙ ap (λ (b : Bool). done_at i n || b) (eq-eqb n n refl) ∙ right (done_at i n)
+        where
+          right : (b : Bool) → (b || true) ≡ true
+          right true = refl
+          right false = refl
+
+      low_kept : n < length s.types.kept.items
+      low_kept = omega (arith, slice_get_within m.callees n c there, r.as_many)
+
+      others_kept : (k : ℕ) → (n == k) ≡ false → slice_index_or new.types.kept.items k None ≡ slice_index_or s.types.kept.items k None
+      others_kept k e = ap (λ os. slice_index_or os k None) values ∙ at_set_other s.types.kept.items n k value None (apart n k e)
+
+      value_put : slice_index_or new.types.kept.items n None ≡ value
+      value_put = ap (λ os. slice_index_or os n None) values ∙ get_or-set_same s.types.kept.items n value None low_kept
+
+      one : (k : ℕ) (a : Lists) → kept_at new.types.kept.items n k ≡ Some a → AreSame a (by_all m rank ranked_by low_by k n [])
+      one k a e =
+          one_kept m rank ranked_by low_by (declared_by s) n i c there
+          (known_once m rank ranked_by low_by es s.types.fields.items same_fields each (done_at i) s.headers.items (bodies_view s.types.bodies.items) r.known (closed_at i) n c there)
+          (header_ready c calls) (orders.place_front n (i + 1) order now_done) body body_is value value_is k a (sym (ap (λ (o : Option KeptType). kept_with o k) value_put) ∙ e)
+
+      abbrev kept_before : AreCallTypes m.signatures s.types.fields.items (bodies_view s.types.bodies.items) s.types.kept.items
+      kept_before = subst (λ ss. AreCallTypes ss s.types.fields.items (bodies_view s.types.bodies.items) s.types.kept.items) r.fields.signatures r.fields.tables.kept
+
+      kept_now : AreCallTypes m.signatures s.types.fields.items (bodies_view new.types.bodies.items) new.types.kept.items
+      kept_now =
+          kept_more m rank ranked_by low_by s.types.fields.items (bodies_view s.types.bodies.items) (bodies_view new.types.bodies.items) (done_at i) (done_at (i + 1)) n more_is
+          (same_within m rank ranked_by low_by es s.types.fields.items same_fields each (done_at i) s.headers.items (bodies_view s.types.bodies.items) r.known (closed_at i))
+          (same_within m rank ranked_by low_by es s.types.fields.items same_fields each (done_at (i + 1)) new.headers.items (bodies_view new.types.bodies.items) known_now (closed_at (i + 1)))
+          s.types.kept.items new.types.kept.items kept_before r.unkept others_kept one
+
+      kept_new : AreCallTypes new.signatures.now new.types.fields.items (bodies_view new.types.bodies.items) new.types.kept.items
+      kept_new =
+          subst (λ ss. AreCallTypes ss new.types.fields.items (bodies_view new.types.bodies.items) new.types.kept.items) (sym (kept.signatures ∙ r.fields.signatures))
+          (subst (λ ts. AreCallTypes m.signatures ts (bodies_view new.types.bodies.items) new.types.kept.items) (sym kept.types) kept_now)
+
       pub ready_more : IsReady m (done_at (i + 1)) new
       ready_more = record {
-        fields = fields_kept m s new kept headers_long as_long r.fields;
+        fields = fields_kept m s new kept headers_long as_long kept_new r.fields;
         calls = kept.calls ∙ r.calls;
-        known =
-            known_more m (done_at i) (done_at (i + 1)) s.headers.items new.headers.items (bodies_view s.types.bodies.items) (bodies_view new.types.bodies.items) r.known n c there
-            (λ k. orders.one_more order i n k l at) headers_long bodies_long header_put body_put
-            (λ k e. ap (λ hs. slice_get hs k) headers ∙ get_set_other s.headers.items n k header (apart n k e))
-            (λ k e. ap (λ bs. slice_index_or bs k None) bodies ∙ at_set_other (bodies_view s.types.bodies.items) n k body None (apart n k e));
+        known = known_now;
+        as_many = ap length values ∙ length-set s.types.kept.items n value ∙ r.as_many;
+        unkept =
+            unkept_more m rank ranked_by low_by s.types.fields.items (bodies_view s.types.bodies.items) (bodies_view new.types.bodies.items) (done_at i) (done_at (i + 1)) n more_is
+            (same_within m rank ranked_by low_by es s.types.fields.items same_fields each (done_at i) s.headers.items (bodies_view s.types.bodies.items) r.known (closed_at i))
+            (same_within m rank ranked_by low_by es s.types.fields.items same_fields each (done_at (i + 1)) new.headers.items (bodies_view new.types.bodies.items) known_now (closed_at (i + 1)))
+            s.types.kept.items new.types.kept.items kept_before r.unkept others_kept one;
       }

@@ -1,5 +1,5 @@
 -- Tables of a model, as far as its predicates and functions are done.
-use Rattle.std.specs.Prelude.{◌≡◌, ℕ, map, length, Bool}
+use Rattle.std.specs.Prelude.{◌≡◌, ℕ, map, length, slice_index_or, Bool, false, None}
 use Rattle.named_model.specs.Model.{NamedTree}
 use Rattle.model_types.specs.Models.{signatures_alone}
 use Rattle.overload_resolution.specs.Expressions.Types.{AreEachSame, bodies_view}
@@ -24,8 +24,10 @@ pub record AreKept (old new : Setting) : Type 0 where
   pub types : new.types.fields.items ≡ old.types.fields.items
   pub calls : new.calls ≡ old.calls
 
--- and what is known of its predicates and functions
+-- and what is known of its predicates and functions; only of what is done a type is kept
 pub record IsReady (m : NamedTree) (done : ℕ → Bool) (s : Setting) : Type 0 where
   pub fields : HasFields m s
   pub calls : s.calls ≡ length m.callees
   pub known : AreKnown m done s.headers.items (bodies_view s.types.bodies.items)
+  pub as_many : length s.types.kept.items ≡ length m.callees
+  pub unkept : (n : ℕ) → done n ≡ false → slice_index_or s.types.kept.items n None ≡ None

@@ -29,6 +29,7 @@ pub fn fields_known<'a>(
     ensures fields { IfOk result (λ s. HasFields (named_view model.now) s) }
     ensures headers { IfOk result (λ s. s.headers.items ≡ []) }
     ensures bodies { IfOk result (λ s. s.types.bodies.items ≡ []) }
+    ensures kept { IfOk result (λ s. s.types.kept.items ≡ []) }
 {
     let setting = Setting::new(alloc, &model.signatures)?;
     let types = field_types(alloc, &setting, scope, &model.fields)?;
@@ -39,6 +40,7 @@ pub fn fields_known<'a>(
         over: known.over,
         fields: types,
         bodies: known.bodies,
+        kept: known.kept,
     };
     Ok(Setting {
         signatures: setting.signatures,

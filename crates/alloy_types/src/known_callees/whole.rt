@@ -1,5 +1,5 @@
 // What is declared in a model.
-ghost use Rattle.std.specs.Prelude.{◌≡◌, ◌<◌, ℕ, [], map, length, false, option_map, slice_get, slice_set, replicate, Some, None, IfOk};
+ghost use Rattle.std.specs.Prelude.{◌≡◌, ◌+◌, ◌<◌, ℕ, [], map, length, false, option_map, slice_get, slice_set, replicate, Some, None, IfOk, IfSome};
 ghost use Rattle.named_model.specs.Model.{CalleeTree};
 ghost use Rattle.named_model.specs.Faults.{callees_of};
 ghost use Rattle.named_model.specs.View.{phrase_view, callee_view, named_view};
@@ -9,15 +9,16 @@ ghost use Rattle.overload_resolution.specs.Expressions.Types.{bodies_view};
 ghost use Rattle.alloy_types.specs.Headers.Bodies.{body_of};
 ghost use Rattle.alloy_types.specs.Declarations.Same.{AreSameDeclared};
 ghost use Rattle.overload_resolution.specs.Scopes.Declaring.{declared_by, AreTables};
-ghost use Rattle.alloy_types.specs.Calls.Known.{IsHeader};
+ghost use Rattle.alloy_types.specs.Calls.Known.{IsHeader, IsKept};
 ghost use Rattle.alloy_types.specs.Calls.Ready.{HasFields, IsReady, AreKept};
 
 use crate::known_callees::callee::callee_known;
 use crate::known_callees::fields::fields_known;
+use crate::known_callees::kept::{is_asked, kept_type};
 use model_types::part_sorts::Kind;
 use named_model::named::{Callee, Named};
 use named_model::phrase::Phrase;
-use overload_resolution::expression_types::Known;
+use overload_resolution::expression_types::{KeptType, Known};
 use overload_resolution::shared_names::Header;
 use overload_resolution::typed_scopes::{Scope, Setting};
 use reference_cycles::number_cycles::order_of;
@@ -58,12 +59,14 @@ fn with_places<'a>(
     let count = callees.len();
     let headers = no_headers(alloc, count)?;
     let bodies = no_bodies(alloc, count)?;
+    let kept = nothing_kept(alloc, count)?;
     let known = setting.types;
     let types = Known {
         tops: known.tops,
         over: known.over,
         fields: known.fields,
         bodies,
+        kept,
     };
     Ok(Setting {
         signatures: setting.signatures,
@@ -97,6 +100,16 @@ fn no_bodies(alloc: Global, count: usize) -> Result<Vec<Option<Phrase>>, AllocEr
     Ok(bodies)
 }
 
+fn nothing_kept(alloc: Global, count: usize) -> Result<Vec<Option<KeptType>>, AllocError>
+    ensures { IfOk result (λ kept. kept.items ≡ replicate count None) }
+{
+    let mut kept = Vec::new(alloc);
+    for _ in 0..count {
+        kept.push(None)?;
+    }
+    Ok(kept)
+}
+
 // With what is known of the predicates and functions, in an order in which what is called comes before its callers.
 fn all_known<'a>(
     alloc: Global,
@@ -111,9 +124,11 @@ fn all_known<'a>(
     ensures value { IfOk result (λ s. AreSameDeclared (declared_by s) (declared_in (named_view model.now))) }
 {
     let mut setting = setting;
-    for number in order {
+    let asked = is_asked(model);
+    for (place, number) in order.iter().enumerate() {
         let (header, body) = known_at(alloc, &setting, scope, &model.callees, *number)?;
-        put(&mut setting, *number, header, body);
+        let kept = kept_where(alloc, &setting, scope, asked, place, &header, &body);
+        put(&mut setting, *number, header, body, kept);
     }
     Ok(setting)
 }
@@ -137,14 +152,43 @@ fn known_at(
     }
 }
 
-// Puts a header and a body at the place of a number.
-fn put(setting: &mut Setting, number: usize, header: Header, body: Option<Phrase>)
+// The type of a call, where types are asked for and it is kept.
+fn kept_where(
+    alloc: Global,
+    setting: &Setting,
+    scope: &mut Scope,
+    asked: bool,
+    place: usize,
+    header: &Header,
+    body: &Option<Phrase>,
+) -> Option<KeptType>
+    requires { AreTables setting.now }
+    ensures { IfSome result (IsKept (declared_by setting.now) (place + 1) (option_map phrase_view body.now)) }
+{
+    if asked {
+        kept_type(alloc, setting, scope, place, header, body)
+    } else {
+        None
+    }
+}
+
+// Puts a header, a body, and the type of a call, at the place of a number.
+fn put(
+    setting: &mut Setting,
+    number: usize,
+    header: Header,
+    body: Option<Phrase>,
+    kept: Option<KeptType>,
+)
     requires headers { number < length setting.old.headers.items }
     requires bodies { number < length setting.old.types.bodies.items }
-    ensures kept { AreKept setting.old setting.new }
+    requires kept { number < length setting.old.types.kept.items }
+    ensures same { AreKept setting.old setting.new }
     ensures headers { setting.new.headers.items ≡ slice_set setting.old.headers.items number header }
     ensures bodies { bodies_view setting.new.types.bodies.items ≡ slice_set (bodies_view setting.old.types.bodies.items) number (option_map phrase_view body) }
+    ensures kept { setting.new.types.kept.items ≡ slice_set setting.old.types.kept.items number kept }
 {
     setting.headers[number] = header;
     setting.types.bodies[number] = body;
+    setting.types.kept[number] = kept;
 }

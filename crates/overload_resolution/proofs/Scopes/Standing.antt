@@ -1,5 +1,5 @@
 -- What tables say is declared.
-use Rattle.std.proofs.Common.{◌≡◌, ℕ, zero, suc, ◌≤◌, List, [], ◌∷◌, map, length, Option, Some, None, refl, sym, ap, ◌∙◌, inl, inr, arith}
+use Rattle.std.proofs.Common.{◌≡◌, ℕ, zero, suc, ◌≤◌, List, [], ◌∷◌, map, length, Option, Some, None, refl, sym, ap, ◌∙◌, subst, inl, inr, arith}
 use Rattle.std.specs.List.{slice_get, slice_index_or, list_any}
 use Rattle.std.specs.Option.{option_map}
 use Rattle.std.specs.Prelude.{Result, Ok, Err, IfOk}
@@ -18,7 +18,7 @@ use Rattle.model_types.specs.Bounds.Same.{AreSame}
 use Rattle.overload_resolution.specs.Fields.Entries.{Entry, entry_of}
 use Rattle.overload_resolution.specs.declared.shared_names.headers.Header.{Header}
 use Rattle.overload_resolution.specs.Names.Headers.{with_type}
-use Rattle.overload_resolution.specs.Expressions.Types.{AreEachSame, StandFor, called_type, calls_within, types_within, bodies_view}
+use Rattle.overload_resolution.specs.Expressions.Types.{AreEachSame, StandFor, called_type, calls_within, types_within, AreCallTypes, bodies_view}
 use Rattle.overload_resolution.specs.declared.typed_scopes.setting.Setting.{Setting}
 use Rattle.overload_resolution.specs.Scopes.Given.{field_with}
 use Rattle.overload_resolution.specs.Scopes.Declaring.{fields_by, declared_by, AreTables}
@@ -104,6 +104,7 @@ module _ (s : Setting) (are : AreTables s) where
     of_calls = λ n arguments t.
         ap (λ (ts : List Lists). list_any t (calls_within s.signatures.now ts (bodies_view s.types.bodies.items) s.calls n arguments)) field_types
         ∙ ap (list_any t) (calls_are n arguments);
+    kept = subst (λ (ts : List Lists). AreCallTypes s.signatures.now ts (bodies_view s.types.bodies.items) s.types.kept.items) (sym field_types) are.kept;
   }
 
   same_calls : (h : Option Header) (n : ℕ) (xs ys : List Lists) → AreEachSame xs ys

@@ -1,5 +1,5 @@
 -- The types of calls by bodies, and the types that tables stand for.
-use Rattle.std.specs.Prelude.{◌≡◌, ℕ, zero, suc, List, [], ◌∷◌, map, reverse, slice_index_or, Option, Some, None, option_map}
+use Rattle.std.specs.Prelude.{◌≡◌, ℕ, zero, suc, nat_le, List, [], ◌∷◌, map, reverse, slice_index_or, if◌then◌else◌, Option, Some, None, option_map}
 use Rattle.named_model.specs.declared.named.Signature.{Signature}
 use Rattle.named_model.specs.declared.phrase.Phrase.{Phrase}
 use Rattle.named_model.specs.Phrase.{PhraseTree}
@@ -9,6 +9,7 @@ use Rattle.model_types.specs.Bounding.{Lists, Types, type_of}
 use Rattle.model_types.specs.Parts.Tables.{entry}
 use Rattle.model_types.specs.Bounds.Same.{AreSame}
 use Rattle.overload_resolution.specs.declared.expression_types.known.Known.{Known}
+use Rattle.overload_resolution.specs.declared.expression_types.known.KeptType.{KeptType}
 
 -- lists of types, each the same as the other list's
 abbrev pub AreEachSame : List Lists → List Lists → Type 0
@@ -34,9 +35,22 @@ types_within signatures fields bodies k = record { signatures = signatures; fiel
 abbrev pub bodies_view : List (Option Phrase) → List (Option PhraseTree)
 bodies_view = map (option_map phrase_view)
 
+-- the type that is kept of a call without arguments, where so many calls are nested
+abbrev pub kept_with : Option KeptType → ℕ → Option Lists
+kept_with None calls = None
+kept_with (Some v) calls = if nat_le v.calls calls then Some v.lists else None
+
+abbrev pub kept_at : List (Option KeptType) → ℕ → ℕ → Option Lists
+kept_at kept n calls = kept_with (slice_index_or kept n None) calls
+
+-- what is kept of calls without arguments are their types
+abbrev pub AreCallTypes : List Signature → List Lists → List (Option PhraseTree) → List (Option KeptType) → Type 0
+AreCallTypes signatures fields bodies kept = (n k : ℕ) (a : Lists) → kept_at kept n k ≡ Some a → AreSame a (calls_within signatures fields bodies k n [])
+
 -- the tables are those of these types, where calls are nested so many deep: each of the types is the same as the table's
 pub record StandFor (known : Known) (calls : ℕ) (t : Types) : Type 0 where
   pub at_the_top : known.tops.items ≡ tops t.signatures
   pub over : (s : ℕ) → entry known.over.items s ≡ top_of t.signatures s
   pub fields : (f : ℕ) → AreSame (slice_index_or known.fields.items f []) (slice_index_or t.fields f [])
   pub of_calls : (n : ℕ) (arguments : List Lists) → AreSame (calls_within t.signatures t.fields (bodies_view known.bodies.items) calls n arguments) (t.calls n arguments)
+  pub kept : AreCallTypes t.signatures t.fields (bodies_view known.bodies.items) known.kept.items

@@ -7,7 +7,7 @@ use Rattle.model_types.specs.Typing.{Field, Declared}
 use Rattle.model_types.specs.Parts.Tables.{entry}
 use Rattle.overload_resolution.specs.Fields.Entries.{Entry}
 use Rattle.overload_resolution.specs.Names.Headers.{with_type}
-use Rattle.overload_resolution.specs.Expressions.Types.{types_within, bodies_view}
+use Rattle.overload_resolution.specs.Expressions.Types.{types_within, bodies_view, AreCallTypes}
 use Rattle.overload_resolution.specs.declared.typed_scopes.setting.Setting.{Setting}
 
 abbrev pub field_by : Entry → Lists → Field
@@ -35,9 +35,11 @@ declared_by s = record {
 abbrev pub alone : List Signature → Declared
 alone signatures = record { signatures = signatures; fields = []; callee = λ n. None }
 
--- the tables are those of the signatures; each field has a type, and what has a body has a header
+-- the tables are those of the signatures; each field has a type, what has a body has a header, and what is kept of calls are
+-- their types
 pub record AreTables (s : Setting) : Type 0 where
   pub at_the_top : s.types.tops.items ≡ tops s.signatures.now
   pub over : (n : ℕ) → entry s.types.over.items n ≡ top_of s.signatures.now n
   pub fields : length s.types.fields.items ≡ length s.fields
   pub callees : length s.types.bodies.items ≤ length s.headers.items
+  pub kept : AreCallTypes s.signatures.now s.types.fields.items (bodies_view s.types.bodies.items) s.types.kept.items

@@ -1,7 +1,7 @@
 // What types rest on.
 ghost use Rattle.std.specs.Prelude.{◌≡◌, slice_index_or, Option, Some, None};
 ghost use Rattle.named_model.specs.View.{phrase_view};
-ghost use Rattle.overload_resolution.specs.Expressions.Types.{bodies_view};
+ghost use Rattle.overload_resolution.specs.Expressions.Types.{bodies_view, kept_at, kept_with};
 
 use model_types::bounding_types::BoundingType;
 use named_model::phrase::Phrase;
@@ -18,6 +18,15 @@ pub struct Known {
     pub fields: Vec<BoundingType>,
     /// The body of each function, in which no name is shared; nothing for a predicate, and where none is known.
     pub bodies: Vec<Option<Phrase>>,
+    /// The type of each function without parameters, as far as it is kept.
+    pub kept: Vec<Option<KeptType>>,
+}
+
+/// The type of a call of a function without parameters, which it has where so many calls may be nested, or more.
+#[derive(Drop)]
+pub struct KeptType {
+    pub calls: usize,
+    pub lists: BoundingType,
 }
 
 impl Known {
@@ -29,5 +38,25 @@ impl Known {
             Some(body) => body.as_ref(),
             None => None,
         }
+    }
+
+    /// The type of a call of a function without parameters, where it is kept for calls that are nested so deep.
+    pub fn kept(&self, number: usize, calls: usize) -> Option<&BoundingType>
+        ensures { (elim result [ None ↦ None | Some x ↦ Some x.now ]) ≡ kept_at self.now.kept.items number calls }
+    {
+        match self.kept.get(number) {
+            Some(kept) => lists_within(kept, calls),
+            None => None,
+        }
+    }
+}
+
+// The type of a call, where it has it with so many calls nested.
+fn lists_within(kept: &Option<KeptType>, calls: usize) -> Option<&BoundingType>
+    ensures { (elim result [ None ↦ None | Some x ↦ Some x.now ]) ≡ kept_with kept.now calls }
+{
+    match kept {
+        Some(kept) if kept.calls <= calls => Some(&kept.lists),
+        _ => None,
     }
 }

@@ -1,5 +1,5 @@
 // The types of names.
-ghost use Rattle.std.specs.Prelude.{◌≡◌, ℕ, [], ◌∷◌, List, reverse, slice_index_or, IfOk};
+ghost use Rattle.std.specs.Prelude.{◌≡◌, ℕ, [], ◌∷◌, List, reverse, slice_index_or, IfOk, IfSome};
 ghost use Rattle.model_types.specs.Bounding.{Lists, Types, referent_type};
 ghost use Rattle.model_types.specs.Bounds.Same.{AreSame};
 ghost use Rattle.overload_resolution.specs.Expressions.Types.{AreEachSame, StandFor};
@@ -54,6 +54,30 @@ fn copy_at(
     }
     let copy = operator_type(alloc, work, Operator::Union, none, &types[number])?;
     Ok(copy)
+}
+
+// A copy of the type of a call, where it is kept; it has no arguments then.
+pub fn kept_type(
+    alloc: Global,
+    work: &mut Work,
+    known: &Known,
+    calls: usize,
+    number: usize,
+    arguments: &[BoundingType],
+) -> Result<Option<BoundingType>, AllocError>
+    ensures { IfOk result (λ kept. IfSome kept (λ found. (t : Types) (ys : List Lists) → StandFor known.now calls t → AreEachSame arguments.now ys → AreSame found (t.calls number ys))) }
+{
+    if !arguments.is_empty() {
+        return Ok(None);
+    }
+    match known.kept(number, calls) {
+        Some(lists) => {
+            let none = BoundingType::new(alloc);
+            let copy = operator_type(alloc, work, Operator::Union, none, lists)?;
+            Ok(Some(copy))
+        }
+        None => Ok(None),
+    }
 }
 
 // A copy of the type of a local, counted from the last one.

@@ -10,7 +10,7 @@ ghost use Rattle.overload_resolution.specs.Expressions.Chains.{link_type, step_t
 use crate::expression_types::brackets::brackets_type;
 use crate::expression_types::depth::Depth;
 use crate::expression_types::known::Known;
-use crate::expression_types::names::referent_type;
+use crate::expression_types::names::{kept_type, referent_type};
 use model_types::bounding_types::operators::{
     constant_type, join_type, operator_type, prefix_type,
 };
@@ -114,6 +114,24 @@ fn part_types(
 // The type of a call with arguments of these types.
 #[cycle(parts)]
 fn called_type(
+    alloc: Global,
+    work: &mut Work,
+    known: &Known,
+    depth: Depth,
+    number: usize,
+    arguments: &[BoundingType],
+) -> Result<BoundingType, AllocError>
+    ensures { IfOk result (λ found. (t : Types) (ys : List Lists) → StandFor known.now depth.calls t → AreEachSame arguments.now ys → AreSame found (t.calls number ys)) }
+{
+    match kept_type(alloc, work, known, depth.calls, number, arguments)? {
+        Some(kept) => Ok(kept),
+        None => opened_type(alloc, work, known, depth, number, arguments),
+    }
+}
+
+// The same by the body of what is called, with the arguments in place of its parameters.
+#[cycle(parts)]
+fn opened_type(
     alloc: Global,
     work: &mut Work,
     known: &Known,

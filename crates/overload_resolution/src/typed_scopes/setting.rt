@@ -32,6 +32,7 @@ impl<'a> Setting<'a> {
         ensures headers { IfOk result (λ s. s.headers.items ≡ []) }
         ensures types { IfOk result (λ s. s.types.fields.items ≡ []) }
         ensures bodies { IfOk result (λ s. s.types.bodies.items ≡ []) }
+        ensures kept { IfOk result (λ s. s.types.kept.items ≡ []) }
         ensures calls { IfOk result (λ s. s.calls ≡ 0) }
     {
         let types = signatures_known(alloc, signatures)?;
@@ -51,6 +52,7 @@ fn signatures_known(alloc: Global, signatures: &[Signature]) -> Result<Known, Al
     ensures over { IfOk result (λ k. (n : ℕ) → entry k.over.items n ≡ top_of signatures.now n) }
     ensures fields { IfOk result (λ k. k.fields.items ≡ []) }
     ensures bodies { IfOk result (λ k. k.bodies.items ≡ []) }
+    ensures kept { IfOk result (λ k. k.kept.items ≡ []) }
 {
     let tops = top_signatures(alloc, signatures)?;
     let over = tops_over(alloc, signatures)?;
@@ -59,5 +61,6 @@ fn signatures_known(alloc: Global, signatures: &[Signature]) -> Result<Known, Al
         over,
         fields: Vec::new(alloc),
         bodies: Vec::new(alloc),
+        kept: Vec::new(alloc),
     })
 }

@@ -12,6 +12,6 @@ returns-clause-fields c =
     let old = c.in_ok-setting.setting in
     let d = declared_by old in
     fields_start (named_view c.args.model.now) old _ c.in_ok-setting.ensures.tables (c.in_ok-setting.ensures.declared ∙ ap alone c.deref.ensures.value) (c.in_ok-setting.ensures.signatures ∙ c.deref.ensures.value) refl refl refl
-    c.in_ok-setting.ensures.tables.callees
+    c.in_ok-setting.ensures.tables.callees c.in_ok-setting.ensures.kept
     (subst (λ (fs : List Field). AreEachSame c.in_ok-types.types.items (map (field_type d) (map field_view fs))) c.deref-2.ensures.value c.in_ok-types.ensures)
     (c.in_ok-fields.ensures ∙ ap (λ (fs : List Field). map (field_entry d) (map field_view fs)) c.deref-3.ensures.value)

@@ -6,13 +6,13 @@ use Rattle.named_model.specs.View.{phrase_view}
 use Rattle.std.proofs.Common.{ap, ◌∙◌, sym}
 use Rattle.overload_resolution.proofs.expression_types.parts.+parts.Goals as goal
 
-pub called_type-returns-in_ok-part_type-in-Some : goal.called_type-returns-in_ok-part_type-in-Some
-called_type-returns-in_ok-part_type-in-Some t c = λ u ys s h.
+pub opened_type-returns-in_ok-part_type-in-Some : goal.opened_type-returns-in_ok-part_type-in-Some
+opened_type-returns-in_ok-part_type-in-Some t c = λ u ys s h.
     called_body c.args.known.now u c.args.number c.args.depth.calls c.of_body.result.calls (phrase_view c.in-Some.body.now) c.args.arguments.now ys c.in_ok-part_type-in-Some.field-0
     c.of_body.ensures.calls (sym c.in-Some.ensures) c.in_ok-part_type-in-Some.ensures s h
 
-pub called_type-returns-in-None : goal.called_type-returns-in-None
-called_type-returns-in-None t c = λ u ys s h test.
+pub opened_type-returns-in-None : goal.opened_type-returns-in-None
+opened_type-returns-in-None t c = λ u ys s h test.
     ap (λ a. list_any test a) c.new-in-None.ensures ∙ called_unknown c.args.known.now u c.args.number c.args.depth.calls ys (sym c.in-None.ensures) s test
 
 pub part_types-loop-phrase-preserved : goal.part_types-loop-phrase-preserved

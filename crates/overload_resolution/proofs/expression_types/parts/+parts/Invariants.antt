@@ -9,7 +9,10 @@ abbrev pub decreases-part_types : goal.decreases-part_types
 decreases-part_types l = 4 * l.depth.parts + 1
 
 abbrev pub decreases-called_type : goal.decreases-called_type
-decreases-called_type l = 4 * l.depth.parts + 1
+decreases-called_type l = 4 * l.depth.parts + 2
+
+abbrev pub decreases-opened_type : goal.decreases-opened_type
+decreases-opened_type l = 4 * l.depth.parts + 1
 
 abbrev pub decreases-with_link : goal.decreases-with_link
 decreases-with_link l = 4 * l.depth.parts + 1
