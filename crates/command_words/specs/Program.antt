@@ -4,7 +4,7 @@ use Rattle.clap.specs.Walk.{Row, Rule, Text, first_of, one_of}
 use Rattle.clap.specs.Simple.{App, Shape, new_app, new_rule, new_shape, with_rule, with_subcommand}
 use Rattle.clap.specs.declared.builder.value_parser.ValueParser.{ValueParser}
 use Rattle.clap.specs.declared.builder.value_parser.ValueParser.TheVariants.{Signed}
-use Rattle.command_words.specs.Words.{IsNumber, number_after}
+use Rattle.command_words.specs.Words.{IsNumber, number_after, default_budget}
 use Rattle.command_words.specs.declared.reading.Command.{Command}
 use Rattle.command_words.specs.declared.reading.Command.TheVariants.{Load}
 use Rattle.command_words.specs.declared.reading.Options.{Options}
@@ -66,14 +66,14 @@ ReadsNumber default name rows read = MatchOption read
 -- both options' numbers are read, or one isn't
 abbrev pub ReadsOptions : List Row → Option Options → Type 0
 ReadsOptions rows read = MatchOption read
-    (ReadsNumber 4 (codes "workers") rows None ⊎ ReadsNumber 20000 (codes "budget") rows None)
-    (λ o. ReadsNumber 4 (codes "workers") rows (Some o.workers) × ReadsNumber 20000 (codes "budget") rows (Some o.budget))
+    (ReadsNumber 4 (codes "workers") rows None ⊎ ReadsNumber default_budget (codes "budget") rows None)
+    (λ o. ReadsNumber 4 (codes "workers") rows (Some o.workers) × ReadsNumber default_budget (codes "budget") rows (Some o.budget))
 
 -- the number of workers isn't given, and the budget is read; or one of them isn't so
 abbrev pub ReadsBudget : List Row → Option ℕ → Type 0
 ReadsBudget rows read = MatchOption read
-    ((first_of (codes "workers") rows ≢ None) ⊎ ReadsNumber 20000 (codes "budget") rows None)
-    (λ n. (first_of (codes "workers") rows ≡ None) × ReadsNumber 20000 (codes "budget") rows (Some n))
+    ((first_of (codes "workers") rows ≢ None) ⊎ ReadsNumber default_budget (codes "budget") rows None)
+    (λ n. (first_of (codes "workers") rows ≡ None) × ReadsNumber default_budget (codes "budget") rows (Some n))
 
 -- the command with both options, where they are read
 abbrev pub ReadsWithOptions : (ℕ → ℕ → Command) → List Row → Option Command → Type 0

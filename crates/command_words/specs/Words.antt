@@ -29,6 +29,10 @@ pub record IsOption (name : List ℕ) (low high : ℕ) (words : List (List ℕ))
 abbrev pub IsWorkers : List (List ℕ) → ℕ → Type 0
 IsWorkers words n = IsOption (codes "--workers") 1 16 words n
 
+-- the budget where none is given
+abbrev pub default_budget : ℕ
+default_budget = 20000
+
 abbrev pub IsBudget : List (List ℕ) → ℕ → Type 0
 IsBudget words n = IsOption (codes "--budget") 0 100000 words n
 
@@ -43,15 +47,15 @@ pub record AreBoth (First Second : List (List ℕ) → Type 0) (words : List (Li
 -- no option, one of the two, or both in either order; an option that isn't there has its default
 abbrev pub AreOptions : List (List ℕ) → ℕ → ℕ → Type 0
 AreOptions words workers budget =
-    ((words ≡ []) × (workers ≡ 4) × (budget ≡ 20000))
-    ⊎ (IsWorkers words workers × (budget ≡ 20000))
+    ((words ≡ []) × (workers ≡ 4) × (budget ≡ default_budget))
+    ⊎ (IsWorkers words workers × (budget ≡ default_budget))
     ⊎ (IsBudget words budget × (workers ≡ 4))
     ⊎ AreBoth (λ front. IsWorkers front workers) (λ back. IsBudget back budget) words
     ⊎ AreBoth (λ front. IsBudget front budget) (λ back. IsWorkers back workers) words
 
 -- no option, or that of the budget
 abbrev pub IsBudgetAlone : List (List ℕ) → ℕ → Type 0
-IsBudgetAlone words budget = ((words ≡ []) × (budget ≡ 20000)) ⊎ IsBudget words budget
+IsBudgetAlone words budget = ((words ≡ []) × (budget ≡ default_budget)) ⊎ IsBudget words budget
 
 -- a word alone, which is a number from 1 to 16
 pub record IsLoadNumber (words : List (List ℕ)) (n : ℕ) : Type 0 where

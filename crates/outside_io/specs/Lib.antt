@@ -1,4 +1,5 @@
 pub mod Count
 pub mod Front
 pub mod Memory
+pub mod Status
 pub mod Streams

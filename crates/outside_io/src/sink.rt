@@ -4,6 +4,7 @@ ghost use Rattle.outside_io.specs.Count.{Rose};
 ghost use Rattle.outside_io.specs.Front.{AppendsPart};
 
 use crate::source::Failed;
+use crate::status::Status;
 
 /// Where bytes go.
 pub trait Sink {
@@ -49,24 +50,24 @@ pub fn write_all<K: Sink>(sink: &mut K, bytes: &[u8]) -> Result<(), Failed>
     Ok(())
 }
 
-/// Writes a text, and gives the status that goes with it, or 6 where writing failed: then some of the text is written, from
+/// Writes a text, and gives the status that goes with it, or that the sink failed: then some of the text is written, from
 /// its front on, and not all.
-pub fn finish<K: Sink>(sink: &mut K, status: u8, text: &[u8]) -> u8
-    ensures status { (result ≡ status) ⊎ (result ≡ 6) }
+pub fn finish<K: Sink>(sink: &mut K, status: Status, text: &[u8]) -> Status
+    ensures status { (result ≡ status) ⊎ (result ≡ Status.SinkFailed) }
 
     ensures tells { K.tells sink.new ↔ K.tells sink.old }
     ensures faults { K.faults sink.old ≤ K.faults sink.new }
-    ensures failed { result ≡ 6 → (status ≡ 6) ⊎ Rose (K.faults sink.old) (K.faults sink.new) }
+    ensures failed { result ≡ Status.SinkFailed → (status ≡ Status.SinkFailed) ⊎ Rose (K.faults sink.old) (K.faults sink.new) }
 
-    ensures all { K.tells sink.old → (result ≡ 6) ⊎ (K.written sink.new ≡ K.written sink.old ++ text.now) }
-    ensures part { K.tells sink.old → result ≡ 6 → (status ≡ 6) ⊎ AppendsPart (K.written sink.old) (K.written sink.new) text.now }
+    ensures all { K.tells sink.old → (result ≡ Status.SinkFailed) ⊎ (K.written sink.new ≡ K.written sink.old ++ text.now) }
+    ensures part { K.tells sink.old → result ≡ Status.SinkFailed → (status ≡ Status.SinkFailed) ⊎ AppendsPart (K.written sink.old) (K.written sink.new) text.now }
 
-    // A text whose status is 6 itself is written all the same.
-    ensures six { K.tells sink.old → status ≡ 6
+    // A text whose status says so itself is written all the same.
+    ensures written { K.tells sink.old → status ≡ Status.SinkFailed
         → (K.written sink.new ≡ K.written sink.old ++ text.now) ⊎ (Rose (K.faults sink.old) (K.faults sink.new) × AppendsPart (K.written sink.old) (K.written sink.new) text.now) }
 {
     match write_all(sink, text) {
         Ok(()) => status,
-        Err(_) => 6,
+        Err(_) => Status::SinkFailed,
     }
 }

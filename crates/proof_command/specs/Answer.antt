@@ -1,6 +1,8 @@
 -- What the command `check` answers: its lines and its statuses.
 use Rattle.std.specs.Prelude.{◌≡◌, ◌≢◌, ◌⊎◌, ◌++◌, [], ℕ, List, codes, decimal}
 use Rattle.cnf_core.specs.Formula.{Formula}
+use Rattle.outside_io.specs.declared.status.Status.{Status}
+use Rattle.outside_io.specs.declared.status.Status.TheVariants.{Done, NotAccepted, InputRefused, SourceFailed, SinkFailed, NoMemory}
 use Rattle.refutation_check.specs.declared.log.Step.{Step}
 use Rattle.refutation_check.specs.declared.refutation.Verdict.{Verdict}
 use Rattle.refutation_check.specs.declared.refutation.Verdict.TheVariants.{Accepted, Refused, NoEmptyClause}
@@ -34,14 +36,14 @@ fault_line Memory = []
 
 -- ---- answers
 
--- 0 for an accepted log, and 1 for any other
-abbrev pub verdict_status : Verdict → ℕ
-verdict_status Accepted = 0
-verdict_status (Refused step hint) = 1
-verdict_status NoEmptyClause = 1
+-- the status of an accepted log, and that of any other
+abbrev pub verdict_status : Verdict → Status
+verdict_status Accepted = Done
+verdict_status (Refused step hint) = NotAccepted
+verdict_status NoEmptyClause = NotAccepted
 
 -- the text says a formula and a log, and the verdict is right of these
-pub record IsVerdictAnswer (bytes : List ℕ) (status : ℕ) (text : List ℕ) : Type 0 where
+pub record IsVerdictAnswer (bytes : List ℕ) (status : Status) (text : List ℕ) : Type 0 where
   pub formula : Formula
   pub log : List Step
   pub verdict : Verdict
@@ -51,17 +53,17 @@ pub record IsVerdictAnswer (bytes : List ℕ) (status : ℕ) (text : List ℕ) :
   pub line : text ≡ verdict_line verdict
 
 -- the text is no proof text, for its first fault
-pub record IsFaultAnswer (bytes : List ℕ) (status : ℕ) (text : List ℕ) : Type 0 where
+pub record IsFaultAnswer (bytes : List ℕ) (status : Status) (text : List ℕ) : Type 0 where
   pub fault : ProofFault
   pub first : HasFault bytes fault
   pub told : fault ≢ Memory
-  pub under : status ≡ 3
+  pub under : status ≡ InputRefused
   pub line : text ≡ fault_line fault
 
 -- a status and a text answer the bytes of the input
-abbrev pub IsAnswerTo : List ℕ → ℕ → List ℕ → Type 0
+abbrev pub IsAnswerTo : List ℕ → Status → List ℕ → Type 0
 IsAnswerTo bytes status text = IsVerdictAnswer bytes status text ⊎ IsFaultAnswer bytes status text
 
 -- accepted, not accepted, no proof text, a source that failed, a sink that failed, want of memory
-abbrev pub IsCheckStatus : ℕ → Type 0
-IsCheckStatus n = (n ≡ 0) ⊎ (n ≡ 1) ⊎ (n ≡ 3) ⊎ (n ≡ 5) ⊎ (n ≡ 6) ⊎ (n ≡ 7)
+abbrev pub IsCheckStatus : Status → Type 0
+IsCheckStatus status = (status ≡ Done) ⊎ (status ≡ NotAccepted) ⊎ (status ≡ InputRefused) ⊎ (status ≡ SourceFailed) ⊎ (status ≡ SinkFailed) ⊎ (status ≡ NoMemory)

@@ -3,20 +3,21 @@ ghost use Rattle.std.specs.Prelude.{◌≡◌, ◌≢◌, ◌⊎◌, ◌++◌, c
 ghost use Rattle.proof_command.specs.Answer.{verdict_status, verdict_line, refused_line, fault_line, line_fault, IsAnswerTo};
 
 use itoa::Buffer;
+use outside_io::Status;
 use refutation_check::{ProofFault, Verdict, read_proof, verdict_on};
 use std::alloc::{AllocError, Global};
 
 /// A status, and the text that is written under it.
 #[derive(Drop)]
 pub struct Answer {
-    pub status: u8,
+    pub status: Status,
     pub text: Vec<u8>,
 }
 
 /// The answer to the bytes of a proof text.
 pub fn answer_to(alloc: Global, bytes: &[u8]) -> Result<Answer, AllocError>
     ensures answer { IfOk result (λ a. IsAnswerTo bytes.now a.status a.text.items) }
-    ensures status { IfOk result (λ a. (a.status ≡ 0) ⊎ (a.status ≡ 1) ⊎ (a.status ≡ 3)) }
+    ensures status { IfOk result (λ a. (a.status ≡ Status.Done) ⊎ (a.status ≡ Status.NotAccepted) ⊎ (a.status ≡ Status.InputRefused)) }
 {
     match read_proof(alloc, bytes) {
         Ok((formula, log)) => {
@@ -28,18 +29,18 @@ pub fn answer_to(alloc: Global, bytes: &[u8]) -> Result<Answer, AllocError>
             })
         }
         Err(fault) => Ok(Answer {
-            status: 3,
+            status: Status::InputRefused,
             text: fault_line(alloc, fault)?,
         }),
     }
 }
 
-fn status_of(verdict: Verdict) -> u8
+fn status_of(verdict: Verdict) -> Status
     ensures { result ≡ verdict_status verdict }
 {
     match verdict {
-        Verdict::Accepted => 0,
-        Verdict::Refused { .. } | Verdict::NoEmptyClause => 1,
+        Verdict::Accepted => Status::Done,
+        Verdict::Refused { .. } | Verdict::NoEmptyClause => Status::NotAccepted,
     }
 }
 

@@ -16,7 +16,7 @@ use Rattle.script_format.specs.declared.line.Open.TheVariants as open_
 use Rattle.script_format.specs.Words.{words_in, is_directive, is_idle, is_name, number_in, if_within, number_within}
 use Rattle.script_format.specs.Tuples.{is_relation_name, tuple_in}
 use Rattle.script_format.specs.Lines.{step_line, directive_of_three, directive_of, command_of_one, command_of_two, command_of_three, all_line, budget_line, augment_line, command_of, line_beside, line_of}
-use Rattle.script_format.specs.Reading.{Reading, Start, asks, new_session, after, changed, with_command}
+use Rattle.script_format.specs.Reading.{Reading, Start, asks, new_session, after, changed, with_command, most_asked}
 use Rattle.script_format.specs.Script.{Leads, IsScript}
 use Rattle.script_format.specs.Limits.{IsAllowed, asked_by, asked_in}
 use Rattle.script_format.proofs.LineReadings.{beyond}
@@ -179,10 +179,10 @@ allowed_after first last (x ∷ xs) p h = allowed_after (beyond first x) last xs
 
 -- ---- of scripts
 
-pub asked_few : (bytes : List ℕ) (s : Script) → IsScript bytes s → asked_in s.sessions ≤ 20000
+pub asked_few : (bytes : List ℕ) (s : Script) → IsScript bytes s → asked_in s.sessions ≤ most_asked
 asked_few bytes s is =
     let sound = sound_after Start is.last (lines bytes) is.leads sound_at_start in
-    subst (λ (ss : List SessionEntry). asked_in ss ≤ 20000) (sym is.sessions) (omega (arith, sound.asked, counted_after Start is.last (lines bytes) is.leads (omega arith)))
+    subst (λ (ss : List SessionEntry). asked_in ss ≤ most_asked) (sym is.sessions) (omega (arith, sound.asked, counted_after Start is.last (lines bytes) is.leads (omega arith)))
 
 pub all_allowed : (bytes : List ℕ) (s : Script) → IsScript bytes s → All (λ (x : SessionEntry). All IsAllowed x.commands) s.sessions
 all_allowed bytes s is =

@@ -15,7 +15,7 @@ use Rattle.script_format.specs.declared.line.Open.{Open}
 use Rattle.script_format.specs.declared.line.Open.TheVariants as open_
 use Rattle.script_format.specs.Keys.{key_of, with_key, keys_from, keys_of}
 use Rattle.script_format.specs.Lines.{line_of}
-use Rattle.script_format.specs.Reading.{Reading, Start, place_from, model_named, session_named, is_there, or_zero, asks, new_session, fault_of, after, changed, with_text, with_command}
+use Rattle.script_format.specs.Reading.{Reading, Start, place_from, model_named, session_named, is_there, or_zero, asks, new_session, fault_of, after, changed, with_text, with_command, most_commands, most_asked}
 use Rattle.script_format.specs.Script.{Leads}
 use Rattle.script_format.specs.Sound.{IsThere, IsSound}
 use Rattle.script_format.proofs.LineReadings.{beyond}
@@ -165,16 +165,16 @@ sound_on r text (line.More name) h e =
       named = h.named;
     }
 sound_on r text (line.Command k command) h e =
-    let a = none_of (nat_lt 4096 (r.commands + 1) || nat_lt 20000 (r.asked + asks command)) kind.TooMany None e in
-    let both = neither (nat_lt 4096 (r.commands + 1)) (nat_lt 20000 (r.asked + asks command)) a.0 in
+    let a = none_of (nat_lt most_commands (r.commands + 1) || nat_lt most_asked (r.asked + asks command)) kind.TooMany None e in
+    let both = neither (nat_lt most_commands (r.commands + 1)) (nat_lt most_asked (r.asked + asks command)) a.0 in
     let same = length-changed (with_command command) k r.sessions in
     record {
       there = still r (after r text (line.Command k command)) r.began (omega arith) (omega arith) h.there;
       models = h.models;
       sessions = omega (arith, h.sessions);
       keys = subst (λ (ks : List Key). length ks ≤ 16) (sym (keys_changed [] command k r.sessions)) h.keys;
-      commands = at_most 4096 (r.commands + 1) both.0;
-      asked = at_most 20000 (r.asked + asks command) both.1;
+      commands = at_most most_commands (r.commands + 1) both.0;
+      asked = at_most most_asked (r.asked + asks command) both.1;
       named = on_changed (length r.models) command k r.sessions h.named;
     }
 

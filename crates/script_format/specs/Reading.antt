@@ -92,13 +92,20 @@ names_twice r (line.Model name) = is_there (model_named r name)
 names_twice r (line.Session name model number) = is_there (session_named r name)
 names_twice r _ = false
 
--- with this line there are more than 16 models, 64 sessions, 16 pairs of a model and a command, 4,096 command lines, or
--- 20,000 scenarios asked for
+-- a script has at most so many command lines, and these ask for at most so many scenarios
+abbrev pub most_commands : ℕ
+most_commands = 4096
+
+abbrev pub most_asked : ℕ
+most_asked = 20000
+
+-- with this line there are more than 16 models, 64 sessions, 16 pairs of a model and a command, or too many command lines or
+-- scenarios asked for
 abbrev pub is_too_many : Reading → Line → Bool
 is_too_many r (line.Model name) = nat_lt 16 (length r.models + 1)
 is_too_many r (line.Session name model number) =
     nat_lt 64 (length r.sessions + 1) || nat_lt 16 (length (with_key (keys_of r.sessions) (key_of (new_session r name model number))))
-is_too_many r (line.Command session command) = nat_lt 4096 (r.commands + 1) || nat_lt 20000 (r.asked + asks command)
+is_too_many r (line.Command session command) = nat_lt most_commands (r.commands + 1) || nat_lt most_asked (r.asked + asks command)
 is_too_many r _ = false
 
 -- a kind of fault, and whether a line has it

@@ -4,7 +4,7 @@ use Rattle.std.specs.List.{AllByRecursion}
 use Rattle.script_format.specs.declared.line.Open.{Open}
 use Rattle.script_format.specs.declared.line.Open.TheVariants as open_
 use Rattle.script_format.specs.Keys.{keys_of}
-use Rattle.script_format.specs.Reading.{Reading}
+use Rattle.script_format.specs.Reading.{Reading, most_commands, most_asked}
 
 -- what the last directive began is there
 abbrev pub IsThere : Reading → Open → Type 0
@@ -18,6 +18,6 @@ pub record IsSound (r : Reading) : Type 0 where
   pub models : length r.models ≤ 16
   pub sessions : length r.sessions ≤ 64
   pub keys : length (keys_of r.sessions) ≤ 16
-  pub commands : r.commands ≤ 4096
-  pub asked : r.asked ≤ 20000
+  pub commands : r.commands ≤ most_commands
+  pub asked : r.asked ≤ most_asked
   pub named : AllByRecursion (λ s. s.model < length r.models) r.sessions

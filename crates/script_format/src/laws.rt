@@ -4,6 +4,7 @@ ghost use Rattle.script_format.specs.declared.entries.Script.{Script};
 ghost use Rattle.script_format.specs.declared.fault.ScriptFault.{ScriptFault};
 ghost use Rattle.script_format.specs.Keys.{keys_of};
 ghost use Rattle.script_format.specs.Limits.{IsAllowed, asked_in};
+ghost use Rattle.script_format.specs.Reading.{most_asked};
 ghost use Rattle.script_format.specs.Script.{IsScript, HasFault};
 
 /// Bytes are one script at most.
@@ -25,7 +26,7 @@ pub fn scripts_keep_to_limits()
     ensures sessions { (bytes : List ℕ) (s : Script) → IsScript bytes s → length s.sessions ≤ 64 }
     ensures keys { (bytes : List ℕ) (s : Script) → IsScript bytes s → length (keys_of s.sessions) ≤ 16 }
     ensures named { (bytes : List ℕ) (s : Script) → IsScript bytes s → All (λ x. x.model < length s.models) s.sessions }
-    ensures asked { (bytes : List ℕ) (s : Script) → IsScript bytes s → asked_in s.sessions ≤ 20000 }
+    ensures asked { (bytes : List ℕ) (s : Script) → IsScript bytes s → asked_in s.sessions ≤ most_asked }
     ensures allowed { (bytes : List ℕ) (s : Script) → IsScript bytes s → All (λ x. All IsAllowed x.commands) s.sessions }
     ensures small { (bytes : List ℕ) (s : Script) → IsScript bytes s → All (λ m. length m.text ≤ 1048576) s.models }
 {}

@@ -2,8 +2,8 @@
 ghost use Rattle.std.specs.Prelude.{◌<◌};
 
 use outside_io::{
-    Failed, MemSink, MemSource, ReadFault, Sink, Source, StdSink, StdSource, finish, read_all,
-    write_all,
+    Failed, MemSink, MemSource, ReadFault, Sink, Source, Status, StdSink, StdSource, finish,
+    read_all, write_all,
 };
 use std::alloc::{AllocError, Global};
 use std::io::{self, ErrorKind, Read, Write};
@@ -71,10 +71,17 @@ fn a_sink_keeps_what_it_took_before_it_failed(rt: HostRuntime) -> Result<(), Fai
 }
 
 #[test]
-fn a_status_goes_with_a_text_or_6_where_writing_fails(rt: HostRuntime) -> Result<(), Fail> {
-    for (room, status, written) in [(8, 3, "the text"), (7, 6, "the tex"), (0, 6, "")] {
+fn a_status_goes_with_a_text_unless_writing_fails(rt: HostRuntime) -> Result<(), Fail> {
+    for (room, status, written) in [
+        (8, Status::InputRefused, "the text"),
+        (7, Status::SinkFailed, "the tex"),
+        (0, Status::SinkFailed, ""),
+    ] {
         let mut sink = MemSink::new(rt.alloc(), room, 5, Vec::new(rt.alloc()))?;
-        assert_eq!(rt; finish(&mut sink, 3, b"the text"), status);
+        assert_eq!(rt;
+            finish(&mut sink, Status::InputRefused, b"the text"),
+            status
+        );
         assert_eq!(rt; sink.bytes(), written.as_bytes());
     }
     Ok(())

@@ -20,7 +20,7 @@ fn checked(
         Vec::from_slice(alloc, failing_reads)?,
     );
     let mut sink = MemSink::new(alloc, 100, 5, Vec::from_slice(alloc, failing_writes)?)?;
-    let status = check_proof(alloc, &mut source, &mut sink);
+    let status = check_proof(alloc, &mut source, &mut sink).number();
     Ok((status, String::from_utf8_lossy(alloc, sink.bytes())?))
 }
 
@@ -117,7 +117,7 @@ fn a_byte_too_many_is_too_long(rt: HostRuntime) -> Result<(), Fail> {
     for (left, status, line) in rows {
         let mut source = LineFeeds { left };
         let mut sink = MemSink::new(alloc, 100, 100, Vec::new(alloc))?;
-        assert_eq!(rt; check_proof(alloc, &mut source, &mut sink), status);
+        assert_eq!(rt; check_proof(alloc, &mut source, &mut sink).number(), status);
         assert_eq!(rt; sink.bytes(), line.as_bytes());
         assert_eq!(rt;
             source.left,

@@ -1,4 +1,5 @@
-use Rattle.std.proofs.Common.{◌≡◌, inl, inr, subst, arith}
+use Rattle.std.proofs.Common.{◌≡◌, inl, inr, subst}
+use Rattle.outside_io.specs.declared.status.Status.TheVariants.{SinkFailed}
 use Rattle.proof_command.specs.Inputs.{IsWritten}
 use Rattle.proof_command.proofs.Inputs.{written_text}
 use Rattle.proof_command.proofs.command.write_answer.Goals as goal
@@ -8,12 +9,12 @@ returns-in-Ok-clause-answer g c =
     let tells = g.K.Sink.tells c.args.sink.now in
     let old = g.K.Sink.written c.args.sink.now in
     let new = g.K.Sink.written c.finish.new.sink in
-    let not_six : c.in-Ok.answer.status ≡ 6 → ⊥ = λ six. elim c.in-Ok.ensures.status [
-      | inl zero ↦ absurd (omega arith)
-      | inr (inl one) ↦ absurd (omega arith)
-      | inr (inr three) ↦ absurd (omega arith)
+    let not_failed : c.in-Ok.answer.status ≡ SinkFailed → ⊥ = λ failed. elim c.in-Ok.ensures.status [
+      | inl done ↦ cc
+      | inr (inl refused) ↦ cc
+      | inr (inr none) ↦ cc
     ] in
-    let written = written_text c.in-Ok.answer.status c.deref.result.now tells old new c.finish.result not_six c.finish.ensures.status c.finish.ensures.all c.finish.ensures.part in
+    let written = written_text c.in-Ok.answer.status c.deref.result.now tells old new c.finish.result not_failed c.finish.ensures.status c.finish.ensures.all c.finish.ensures.part in
     inr (
       c.in-Ok.answer.status,
       c.in-Ok.answer.text.items,
