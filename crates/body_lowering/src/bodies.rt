@@ -14,11 +14,12 @@ use crate::parts::{Variables, formulas, lower, meaning, variables_of};
 use crate::quantifiers::bind;
 use crate::room::{Depth, Room};
 use alloy_syntax::tree::Quantifier;
+use lowering_rules::{LowerStop, TooLarge};
 use named_model::Named;
 use named_model::named::{Callee, Meaning};
 use named_model::phrase::Phrase;
 use rel_formula::{Expression, Formula};
-use std::alloc::{AllocError, Global};
+use std::alloc::Global;
 
 // Where a body stands, under so many binders.
 fn outside(model: &Named, binders: u32) -> Depth
@@ -39,7 +40,7 @@ pub fn expression(
     room: &mut Room,
     binders: u32,
     phrase: &Phrase,
-) -> Result<Expression, AllocError>
+) -> Result<Expression, LowerStop>
     ensures { IfOk result (λ e. expression_tree e ≡ expression_in (lowered (base_of (named_view model.now)) [] binders (phrase_view phrase.now))) }
 {
     let at = outside(model, binders);
@@ -53,7 +54,7 @@ pub fn block(
     model: &Named,
     room: &mut Room,
     phrases: &[Phrase],
-) -> Result<Formula, AllocError>
+) -> Result<Formula, LowerStop>
     ensures { IfOk result (λ f. formula_tree f ≡ block_says (base_of (named_view model.now)) (phrases_view phrases.now)) }
 {
     let at = outside(model, 0);
@@ -67,7 +68,7 @@ pub fn predicate(
     model: &Named,
     room: &mut Room,
     callee: &Callee,
-) -> Result<Formula, AllocError>
+) -> Result<Formula, LowerStop>
     ensures { IfOk result (λ f. formula_tree f ≡ predicate_says (base_of (named_view model.now)) (Some (callee_view callee.now))) }
 {
     let at = outside(model, 0);
@@ -93,12 +94,12 @@ fn run(
     room: &mut Room,
     variables: Variables,
     body: &Meaning,
-) -> Result<Formula, AllocError>
+) -> Result<Formula, LowerStop>
     ensures { IfOk result (λ f. formula_tree f ≡ quantified_by quantifier.Some (map expression_tree variables.domains.items) (map formula_tree variables.apart.items) (formula_in (meaning_lowered (base_within at.calls (named_view model.now)) (locals_view locals.old.items) variables.binders (meaning_view body.now)))) }
 {
     let inside = Depth {
         binders: variables.binders,
-        levels: at.levels.checked_sub(variables.binders).ok_or(AllocError)?,
+        levels: at.levels.checked_sub(variables.binders).ok_or(TooLarge)?,
         ..at
     };
     let body = meaning(alloc, model, inside, locals, room, body)?;

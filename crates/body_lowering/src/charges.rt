@@ -9,17 +9,17 @@ ghost use Rattle.body_lowering.specs.Nodes.{nodes_of, levels_of, nodes_of_each, 
 use crate::kernel_parts::Part;
 use crate::room::Room;
 use alloy_syntax::tree::{Comparing, Comparison, Operator, Prefix, Quantifier};
+use lowering_rules::TooLarge;
 use rel_formula::{Expression, Formula};
-use std::alloc::AllocError;
 
-// Takes the nodes of an expression, which may be nested so deep. It allocates nothing: want of memory is answered where there are
-// fewer nodes or levels than the expression has.
-pub fn charge(room: &mut Room, levels: u32, e: &Expression) -> Result<(), AllocError>
+// Takes the nodes of an expression, which may be nested so deep. It is too large just where there are fewer nodes or levels than
+// the expression has.
+pub fn charge(room: &mut Room, levels: u32, e: &Expression) -> Result<(), TooLarge>
     ensures ok { OnOk result (room.new.nodes + nodes_of (expression_tree e.now) ≡ room.old.nodes) }
     ensures err { OnErr result ((room.old.nodes < nodes_of (expression_tree e.now)) ⊎ (levels < levels_of (expression_tree e.now))) }
 {
     if levels == 0 {
-        return Err(AllocError);
+        return Err(TooLarge);
     }
     room.take(1)?;
     match e {
@@ -42,7 +42,7 @@ pub fn charge_copies(
     levels: u32,
     e: &Expression,
     count: u32,
-) -> Result<(), AllocError>
+) -> Result<(), TooLarge>
     ensures ok { OnOk result (room.new.nodes + count * (nodes_of (expression_tree e.now) + 1) ≡ room.old.nodes) }
     ensures err { OnErr result ((room.old.nodes < count * (nodes_of (expression_tree e.now) + 1)) ⊎ (levels < levels_of (expression_tree e.now))) }
 {
@@ -55,7 +55,7 @@ pub fn charge_copies(
 
 // Takes the nodes of a formula, whose expressions may be nested so deep. The same holds of what it refuses.
 #[cycle(charges)]
-pub fn charge_formula(room: &mut Room, levels: u32, f: &Formula) -> Result<(), AllocError>
+pub fn charge_formula(room: &mut Room, levels: u32, f: &Formula) -> Result<(), TooLarge>
     ensures ok { OnOk result (room.new.nodes + formula_nodes (formula_tree f.now) ≡ room.old.nodes) }
     ensures err { OnErr result ((room.old.nodes < formula_nodes (formula_tree f.now)) ⊎ (levels < formula_levels (formula_tree f.now))) }
 {
@@ -76,7 +76,7 @@ pub fn charge_formula(room: &mut Room, levels: u32, f: &Formula) -> Result<(), A
 }
 
 #[cycle(charges)]
-fn charge_formulas(room: &mut Room, levels: u32, parts: &[Formula]) -> Result<(), AllocError>
+fn charge_formulas(room: &mut Room, levels: u32, parts: &[Formula]) -> Result<(), TooLarge>
     ensures ok { OnOk result (room.new.nodes + formulas_nodes (formulas_of (map formula_tree parts.now)) ≡ room.old.nodes) }
     ensures err { OnErr result ((room.old.nodes < formulas_nodes (formulas_of (map formula_tree parts.now))) ⊎ (levels < formulas_levels (formulas_of (map formula_tree parts.now)))) }
 {
@@ -87,7 +87,7 @@ fn charge_formulas(room: &mut Room, levels: u32, parts: &[Formula]) -> Result<()
 }
 
 // Takes the nodes of what a part became.
-pub fn charge_part(room: &mut Room, levels: u32, part: &Part) -> Result<(), AllocError>
+pub fn charge_part(room: &mut Room, levels: u32, part: &Part) -> Result<(), TooLarge>
     ensures { OnOk result (room.new.nodes + part_nodes (part_view part.now) ≡ room.old.nodes) }
 {
     match part {
@@ -104,7 +104,7 @@ pub fn charge_prefixed(
     levels: u32,
     prefix: Prefix,
     part: &Part,
-) -> Result<(), AllocError>
+) -> Result<(), TooLarge>
     ensures { OnOk result (room.new.nodes + copied_by_prefix prefix (part_view part.now) ≡ room.old.nodes) }
 {
     match prefix {
@@ -119,7 +119,7 @@ pub fn charge_compared(
     levels: u32,
     comparing: Comparing,
     left: &Part,
-) -> Result<(), AllocError>
+) -> Result<(), TooLarge>
     ensures { OnOk result (room.new.nodes + copied_by_comparison comparing.comparison (part_view left.now) ≡ room.old.nodes) }
 {
     match comparing.comparison {
@@ -135,7 +135,7 @@ pub fn charge_operated(
     operator: Operator,
     left: &Part,
     right: &Part,
-) -> Result<(), AllocError>
+) -> Result<(), TooLarge>
     ensures { OnOk result (room.new.nodes + copied_by_operator operator (part_view left.now) (part_view right.now) ≡ room.old.nodes) }
 {
     match operator {
@@ -155,7 +155,7 @@ pub fn charge_quantified(
     domains: &[Expression],
     apart: &[Formula],
     body: &Formula,
-) -> Result<(), AllocError>
+) -> Result<(), TooLarge>
     ensures { OnOk result (room.new.nodes + copied_by_quantifier quantifier (map expression_tree domains.now) (map formula_tree apart.now) (formula_tree body.now) ≡ room.old.nodes) }
 {
     match quantifier {
@@ -168,7 +168,7 @@ pub fn charge_quantified(
     }
 }
 
-fn charge_all(room: &mut Room, levels: u32, expressions: &[Expression]) -> Result<(), AllocError>
+fn charge_all(room: &mut Room, levels: u32, expressions: &[Expression]) -> Result<(), TooLarge>
     ensures ok { OnOk result (room.new.nodes + nodes_of_each (map expression_tree expressions.now) ≡ room.old.nodes) }
     ensures err { OnErr result ((room.old.nodes < nodes_of_each (map expression_tree expressions.now)) ⊎ (levels < levels_of_each (map expression_tree expressions.now))) }
 {

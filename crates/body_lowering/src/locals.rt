@@ -8,8 +8,9 @@ ghost use Rattle.body_lowering.specs.Nodes.{nodes_of};
 use crate::charges::charge;
 use crate::kernel_parts::shifts::shifted;
 use crate::room::{Depth, Room};
+use lowering_rules::LowerStop;
 use rel_formula::Expression;
-use std::alloc::{AllocError, Global};
+use std::alloc::Global;
 
 /// What a local name stands for: an expression, as it is under so many binders.
 #[derive(Drop)]
@@ -26,7 +27,7 @@ pub fn local_at(
     locals: &[Local],
     room: &mut Room,
     number: usize,
-) -> Result<Expression, AllocError>
+) -> Result<Expression, LowerStop>
     ensures value { IfOk result (λ e. expression_tree e ≡ local_at (locals_view locals.now) number at.binders) }
     ensures taken { IfOk result (λ e. room.new.nodes + nodes_of (expression_tree e) ≡ room.old.nodes) }
 {
@@ -46,14 +47,14 @@ pub fn enter_variables(
     room: &mut Room,
     first: u32,
     count: u32,
-) -> Result<u32, AllocError>
+) -> Result<u32, LowerStop>
     ensures level { IfOk result (λ level. level ≡ first + count) }
     ensures locals { OnOk result (locals_view locals.new.items ≡ behind_variables first count (locals_view locals.old.items)) }
     ensures taken { OnOk result (room.new.nodes + count ≡ room.old.nodes) }
 {
     room.take(count)?;
     let Some(end) = first.checked_add(count) else {
-        return Err(AllocError);
+        return Err(LowerStop::TooLarge);
     };
     for level in first..end {
         locals.push(Local {

@@ -7,9 +7,10 @@ ghost use Rattle.body_lowering.specs.Locals.{locals_view};
 
 use crate::locals::{Local, local_at};
 use crate::room::{Depth, Room};
+use lowering_rules::{LowerStop, TooLarge};
 use named_model::phrase::Referent;
 use rel_formula::Expression;
-use std::alloc::{AllocError, Global};
+use std::alloc::Global;
 
 /// What a name stands for, where there are so many signatures.
 pub fn referred(
@@ -19,7 +20,7 @@ pub fn referred(
     locals: &[Local],
     room: &mut Room,
     referent: Referent,
-) -> Result<Expression, AllocError>
+) -> Result<Expression, LowerStop>
     ensures { IfOk result (λ e. (base : Base) → base.signatures ≡ signatures → expression_tree e ≡ referent_lowered base (locals_view locals.now) at.binders referent) }
 {
     match referent {
@@ -30,21 +31,21 @@ pub fn referred(
     }
 }
 
-// The relation of a number. Where its number would have more than 8 bits, it is answered as want of memory.
-fn relation(first: usize, number: usize) -> Result<Expression, AllocError>
+// The relation of a number, which has at most 8 bits.
+fn relation(first: usize, number: usize) -> Result<Expression, TooLarge>
     ensures { IfOk result (λ e. expression_tree e ≡ rel (first + number)) }
 {
     match first.checked_add(number) {
         Some(sum) => Ok(Expression::Rel(small(sum)?)),
-        None => Err(AllocError),
+        None => Err(TooLarge),
     }
 }
 
-fn small(number: usize) -> Result<u8, AllocError>
+fn small(number: usize) -> Result<u8, TooLarge>
     ensures { IfOk result (λ n. n ≡ number) }
 {
     match u8::try_from(number) {
         Ok(number) => Ok(number),
-        Err(_) => Err(AllocError),
+        Err(_) => Err(TooLarge),
     }
 }

@@ -11,8 +11,9 @@ use crate::charges::{charge_compared, charge_formula, charge_operated, charge_pr
 use crate::kernel_parts::{Part, comparisons, connectives, operators};
 use crate::room::Room;
 use alloy_syntax::tree::{Comparing, Operator, Prefix};
+use lowering_rules::LowerStop;
 use rel_formula::Formula;
-use std::alloc::{AllocError, Global};
+use std::alloc::Global;
 
 /// What a prefix makes of its operand.
 pub fn prefixed(
@@ -21,7 +22,7 @@ pub fn prefixed(
     levels: u32,
     prefix: Prefix,
     x: Part,
-) -> Result<Part, AllocError>
+) -> Result<Part, LowerStop>
     ensures value { IfOk result (λ p. part_view p ≡ prefix_lowered prefix (part_view x)) }
     ensures taken { OnOk result (room.new.nodes + copied_by_prefix prefix (part_view x) ≡ room.old.nodes) }
 {
@@ -37,7 +38,7 @@ pub fn operated(
     operator: Operator,
     x: Part,
     y: Part,
-) -> Result<Part, AllocError>
+) -> Result<Part, LowerStop>
     ensures value { IfOk result (λ p. part_view p ≡ operator_lowered operator (part_view x) (part_view y)) }
     ensures taken { OnOk result (room.new.nodes + copied_by_operator operator (part_view x) (part_view y) ≡ room.old.nodes) }
 {
@@ -53,7 +54,7 @@ pub fn compared(
     comparing: Comparing,
     x: Part,
     y: Part,
-) -> Result<Part, AllocError>
+) -> Result<Part, LowerStop>
     ensures value { IfOk result (λ p. part_view p ≡ comparison_lowered comparing (part_view x) (part_view y)) }
     ensures taken { OnOk result (room.new.nodes + copied_by_comparison comparing.comparison (part_view x) ≡ room.old.nodes) }
 {
@@ -69,7 +70,7 @@ pub fn choice(
     f: Formula,
     g: Formula,
     h: Formula,
-) -> Result<Formula, AllocError>
+) -> Result<Formula, LowerStop>
     ensures value { IfOk result (λ k. formula_tree k ≡ rules.choice (formula_tree f) (formula_tree g) (formula_tree h)) }
     ensures taken { OnOk result (room.new.nodes + formula_nodes (formula_tree f) ≡ room.old.nodes) }
 {

@@ -25,11 +25,12 @@ use crate::operations::{choice, compared, operated, prefixed};
 use crate::quantifiers::{bind, differences, number};
 use crate::room::{Depth, Room};
 use alloy_syntax::tree::{Comparing, Operator, Prefix, Quantifier};
+use lowering_rules::LowerStop;
 use named_model::Named;
 use named_model::named::Meaning;
 use named_model::phrase::{Domain, Link, Phrase, Step};
 use rel_formula::{Expression, Formula};
-use std::alloc::{AllocError, Global};
+use std::alloc::Global;
 
 /// What a part becomes where it stands, with these local names, the last of which is innermost. The names are left as they
 /// were, where memory suffices.
@@ -41,7 +42,7 @@ pub fn lower(
     locals: &mut Vec<Local>,
     room: &mut Room,
     phrase: &Phrase,
-) -> Result<Part, AllocError>
+) -> Result<Part, LowerStop>
     ensures value { IfOk result (λ p. part_view p ≡ lowered (base_within at.calls (named_view model.now)) (locals_view locals.old.items) at.binders (phrase_view phrase.now)) }
     ensures locals { OnOk result (locals_view locals.new.items ≡ locals_view locals.old.items) }
 {
@@ -49,7 +50,7 @@ pub fn lower(
     room.take(6)?;
     // A part inside of another one counts as eight levels: it takes more of the stack than a node does.
     if at.levels < 8 {
-        return Err(AllocError);
+        return Err(LowerStop::TooLarge);
     }
     let below = Depth {
         levels: at.levels - 8,
@@ -109,7 +110,7 @@ fn expression(
     locals: &mut Vec<Local>,
     room: &mut Room,
     phrase: &Phrase,
-) -> Result<Expression, AllocError>
+) -> Result<Expression, LowerStop>
     ensures value { IfOk result (λ e. expression_tree e ≡ expression_in (lowered (base_within at.calls (named_view model.now)) (locals_view locals.old.items) at.binders (phrase_view phrase.now))) }
     ensures locals { OnOk result (locals_view locals.new.items ≡ locals_view locals.old.items) }
 {
@@ -126,7 +127,7 @@ pub fn formula(
     locals: &mut Vec<Local>,
     room: &mut Room,
     phrase: &Phrase,
-) -> Result<Formula, AllocError>
+) -> Result<Formula, LowerStop>
     ensures value { IfOk result (λ f. formula_tree f ≡ formula_in (lowered (base_within at.calls (named_view model.now)) (locals_view locals.old.items) at.binders (phrase_view phrase.now))) }
     ensures locals { OnOk result (locals_view locals.new.items ≡ locals_view locals.old.items) }
 {
@@ -143,7 +144,7 @@ pub fn formulas(
     locals: &mut Vec<Local>,
     room: &mut Room,
     phrases: &[Phrase],
-) -> Result<Vec<Formula>, AllocError>
+) -> Result<Vec<Formula>, LowerStop>
     ensures value { IfOk result (λ fs. formulas_of (map formula_tree fs.items) ≡ formulas_lowered (base_within at.calls (named_view model.now)) (locals_view locals.old.items) at.binders (phrases_view phrases.now)) }
     ensures locals { OnOk result (locals_view locals.new.items ≡ locals_view locals.old.items) }
 {
@@ -164,7 +165,7 @@ fn block(
     locals: &mut Vec<Local>,
     room: &mut Room,
     phrases: &[Phrase],
-) -> Result<Part, AllocError>
+) -> Result<Part, LowerStop>
     ensures value { IfOk result (λ p. part_view p ≡ rules.formula (conjunction (formulas_lowered (base_within at.calls (named_view model.now)) (locals_view locals.old.items) at.binders (phrases_view phrases.now)))) }
     ensures locals { OnOk result (locals_view locals.new.items ≡ locals_view locals.old.items) }
 {
@@ -184,7 +185,7 @@ fn call(
     room: &mut Room,
     callee: usize,
     given: &[Phrase],
-) -> Result<Part, AllocError>
+) -> Result<Part, LowerStop>
     ensures value { IfOk result (λ p. part_view p ≡ calls_within at.calls (named_view model.now) callee at.binders (expressions_lowered (base_within at.calls (named_view model.now)) (locals_view locals.old.items) at.binders (phrases_view given.now))) }
     ensures locals { OnOk result (locals_view locals.new.items ≡ locals_view locals.old.items) }
 {
@@ -213,7 +214,7 @@ fn arguments(
     locals: &mut Vec<Local>,
     room: &mut Room,
     phrases: &[Phrase],
-) -> Result<Vec<Local>, AllocError>
+) -> Result<Vec<Local>, LowerStop>
     ensures value { IfOk result (λ given. locals_view given.items ≡ arguments at.binders (expressions_lowered (base_within at.calls (named_view model.now)) (locals_view locals.old.items) at.binders (phrases_view phrases.now))) }
     ensures locals { OnOk result (locals_view locals.new.items ≡ locals_view locals.old.items) }
 {
@@ -237,7 +238,7 @@ pub fn meaning(
     locals: &mut Vec<Local>,
     room: &mut Room,
     meaning: &Meaning,
-) -> Result<Part, AllocError>
+) -> Result<Part, LowerStop>
     ensures value { IfOk result (λ p. part_view p ≡ meaning_lowered (base_within at.calls (named_view model.now)) (locals_view locals.old.items) at.binders (meaning_view meaning.now)) }
     ensures locals { OnOk result (locals_view locals.new.items ≡ locals_view locals.old.items) }
 {
@@ -258,7 +259,7 @@ fn prefix_of(
     room: &mut Room,
     prefix: Prefix,
     inner: &Phrase,
-) -> Result<Part, AllocError>
+) -> Result<Part, LowerStop>
     ensures value { IfOk result (λ p. part_view p ≡ prefix_lowered prefix (lowered (base_within at.calls (named_view model.now)) (locals_view locals.old.items) at.binders (phrase_view inner.now))) }
     ensures locals { OnOk result (locals_view locals.new.items ≡ locals_view locals.old.items) }
 {
@@ -276,7 +277,7 @@ fn comparison(
     comparing: Comparing,
     left: &Phrase,
     right: &Phrase,
-) -> Result<Part, AllocError>
+) -> Result<Part, LowerStop>
     ensures value { IfOk result (λ p. part_view p ≡ comparison_lowered comparing (lowered (base_within at.calls (named_view model.now)) (locals_view locals.old.items) at.binders (phrase_view left.now)) (lowered (base_within at.calls (named_view model.now)) (locals_view locals.old.items) at.binders (phrase_view right.now))) }
     ensures locals { OnOk result (locals_view locals.new.items ≡ locals_view locals.old.items) }
 {
@@ -294,7 +295,7 @@ fn implies(
     room: &mut Room,
     left: &Phrase,
     right: &Phrase,
-) -> Result<Part, AllocError>
+) -> Result<Part, LowerStop>
     ensures value { IfOk result (λ p. part_view p ≡ rules.formula (rules.implication (formula_in (lowered (base_within at.calls (named_view model.now)) (locals_view locals.old.items) at.binders (phrase_view left.now))) (formula_in (lowered (base_within at.calls (named_view model.now)) (locals_view locals.old.items) at.binders (phrase_view right.now))))) }
     ensures locals { OnOk result (locals_view locals.new.items ≡ locals_view locals.old.items) }
 {
@@ -313,7 +314,7 @@ fn implies_else(
     left: &Phrase,
     right: &Phrase,
     other: &Phrase,
-) -> Result<Part, AllocError>
+) -> Result<Part, LowerStop>
     ensures value { IfOk result (λ p. part_view p ≡ rules.formula (rules.choice (formula_in (lowered (base_within at.calls (named_view model.now)) (locals_view locals.old.items) at.binders (phrase_view left.now))) (formula_in (lowered (base_within at.calls (named_view model.now)) (locals_view locals.old.items) at.binders (phrase_view right.now))) (formula_in (lowered (base_within at.calls (named_view model.now)) (locals_view locals.old.items) at.binders (phrase_view other.now))))) }
     ensures locals { OnOk result (locals_view locals.new.items ≡ locals_view locals.old.items) }
 {
@@ -335,7 +336,7 @@ fn chain(
     room: &mut Room,
     first: &Phrase,
     links: &[Link],
-) -> Result<Part, AllocError>
+) -> Result<Part, LowerStop>
     ensures value { IfOk result (λ p. part_view p ≡ links_lowered (base_within at.calls (named_view model.now)) (locals_view locals.old.items) at.binders (lowered (base_within at.calls (named_view model.now)) (locals_view locals.old.items) at.binders (phrase_view first.now)) (links_of (map link_view links.now))) }
     ensures locals { OnOk result (locals_view locals.new.items ≡ locals_view locals.old.items) }
 {
@@ -365,7 +366,7 @@ fn linked(
     room: &mut Room,
     first: Part,
     links: &[Link],
-) -> Result<Part, AllocError>
+) -> Result<Part, LowerStop>
     ensures value { IfOk result (λ p. part_view p ≡ links_lowered (base_within at.calls (named_view model.now)) (locals_view locals.old.items) at.binders (part_view first) (links_of (map link_view links.now))) }
     ensures locals { OnOk result (locals_view locals.new.items ≡ locals_view locals.old.items) }
 {
@@ -391,7 +392,7 @@ fn operand(
     locals: &mut Vec<Local>,
     room: &mut Room,
     link: &Link,
-) -> Result<Part, AllocError>
+) -> Result<Part, LowerStop>
     ensures value { IfOk result (λ p. part_view p ≡ lowered (base_within at.calls (named_view model.now)) (locals_view locals.old.items) at.binders (link_view link.now).operand) }
     ensures locals { OnOk result (locals_view locals.new.items ≡ locals_view locals.old.items) }
 {
@@ -408,7 +409,7 @@ fn with_link(
     room: &mut Room,
     part: Part,
     link: &Link,
-) -> Result<Part, AllocError>
+) -> Result<Part, LowerStop>
     ensures value { IfOk result (λ p. part_view p ≡ operator_lowered (link_view link.now).operator (part_view part) (lowered (base_within at.calls (named_view model.now)) (locals_view locals.old.items) at.binders (link_view link.now).operand)) }
     ensures locals { OnOk result (locals_view locals.new.items ≡ locals_view locals.old.items) }
 {
@@ -427,7 +428,7 @@ fn list(
     operator: Operator,
     first: Part,
     links: &[Link],
-) -> Result<Part, AllocError>
+) -> Result<Part, LowerStop>
     ensures value { IfOk result (λ p. part_view p ≡ list_lowered operator (more_formulas (formula_in (part_view first)) (operands_lowered (base_within at.calls (named_view model.now)) (locals_view locals.old.items) at.binders (links_of (map link_view links.now))))) }
     ensures locals { OnOk result (locals_view locals.new.items ≡ locals_view locals.old.items) }
 {
@@ -452,7 +453,7 @@ fn path(
     room: &mut Room,
     head: &Phrase,
     steps: &[Step],
-) -> Result<Part, AllocError>
+) -> Result<Part, LowerStop>
     ensures value { IfOk result (λ p. part_view p ≡ steps_lowered (base_within at.calls (named_view model.now)) (locals_view locals.old.items) at.binders (lowered (base_within at.calls (named_view model.now)) (locals_view locals.old.items) at.binders (phrase_view head.now)) (steps_of (map step_view steps.now))) }
     ensures locals { OnOk result (locals_view locals.new.items ≡ locals_view locals.old.items) }
 {
@@ -490,7 +491,7 @@ fn stepped(
     room: &mut Room,
     head: Part,
     steps: &[Step],
-) -> Result<Part, AllocError>
+) -> Result<Part, LowerStop>
     ensures value { IfOk result (λ p. part_view p ≡ steps_lowered (base_within at.calls (named_view model.now)) (locals_view locals.old.items) at.binders (part_view head) (steps_of (map step_view steps.now))) }
     ensures locals { OnOk result (locals_view locals.new.items ≡ locals_view locals.old.items) }
 {
@@ -511,7 +512,7 @@ fn with_step(
     room: &mut Room,
     head: Part,
     step: &Step,
-) -> Result<Part, AllocError>
+) -> Result<Part, LowerStop>
     ensures value { IfOk result (λ p. part_view p ≡ step_lowered (base_within at.calls (named_view model.now)) (locals_view locals.old.items) at.binders (part_view head) (step_view step.now)) }
     ensures locals { OnOk result (locals_view locals.new.items ≡ locals_view locals.old.items) }
 {
@@ -538,7 +539,7 @@ fn brackets(
     room: &mut Room,
     head: Expression,
     phrases: &[Phrase],
-) -> Result<Expression, AllocError>
+) -> Result<Expression, LowerStop>
     ensures value { IfOk result (λ e. expression_tree e ≡ brackets_lowered (expression_tree head) (expressions_lowered (base_within at.calls (named_view model.now)) (locals_view locals.old.items) at.binders (phrases_view phrases.now))) }
     ensures locals { OnOk result (locals_view locals.new.items ≡ locals_view locals.old.items) }
 {
@@ -571,7 +572,7 @@ fn quantify(
     quantifier: Quantifier,
     domains: &[Domain],
     inner: &Phrase,
-) -> Result<Part, AllocError>
+) -> Result<Part, LowerStop>
     ensures value { IfOk result (λ p. part_view p ≡ rules.formula (quantified_by quantifier (domains_lowered (base_within at.calls (named_view model.now)) (locals_view locals.old.items) at.binders (domains_of (map domain_view domains.now))) (differences_in (at.binders + variables_in (domains_of (map domain_view domains.now))) at.binders (domains_of (map domain_view domains.now))) (formula_in (lowered (base_within at.calls (named_view model.now)) (behind_domains at.binders (domains_of (map domain_view domains.now)) (locals_view locals.old.items)) (at.binders + variables_in (domains_of (map domain_view domains.now))) (phrase_view inner.now))))) }
     ensures locals { OnOk result (locals_view locals.new.items ≡ locals_view locals.old.items) }
 {
@@ -604,7 +605,7 @@ pub(crate) fn variables_of(
     locals: &mut Vec<Local>,
     room: &mut Room,
     domains: &[Domain],
-) -> Result<Variables, AllocError>
+) -> Result<Variables, LowerStop>
     ensures domains { IfOk result (λ v. map expression_tree v.domains.items ≡ domains_lowered (base_within at.calls (named_view model.now)) (locals_view locals.old.items) at.binders (domains_of (map domain_view domains.now))) }
     ensures apart { IfOk result (λ v. map formula_tree v.apart.items ≡ differences_in (at.binders + variables_in (domains_of (map domain_view domains.now))) at.binders (domains_of (map domain_view domains.now))) }
     ensures binders { IfOk result (λ v. v.binders ≡ at.binders + variables_in (domains_of (map domain_view domains.now))) }
@@ -630,7 +631,7 @@ fn add_all(
     room: &mut Room,
     all: &mut Vec<Expression>,
     domains: &[Domain],
-) -> Result<u32, AllocError>
+) -> Result<u32, LowerStop>
     ensures value { OnOk result (map expression_tree all.new.items ≡ map expression_tree all.old.items ++ domains_lowered (base_within at.calls (named_view model.now)) (locals_view locals.old.items) at.binders (domains_of (map domain_view domains.now))) }
     ensures binders { IfOk result (λ binders. binders ≡ at.binders + variables_in (domains_of (map domain_view domains.now))) }
     ensures locals { OnOk result (locals_view locals.new.items ≡ behind_domains at.binders (domains_of (map domain_view domains.now)) (locals_view locals.old.items)) }
@@ -653,7 +654,7 @@ fn add_domain(
     room: &mut Room,
     all: &mut Vec<Expression>,
     domain: &Domain,
-) -> Result<u32, AllocError>
+) -> Result<u32, LowerStop>
     ensures value { OnOk result (map expression_tree all.new.items ≡ map expression_tree all.old.items ++ domain_of_each 0 (expression_in (lowered (base_within at.calls (named_view model.now)) (locals_view locals.old.items) at.binders (domain_view domain.now).domain)) (domain_view domain.now).count) }
     ensures binders { IfOk result (λ binders. binders ≡ at.binders + (domain_view domain.now).count) }
     ensures locals { OnOk result (locals_view locals.new.items ≡ behind_variables at.binders (domain_view domain.now).count (locals_view locals.old.items)) }
@@ -672,7 +673,7 @@ fn enter(
     all: &mut Vec<Expression>,
     domain: &Expression,
     count: usize,
-) -> Result<u32, AllocError>
+) -> Result<u32, LowerStop>
     ensures value { OnOk result (map expression_tree all.new.items ≡ map expression_tree all.old.items ++ domain_of_each 0 (expression_tree domain.now) count) }
     ensures binders { IfOk result (λ binders. binders ≡ at.binders + count) }
     ensures locals { OnOk result (locals_view locals.new.items ≡ behind_variables at.binders count (locals_view locals.old.items)) }
@@ -693,7 +694,7 @@ fn bound_by_let(
     room: &mut Room,
     given: &[Phrase],
     inner: &Phrase,
-) -> Result<Part, AllocError>
+) -> Result<Part, LowerStop>
     ensures value { IfOk result (λ p. part_view p ≡ lowered (base_within at.calls (named_view model.now)) (behind_values (base_within at.calls (named_view model.now)) (locals_view locals.old.items) at.binders (phrases_view given.now)) at.binders (phrase_view inner.now)) }
     ensures locals { OnOk result (locals_view locals.new.items ≡ locals_view locals.old.items) }
 {
@@ -713,7 +714,7 @@ fn values(
     locals: &mut Vec<Local>,
     room: &mut Room,
     phrases: &[Phrase],
-) -> Result<(), AllocError>
+) -> Result<(), LowerStop>
     ensures { OnOk result (locals_view locals.new.items ≡ behind_values (base_within at.calls (named_view model.now)) (locals_view locals.old.items) at.binders (phrases_view phrases.now)) }
 {
     for phrase in phrases {

@@ -11,9 +11,10 @@ use crate::charges::charge_quantified;
 use crate::kernel_parts::binders::{add_differences, quantified};
 use crate::room::Room;
 use alloy_syntax::tree::Quantifier;
+use lowering_rules::{LowerStop, TooLarge};
 use named_model::phrase::Domain;
 use rel_formula::{Expression, Formula};
-use std::alloc::{AllocError, Global};
+use std::alloc::Global;
 
 /// That the variables of disjoint declarations differ, said under `depth` binders, where the first variable of all has the
 /// binder at the level `first`.
@@ -23,7 +24,7 @@ pub fn differences(
     depth: u32,
     first: u32,
     domains: &[Domain],
-) -> Result<Vec<Formula>, AllocError>
+) -> Result<Vec<Formula>, LowerStop>
     ensures { IfOk result (λ fs. map formula_tree fs.items ≡ differences_in depth first (domains_of (map domain_view domains.now))) }
 {
     let mut formulas = Vec::new(alloc);
@@ -42,7 +43,7 @@ fn add_apart(
     depth: u32,
     first: u32,
     domain: &Domain,
-) -> Result<u32, AllocError>
+) -> Result<u32, LowerStop>
     ensures level { IfOk result (λ level. level ≡ first + (domain_view domain.now).count) }
     ensures value { OnOk result (map formula_tree formulas.new.items ≡ map formula_tree formulas.old.items ++ (if (domain_view domain.now).disjoint then binders.differences (map (binders.under depth) (binders.variables first (domain_view domain.now).count)) else [])) }
 {
@@ -57,32 +58,32 @@ fn add_apart(
 }
 
 // The level behind so many variables, which is no more than `depth`.
-fn level_behind(depth: u32, first: u32, count: u32) -> Result<u32, AllocError>
+fn level_behind(depth: u32, first: u32, count: u32) -> Result<u32, TooLarge>
     ensures { IfOk result (λ end. (end ≡ first + count) × (end ≤ depth)) }
 {
     match first.checked_add(count) {
         Some(end) if end <= depth => Ok(end),
-        _ => Err(AllocError),
+        _ => Err(TooLarge),
     }
 }
 
-/// A number of variables. Where it has more than 32 bits, it is answered as want of memory.
-pub fn number(count: usize) -> Result<u32, AllocError>
+/// A number of variables, which has at most 32 bits.
+pub fn number(count: usize) -> Result<u32, TooLarge>
     ensures { IfOk result (λ n. n ≡ count) }
 {
     match u32::try_from(count) {
         Ok(number) => Ok(number),
-        Err(_) => Err(AllocError),
+        Err(_) => Err(TooLarge),
     }
 }
 
 // Takes four nodes for each two of so many variables.
-fn take_pairs(room: &mut Room, count: u32) -> Result<(), AllocError>
+fn take_pairs(room: &mut Room, count: u32) -> Result<(), TooLarge>
     ensures { OnOk result (room.new.nodes + 2 * (count * count) ≡ room.old.nodes + 2 * count) }
 {
     for before in 0..count {
         let Some(nodes) = before.checked_mul(4) else {
-            return Err(AllocError);
+            return Err(TooLarge);
         };
         room.take(nodes)?;
     }
@@ -98,7 +99,7 @@ pub fn bind(
     domains: Vec<Expression>,
     apart: Vec<Formula>,
     body: Formula,
-) -> Result<Formula, AllocError>
+) -> Result<Formula, LowerStop>
     ensures value { IfOk result (λ f. formula_tree f ≡ quantified_by quantifier (map expression_tree domains.items) (map formula_tree apart.items) (formula_tree body)) }
     ensures taken { OnOk result (room.new.nodes + copied_by_quantifier quantifier (map expression_tree domains.items) (map formula_tree apart.items) (formula_tree body) ≡ room.old.nodes) }
 {

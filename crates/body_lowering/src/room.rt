@@ -1,7 +1,7 @@
 // What may still be built.
 ghost use Rattle.std.specs.Prelude.{◌≡◌, ◌+◌, ◌<◌, OnOk, OnErr};
 
-use std::alloc::AllocError;
+use lowering_rules::TooLarge;
 
 /// How many kernel nodes may still be built.
 #[derive(Clone, Copy)]
@@ -17,8 +17,8 @@ impl Room {
         Room { nodes: 4_194_304 }
     }
 
-    /// Takes so many nodes, before they are built. Where fewer are left, it is answered as want of memory.
-    pub fn take(&mut self, nodes: u32) -> Result<(), AllocError>
+    /// Takes so many nodes, before they are built, where so many are left.
+    pub fn take(&mut self, nodes: u32) -> Result<(), TooLarge>
         ensures ok { OnOk result (self.new.nodes + nodes ≡ self.old.nodes) }
         ensures err { OnErr result (self.new.nodes ≡ self.old.nodes) }
         ensures few { OnErr result (self.old.nodes < nodes) }
@@ -28,13 +28,13 @@ impl Room {
                 self.nodes = left;
                 Ok(())
             }
-            None => Err(AllocError),
+            None => Err(TooLarge),
         }
     }
 }
 
 /// Where a part stands: under so many binders, with calls that may be so deep, and so many levels of kernel nodes below it,
-/// where a part inside of another one counts as eight. Where levels are wanting, it is answered as want of memory.
+/// where a part inside of another one counts as eight.
 #[derive(Clone, Copy)]
 pub struct Depth {
     pub binders: u32,

@@ -9,7 +9,7 @@ use Rattle.rel_formula.specs.Bounds.{Bounded, IsProblem}
 use Rattle.lowering_rules.specs.declared.fault.LowerFault.{LowerFault}
 use Rattle.lowering_rules.specs.declared.fault.LowerFault.TheVariants as fault
 use Rattle.lowering_rules.specs.Relations.{IsOutlined, outlines}
-use Rattle.lowering_rules.specs.Problem.{command_at, ProblemOf, HasMoreCells, IsRefusal}
+use Rattle.lowering_rules.specs.Problem.{command_at, ProblemOf, HasMoreCells, IsWant, IsRefusal}
 use Rattle.lowering_rules.proofs.OneProblem.{same_sizes, sizes_not, few_cells}
 
 some_not : (c : CommandTree) (o : Option CommandTree) → o ≡ None → o ≡ Some c → ⊥
@@ -35,35 +35,41 @@ module _ (m : NamedTree) (n : ℕ) (facts : List ℕ) where
   no_more sizes e more p is of =
       few_cells m n facts p is of (subst (λ zs. HasMoreCells zs (outlines m zs) 4096) (same_sizes sizes of.sizes (sizes_in m n) e of.commands.sized) more)
 
-  pub first_once : (f g : LowerFault) → IsRefusal m n facts f → IsRefusal m n facts g → (f ≡ g) ⊎ ((f ≡ fault.Memory) ⊎ (g ≡ fault.Memory))
-  first_once fault.Memory g h k = inr (inl refl)
+  pub first_once : (f g : LowerFault) → IsRefusal m n facts f → IsRefusal m n facts g → (f ≡ g) ⊎ (IsWant f ⊎ IsWant g)
+  first_once fault.Memory g h k = inr (inl (inl refl))
+  first_once fault.TooLarge g h k = inr (inl (inr refl))
   first_once fault.NoCommand fault.NoCommand h k = inl refl
   first_once fault.NoCommand (fault.Scope y) h k = absurd (some_not k.0 (command_at m n) h k.1)
   first_once fault.NoCommand fault.TooManyRelations h k = absurd (some_not k.0 (command_at m n) h k.2.there)
   first_once fault.NoCommand fault.TooManyCells h k = absurd (some_not k.0 (command_at m n) h k.2.there)
   first_once fault.NoCommand fault.TooManyTerms h k = absurd (some_not k.2.command (command_at m n) h k.2.commands.there)
-  first_once fault.NoCommand fault.Memory h k = inr (inr refl)
+  first_once fault.NoCommand fault.TooLarge h k = inr (inr (inr refl))
+  first_once fault.NoCommand fault.Memory h k = inr (inr (inl refl))
   first_once (fault.Scope x) fault.NoCommand h k = absurd (some_not h.0 (command_at m n) k h.1)
   first_once (fault.Scope x) (fault.Scope y) h k = inl (ap fault.Scope (same_fault x y (sizes_in m n) h.2 k.2))
   first_once (fault.Scope x) fault.TooManyRelations h k = absurd (sizes_not k.1 x (sizes_in m n) k.2.sized h.2)
   first_once (fault.Scope x) fault.TooManyCells h k = absurd (sizes_not k.1 x (sizes_in m n) k.2.sized h.2)
   first_once (fault.Scope x) fault.TooManyTerms h k = absurd (sizes_not k.2.sizes x (sizes_in m n) k.2.commands.sized h.2)
-  first_once (fault.Scope x) fault.Memory h k = inr (inr refl)
+  first_once (fault.Scope x) fault.TooLarge h k = inr (inr (inr refl))
+  first_once (fault.Scope x) fault.Memory h k = inr (inr (inl refl))
   first_once fault.TooManyRelations fault.NoCommand h k = absurd (some_not h.0 (command_at m n) k h.2.there)
   first_once fault.TooManyRelations (fault.Scope y) h k = absurd (sizes_not h.1 y (sizes_in m n) h.2.sized k.2)
   first_once fault.TooManyRelations fault.TooManyRelations h k = inl refl
   first_once fault.TooManyRelations fault.TooManyCells h k = absurd (many_few h.1 k.1 h.2.sized k.2.sized h.3 k.3)
   first_once fault.TooManyRelations fault.TooManyTerms h k = absurd (many_few h.1 k.2.sizes h.2.sized k.2.commands.sized h.3 (few_relations k.0 k.1 k.2))
-  first_once fault.TooManyRelations fault.Memory h k = inr (inr refl)
+  first_once fault.TooManyRelations fault.TooLarge h k = inr (inr (inr refl))
+  first_once fault.TooManyRelations fault.Memory h k = inr (inr (inl refl))
   first_once fault.TooManyCells fault.NoCommand h k = absurd (some_not h.0 (command_at m n) k h.2.there)
   first_once fault.TooManyCells (fault.Scope y) h k = absurd (sizes_not h.1 y (sizes_in m n) h.2.sized k.2)
   first_once fault.TooManyCells fault.TooManyRelations h k = absurd (many_few k.1 h.1 k.2.sized h.2.sized k.3 h.3)
   first_once fault.TooManyCells fault.TooManyCells h k = inl refl
   first_once fault.TooManyCells fault.TooManyTerms h k = absurd (no_more h.1 h.2.sized h.4 k.0 k.1 k.2)
-  first_once fault.TooManyCells fault.Memory h k = inr (inr refl)
+  first_once fault.TooManyCells fault.TooLarge h k = inr (inr (inr refl))
+  first_once fault.TooManyCells fault.Memory h k = inr (inr (inl refl))
   first_once fault.TooManyTerms fault.NoCommand h k = absurd (some_not h.2.command (command_at m n) k h.2.commands.there)
   first_once fault.TooManyTerms (fault.Scope y) h k = absurd (sizes_not h.2.sizes y (sizes_in m n) h.2.commands.sized k.2)
   first_once fault.TooManyTerms fault.TooManyRelations h k = absurd (many_few k.1 h.2.sizes k.2.sized h.2.commands.sized k.3 (few_relations h.0 h.1 h.2))
   first_once fault.TooManyTerms fault.TooManyCells h k = absurd (no_more k.1 k.2.sized k.4 h.0 h.1 h.2)
   first_once fault.TooManyTerms fault.TooManyTerms h k = inl refl
-  first_once fault.TooManyTerms fault.Memory h k = inr (inr refl)
+  first_once fault.TooManyTerms fault.TooLarge h k = inr (inr (inr refl))
+  first_once fault.TooManyTerms fault.Memory h k = inr (inr (inl refl))

@@ -21,7 +21,7 @@ use Rattle.lowering_rules.specs.declared.fault.LowerFault.{LowerFault}
 use Rattle.lowering_rules.specs.declared.fault.LowerFault.TheVariants as fault
 use Rattle.lowering_rules.specs.Relations.{Outline, outlines, IsOutlined, MayHave, Has}
 use Rattle.lowering_rules.specs.Formula.{formula_of}
-use Rattle.lowering_rules.specs.Problem.{ProblemOf, IsCellOf, HasMoreCells, IsRefusal}
+use Rattle.lowering_rules.specs.Problem.{ProblemOf, IsCellOf, HasMoreCells, IsWant, IsRefusal}
 use Rattle.lowering_rules.proofs.Outlined.{outlined_at, same_some}
 
 -- ---- one problem
@@ -92,7 +92,7 @@ module _ (m : NamedTree) (n : ℕ) (facts : List ℕ) (p : Bounded) (is : IsProb
   sizes_are : (sizes : List Size) → sizes_in m n ≡ Ok sizes → sizes ≡ of.sizes
   sizes_are sizes e = same_sizes sizes of.sizes (sizes_in m n) e of.commands.sized
 
-  pub not_refused : (k : ℕ) → HasTerms p k → k ≤ 2 ^ 18 → (f : LowerFault) → IsRefusal m n facts f → f ≡ fault.Memory
+  pub not_refused : (k : ℕ) → HasTerms p k → k ≤ 2 ^ 18 → (f : LowerFault) → IsRefusal m n facts f → IsWant f
   not_refused k has few fault.NoCommand h = absurd (let there = of.commands.there in cc)
   not_refused k has few (fault.Scope f) h = absurd (sizes_not of.sizes f (sizes_in m n) of.commands.sized h.2)
   not_refused k has few fault.TooManyRelations h =
@@ -105,4 +105,5 @@ module _ (m : NamedTree) (n : ℕ) (facts : List ℕ) (p : Bounded) (is : IsProb
       let same : h.0 ≡ p = problem_once m n facts h.0 p h.1 is h.2 of in
       let more = h.3 k (subst (λ q. HasTerms q k) (sym same) has) in
       absurd (omega arith)
-  not_refused k has few fault.Memory h = refl
+  not_refused k has few fault.TooLarge h = inr refl
+  not_refused k has few fault.Memory h = inl refl

@@ -6,6 +6,7 @@ pub mod Calls
 pub mod Relations
 pub mod Formula
 pub mod Problem
+pub mod Stops
 pub mod Shapes
 pub mod Typed
 pub mod Rows

@@ -1,5 +1,5 @@
 -- The problem of a model with types, a command and some facts, and why there may be none.
-use Rattle.std.specs.Prelude.{◌≡◌, ◌≢◌, ◌<◌, ◌≤◌, ◌^◌, ℕ, zero, suc, List, length, slice_get, Option, Some, None, Ok, Err, All, AllPairs}
+use Rattle.std.specs.Prelude.{◌≡◌, ◌≢◌, ◌⊎◌, ◌<◌, ◌≤◌, ◌^◌, ℕ, zero, suc, List, length, slice_get, Option, Some, None, Ok, Err, All, AllPairs}
 use Rattle.std.specs.List.{AllZip}
 use Rattle.rel_formula.specs.declared.problem.Cell.{Cell}
 use Rattle.rel_formula.specs.Bounds.{Bounded, IsProblem}
@@ -45,7 +45,12 @@ pub record HasMoreCells (sizes : List Size) (os : List Outline) (n : ℕ) : Type
   pub each : All (IsCellOf sizes os) cells
   pub more : n < length cells
 
--- the fault is the first one that there is; want of memory may come at any time
+-- there is no memory for the problem, or no room to build its formula: nothing is wrong with the model
+abbrev pub IsWant : LowerFault → Type 0
+IsWant f = (f ≡ fault.Memory) ⊎ (f ≡ fault.TooLarge)
+
+-- the fault is the first one that there is; a formula may be too large to build only where there is a problem, want of memory may
+-- come at any time
 abbrev pub IsRefusal : NamedTree → ℕ → List ℕ → LowerFault → Type 0
 IsRefusal m n facts fault.NoCommand = command_at m n ≡ None
 IsRefusal m n facts (fault.Scope f) = (c : CommandTree) × (command_at m n ≡ Some c) × (sizes_in m n ≡ Err f)
@@ -53,4 +58,5 @@ IsRefusal m n facts fault.TooManyRelations = (c : CommandTree) × (sizes : List 
 IsRefusal m n facts fault.TooManyCells =
     (c : CommandTree) × (sizes : List Size) × Commands m n c sizes × (length (outlines m sizes) ≤ 128) × HasMoreCells sizes (outlines m sizes) 4096
 IsRefusal m n facts fault.TooManyTerms = (p : Bounded) × IsProblem p × ProblemOf m n facts p × ((k : ℕ) → HasTerms p k → 2 ^ 18 < k)
+IsRefusal m n facts fault.TooLarge = (p : Bounded) × IsProblem p × ProblemOf m n facts p
 IsRefusal m n facts fault.Memory = Unit {0}

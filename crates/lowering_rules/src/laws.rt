@@ -21,8 +21,7 @@ ghost use Rattle.lowering_rules.specs.Calls.{IsRank};
 ghost use Rattle.lowering_rules.specs.Typed.{HasReferences, HasTypes};
 ghost use Rattle.model_types.specs.Models.{declared_in, settled_in, types_checked};
 ghost use Rattle.lowering_rules.specs.declared.fault.LowerFault.{LowerFault};
-ghost use Rattle.lowering_rules.specs.declared.fault.LowerFault.TheVariants.{Memory};
-ghost use Rattle.lowering_rules.specs.Problem.{ProblemOf, IsRefusal};
+ghost use Rattle.lowering_rules.specs.Problem.{ProblemOf, IsWant, IsRefusal};
 ghost use Rattle.lowering_rules.specs.Rows.{bodies, calls, signatures, fields, three_facts, subsets, outline_rows, refusals, AreLowered, AreWithFacts, AreOutlined, AreRefused};
 
 /// Every renaming keeps the bounds of the problem of a model and a command.
@@ -50,16 +49,16 @@ pub fn problems_are_one()
     ensures { (m : NamedTree) (n : ℕ) (facts : List ℕ) (p q : Bounded) → IsProblem p → IsProblem q → ProblemOf m n facts p → ProblemOf m n facts q → p ≡ q }
 {}
 
-/// Where there is a problem with at most 262,144 terms, nothing refuses it.
+/// Where there is a problem with at most 262,144 terms, nothing refuses it but want of memory or of room.
 pub fn problems_are_not_refused()
     ensures { (m : NamedTree) (n : ℕ) (facts : List ℕ) (p : Bounded) → IsProblem p → ProblemOf m n facts p → (k : ℕ) → HasTerms p k → k ≤ 2 ^ 18
-        → (f : LowerFault) → IsRefusal m n facts f → f ≡ Memory }
+        → (f : LowerFault) → IsRefusal m n facts f → IsWant f }
 {}
 
-/// No two faults are both the first one.
+/// No two faults are both the first one, beside want of memory and of room.
 pub fn refusals_are_one()
     ensures { (m : NamedTree) (n : ℕ) (facts : List ℕ) (f g : LowerFault) → IsRefusal m n facts f → IsRefusal m n facts g
-        → (f ≡ g) ⊎ ((f ≡ Memory) ⊎ (g ≡ Memory)) }
+        → (f ≡ g) ⊎ (IsWant f ⊎ IsWant g) }
 {}
 
 /// A call becomes the body with the arguments in place of the parameters, wherever calls go down a rank.

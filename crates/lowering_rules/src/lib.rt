@@ -5,4 +5,4 @@
 mod fault;
 pub mod laws;
 
-pub use crate::fault::LowerFault;
+pub use crate::fault::{LowerFault, LowerStop, TooLarge};

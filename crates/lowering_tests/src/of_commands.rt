@@ -25,6 +25,17 @@ fn too_many_terms(rt: HostRuntime) -> Result<(), Fail> {
     Ok(())
 }
 
+// Each `<=>` has both its sides twice.
+const EQUIVALENCES: &str =
+    "sig A {} run { some A <=> some A <=> some A <=> some A <=> some A <=> some A <=> some A <=> some A <=> some A <=> some A <=> some A <=> some A <=> some A <=> some A <=> some A <=> some A <=> some A <=> some A <=> some A <=> some A <=> some A <=> some A <=> some A <=> some A <=> some A }";
+
+#[test]
+fn a_formula_too_large_to_build(rt: HostRuntime) -> Result<(), Fail> {
+    let fault = refusal(rt.alloc(), EQUIVALENCES, 1, None)?;
+    assert_eq!(rt; fault, Some(LowerFault::TooLarge));
+    Ok(())
+}
+
 #[test]
 fn no_command(rt: HostRuntime) -> Result<(), Fail> {
     for number in [0, 4, u32::MAX] {

@@ -3,6 +3,7 @@ use alloy_lex::{Place, Text};
 use alloy_syntax::tree::Operator;
 use body_lowering::Room;
 use body_lowering::bodies::{block, expression, predicate};
+use lowering_rules::LowerStop;
 use named_model::Named;
 use named_model::named::{Callee, Meaning, Signature};
 use named_model::phrase::{Domain, Link, Phrase, Referent};
@@ -10,6 +11,8 @@ use std::alloc::{AllocError, Global};
 use std::test::Fail;
 
 const PLACE: Place = Place { line: 1, column: 1 };
+
+const TOO_LARGE: Option<LowerStop> = Some(LowerStop::TooLarge);
 
 // The first signature.
 const FIRST: Phrase = Phrase::Refers(PLACE, Referent::Signature(0));
@@ -99,30 +102,38 @@ fn callers(alloc: Global, count: usize, times: usize) -> Result<Vec<Callee>, All
     Ok(callees)
 }
 
-// Whether a call of a predicate is lowered.
-fn is_lowered(alloc: Global, model: &Named, number: usize) -> Result<bool, AllocError> {
+// Why a call of a predicate isn't lowered.
+fn stop_of_call(
+    alloc: Global,
+    model: &Named,
+    number: usize,
+) -> Result<Option<LowerStop>, AllocError> {
     let phrases = calls(alloc, number, 1)?;
-    Ok(block(alloc, model, &mut Room::new(), &phrases).is_ok())
+    Ok(block(alloc, model, &mut Room::new(), &phrases).err())
 }
 
-// Whether a call of the last one of so many predicates is lowered, each of which calls the one before it so many times.
-fn is_reached(alloc: Global, count: usize, times: usize) -> Result<bool, AllocError> {
+// Why a call of the last one of so many predicates isn't lowered, each of which calls the one before it so many times.
+fn stop_of_calls(
+    alloc: Global,
+    count: usize,
+    times: usize,
+) -> Result<Option<LowerStop>, AllocError> {
     let model = model_with(alloc, callers(alloc, count, times)?)?;
-    is_lowered(alloc, &model, count)
+    stop_of_call(alloc, &model, count)
 }
 
 #[test]
 fn calls_that_double_are_bounded(rt: HostRuntime) -> Result<(), Fail> {
-    for (count, expected) in [(3, true), (10, true), (30, false)] {
-        assert_eq!(rt; is_reached(rt.alloc(), count, 2)?, expected);
+    for (count, expected) in [(3, None), (10, None), (30, TOO_LARGE)] {
+        assert_eq!(rt; stop_of_calls(rt.alloc(), count, 2)?, expected);
     }
     Ok(())
 }
 
 #[test]
 fn calls_in_a_row_are_bounded(rt: HostRuntime) -> Result<(), Fail> {
-    for (count, expected) in [(100, true), (250, true), (5_000, false)] {
-        assert_eq!(rt; is_reached(rt.alloc(), count, 1)?, expected);
+    for (count, expected) in [(100, None), (250, None), (5_000, TOO_LARGE)] {
+        assert_eq!(rt; stop_of_calls(rt.alloc(), count, 1)?, expected);
     }
     Ok(())
 }
@@ -149,28 +160,32 @@ fn chain(alloc: Global, operator: Operator, count: usize) -> Result<Phrase, Allo
     Ok(Phrase::Chain(first, links(alloc, operator, count)?))
 }
 
-// Whether an expression is lowered.
-fn is_expression(alloc: Global, phrase: &Phrase) -> Result<bool, AllocError> {
+// Why an expression isn't lowered.
+fn stop_of_expression(alloc: Global, phrase: &Phrase) -> Result<Option<LowerStop>, AllocError> {
     let model = model_with(alloc, Vec::new(alloc))?;
-    Ok(expression(alloc, &model, &mut Room::new(), 0, phrase).is_ok())
+    Ok(expression(alloc, &model, &mut Room::new(), 0, phrase).err())
 }
 
-// Whether a chain is lowered.
-fn is_chained(alloc: Global, operator: Operator, count: usize) -> Result<bool, AllocError> {
+// Why a chain isn't lowered.
+fn stop_of_chain(
+    alloc: Global,
+    operator: Operator,
+    count: usize,
+) -> Result<Option<LowerStop>, AllocError> {
     let chain = chain(alloc, operator, count)?;
-    is_expression(alloc, &chain)
+    stop_of_expression(alloc, &chain)
 }
 
 #[test]
 fn long_chains_are_bounded(rt: HostRuntime) -> Result<(), Fail> {
     for (operator, count, expected) in [
-        (Operator::Union, 1_900, true),
-        (Operator::Union, 87_000, false),
-        (Operator::And, 87_000, true),
-        (Operator::Iff, 10, true),
-        (Operator::Iff, 100, false),
+        (Operator::Union, 1_900, None),
+        (Operator::Union, 87_000, TOO_LARGE),
+        (Operator::And, 87_000, None),
+        (Operator::Iff, 10, None),
+        (Operator::Iff, 100, TOO_LARGE),
     ] {
-        assert_eq!(rt; is_chained(rt.alloc(), operator, count)?, expected);
+        assert_eq!(rt; stop_of_chain(rt.alloc(), operator, count)?, expected);
     }
     Ok(())
 }
@@ -199,9 +214,15 @@ fn doubled_values(alloc: Global, count: usize) -> Result<Phrase, AllocError> {
 // The last value has 2 ^ (count + 1) - 1 nodes, and what is named takes some three times as many.
 #[test]
 fn values_are_counted_where_they_are_named(rt: HostRuntime) -> Result<(), Fail> {
-    for (count, expected) in [(1, true), (10, true), (19, true), (20, false), (30, false)] {
+    for (count, expected) in [
+        (1, None),
+        (10, None),
+        (19, None),
+        (20, TOO_LARGE),
+        (30, TOO_LARGE),
+    ] {
         let body = doubled_values(rt.alloc(), count)?;
-        assert_eq!(rt; is_expression(rt.alloc(), &body)?, expected);
+        assert_eq!(rt; stop_of_expression(rt.alloc(), &body)?, expected);
     }
     Ok(())
 }
@@ -222,17 +243,22 @@ fn predicate_of(alloc: Global, count: usize) -> Result<Callee, AllocError> {
     })
 }
 
-// Whether a predicate of so many parameters is lowered where it is run.
-fn is_run(alloc: Global, count: usize) -> Result<bool, AllocError> {
+// Why a predicate of so many parameters isn't lowered where it is run.
+fn stop_of_run(alloc: Global, count: usize) -> Result<Option<LowerStop>, AllocError> {
     let model = model_with(alloc, Vec::new(alloc))?;
     let callee = predicate_of(alloc, count)?;
-    Ok(predicate(alloc, &model, &mut Room::new(), &callee).is_ok())
+    Ok(predicate(alloc, &model, &mut Room::new(), &callee).err())
 }
 
 #[test]
 fn parameters_are_levels(rt: HostRuntime) -> Result<(), Fail> {
-    for (count, expected) in [(1, true), (2_048, true), (2_049, false), (14_000, false)] {
-        assert_eq!(rt; is_run(rt.alloc(), count)?, expected);
+    for (count, expected) in [
+        (1, None),
+        (2_048, None),
+        (2_049, TOO_LARGE),
+        (14_000, TOO_LARGE),
+    ] {
+        assert_eq!(rt; stop_of_run(rt.alloc(), count)?, expected);
     }
     Ok(())
 }

@@ -1,7 +1,7 @@
 // The words of faults, each of them once.
 use alloy_lex::{LexFault, Place, Text};
 use alloy_parse::ParseFault;
-use lowering_rules::LowerFault;
+use lowering_rules::{LowerFault, LowerStop};
 use model_texts::fault_words::{
     command_words, lex_words, name_kind, name_words, parse_words, type_words,
 };
@@ -182,8 +182,13 @@ fn want_of_memory_is_an_error(rt: HostRuntime) {
 }
 
 #[test]
-fn no_command_is_told_for_want_of_memory(rt: HostRuntime) {
-    for fault in [LowerFault::Memory, LowerFault::Scope(NameFault::Memory)] {
-        assert!(rt; command_words(rt.alloc(), 1, fault).is_err());
+fn no_command_is_told_for_want_of_memory_or_of_room(rt: HostRuntime) {
+    for (fault, stop) in [
+        (LowerFault::Memory, LowerStop::Memory),
+        (LowerFault::Scope(NameFault::Memory), LowerStop::Memory),
+        (LowerFault::TooLarge, LowerStop::TooLarge),
+    ] {
+        let told = command_words(rt.alloc(), 1, fault).err();
+        assert_eq!(rt; told, Some(stop));
     }
 }

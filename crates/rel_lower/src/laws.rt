@@ -2,7 +2,7 @@
 ghost use Rattle.std.specs.Prelude.{◌≢◌, ◌≤◌, ℕ, List, length, All, AllPairs};
 ghost use Rattle.tuple_core.specs.Rows.{IsRows};
 ghost use Rattle.rel_formula.specs.declared.problem.Relation.{Relation};
-ghost use Rattle.rel_formula.specs.Bounds.{Bounded, IsProblem, cells_of};
+ghost use Rattle.rel_formula.specs.Bounds.{Bounded, IsProblem, cells_of, most_cells};
 ghost use Rattle.named_model.specs.Model.{NamedTree};
 ghost use Rattle.lowering_rules.specs.Problem.{ProblemOf};
 ghost use Rattle.rel_lower.specs.Lowered.{IsTyped};
@@ -16,7 +16,7 @@ use lowering_rules::laws::{
 pub fn typed_problems_are_formed()
     ensures { (m : NamedTree) → IsTyped m → (n : ℕ) (facts : List ℕ) (p : Bounded) → ProblemOf m n facts p
         → All (λ (r : Relation). IsRows r.lower × IsRows r.upper) p.relations → AllPairs (λ (r s : Relation). r.name ≢ s.name) p.relations
-        → length p.relations ≤ 128 → length (cells_of p) ≤ 4096 → IsProblem p }
+        → length p.relations ≤ 128 → length (cells_of p) ≤ most_cells → IsProblem p }
 {
     models_without_faults_are_typed();
     formulas_are_proper();

@@ -5,7 +5,6 @@ ghost use Rattle.lowering_rules.specs.Formula.{all_facts};
 ghost use Rattle.lowering_rules.specs.Problem as problem;
 ghost use Rattle.lowering_rules.specs.Problem.{Commands, ProblemOf, IsRefusal};
 ghost use Rattle.rel_formula.specs.Bounds.{IsProblem};
-ghost use Rattle.rel_lower.specs.Bounding.Bounds.{IsTooMany};
 ghost use Rattle.rel_lower.specs.Lowered.{IsTyped, IsLowered};
 
 use crate::commands::{command_at, numbers, of_sizes};
@@ -86,7 +85,7 @@ fn bounded(
 ) -> Result<Problem, LowerFault>
     requires typed { IsTyped (named_view model.now) }
     requires commands { Commands (named_view model.now) number (command_view command.now) sizes.now }
-    ensures { MatchResult result (λ p. IsProblem p × ProblemOf (named_view model.now) number facts.now p) (IsTooMany (named_view model.now) sizes.now) }
+    ensures { MatchResult result (λ p. IsProblem p × ProblemOf (named_view model.now) number facts.now p) (IsRefusal (named_view model.now) number facts.now) }
 {
     sizes_are_few();
     typed_fields_have_lists();

@@ -8,9 +8,8 @@ use Rattle.renaming_classes.specs.Counts.{orders, IsNumberOfRenamings}
 use Rattle.rel_terms.specs.Terms.{HasTerms}
 use Rattle.named_model.specs.Model.{NamedTree}
 use Rattle.lowering_rules.specs.declared.fault.LowerFault.{LowerFault}
-use Rattle.lowering_rules.specs.declared.fault.LowerFault.TheVariants as lower
 use Rattle.lowering_rules.specs.Formula.{all_facts}
-use Rattle.lowering_rules.specs.Problem.{ProblemOf, IsRefusal}
+use Rattle.lowering_rules.specs.Problem.{ProblemOf, IsWant, IsRefusal}
 use Rattle.model_texts.specs.Words.Words.{command_words}
 use Rattle.script_format.specs.declared.entries.ModelEntry.{ModelEntry}
 use Rattle.script_format.specs.declared.entries.SessionEntry.{SessionEntry}
@@ -21,10 +20,10 @@ use Rattle.served_models.specs.Served.{IsProblemOf, Fits, IsUnfit, renamings_wor
 
 -- what the laws below say, as they are used here
 abbrev pub NotRefused : Type 0
-NotRefused = (m : NamedTree) (n : ℕ) (facts : List ℕ) (p : Bounded) → IsProblem p → ProblemOf m n facts p → (k : ℕ) → HasTerms p k → k ≤ 2 ^ 18 → (f : LowerFault) → IsRefusal m n facts f → f ≡ lower.Memory
+NotRefused = (m : NamedTree) (n : ℕ) (facts : List ℕ) (p : Bounded) → IsProblem p → ProblemOf m n facts p → (k : ℕ) → HasTerms p k → k ≤ 2 ^ 18 → (f : LowerFault) → IsRefusal m n facts f → IsWant f
 
 abbrev pub OneRefusal : Type 0
-OneRefusal = (m : NamedTree) (n : ℕ) (facts : List ℕ) (f g : LowerFault) → IsRefusal m n facts f → IsRefusal m n facts g → (f ≡ g) ⊎ ((f ≡ lower.Memory) ⊎ (g ≡ lower.Memory))
+OneRefusal = (m : NamedTree) (n : ℕ) (facts : List ℕ) (f g : LowerFault) → IsRefusal m n facts f → IsRefusal m n facts g → (f ≡ g) ⊎ (IsWant f ⊎ IsWant g)
 
 abbrev pub OneModel : Type 0
 OneModel = (text : List ℕ) (m n : NamedTree) → SaysModel text m → SaysModel text n → m ≡ n
@@ -40,6 +39,11 @@ OneProblem = (m : NamedTree) (n : ℕ) (facts : List ℕ) (p q : Bounded) → Is
 
 pub one_problem : OneProblem → (m : NamedTree) (n : ℕ) (p q : Bounded) → IsProblemOf m n p → IsProblemOf m n q → p ≡ q
 one_problem one m n p q a b = one m n (all_facts m) p q a.problem b.problem a.lowered.is b.lowered.is
+
+-- a fault that is told is no want
+pub told_no_want : (f : LowerFault) → IsToldOf f → IsWant f → ⊥
+told_no_want f told (inl memory) = told.0 memory
+told_no_want f told (inr large) = told.1 large
 
 -- ---- problems that can be used, and others
 
@@ -66,7 +70,7 @@ module _ (not_refused : NotRefused) (one_fault_of : OneRefusal) (one_model : One
   has_or_lacks : (m : NamedTree) (n : ℕ) (f : LowerFault) (p : Bounded) → IsProblemOf m n p → IsRefusal m n (all_facts m) f → IsToldOf f → ⊥
   has_or_lacks m n f p is refused told =
       let few = is.lowered.translatable.few_terms in
-      told.0 (not_refused m n (all_facts m) p is.problem is.lowered.is few.0 few.1 few.2 f refused)
+      told_no_want f told (not_refused m n (all_facts m) p is.problem is.lowered.is few.0 few.1 few.2 f refused)
 
   usable_or_unusable : (m : NamedTree) (n : ℕ) (words : List ℕ) → HasProblem purpose m n → IsUnusable purpose m n words → ⊥
   usable_or_unusable m n words (p, is, fits) (inl lacks) = has_or_lacks m n lacks.fault p is lacks.refused lacks.told
@@ -95,8 +99,8 @@ module _ (not_refused : NotRefused) (one_fault_of : OneRefusal) (one_model : One
   one_told : (m : NamedTree) (n : ℕ) (f g : LowerFault) → IsRefusal m n (all_facts m) f → IsRefusal m n (all_facts m) g → IsToldOf f → IsToldOf g → f ≡ g
   one_told m n f g a b x y = elim (one_fault_of m n (all_facts m) f g a b) [
     | inl same ↦ same
-    | inr (inl f') ↦ absurd (x.0 f')
-    | inr (inr g') ↦ absurd (y.0 g')
+    | inr (inl f') ↦ absurd (told_no_want f x f')
+    | inr (inr g') ↦ absurd (told_no_want g y g')
   ]
 
   one_lack : (m : NamedTree) (n : ℕ) (words others : List ℕ) → LacksProblem m n words → LacksProblem m n others → words ≡ others

@@ -3,11 +3,16 @@ use Rattle.std.proofs.Common.{◌≡◌, inl, inr, Result, Ok, Err, ℕ, ◌+◌
 use Rattle.std.specs.Prelude.{Vec, MatchResult}
 use Rattle.std.specs.declared.alloc.Global.{Global}
 use Rattle.std.proofs.lemmas.Bool.{cases_lt}
+use Rattle.std.proofs.lemmas.Option.{slice_get_read}
 use Rattle.std.proofs.lemmas.List.{length-take-le, take_more, take-append-drop, drop_more}
 use Rattle.std.proofs.lemmas.List.Elements.{All-nil, All-cons, All-push, All-append, All-weaker, All-contains, Contains-append_left, Contains-append_right}
 use Rattle.std.proofs.lemmas.List.Quantifiers.{all_pairs_push}
 use Rattle.rel_formula.specs.Bounds.{Bounded}
 use Rattle.named_model.specs.Model.{NamedTree}
+use Rattle.lowering_rules.specs.declared.fault.LowerFault.{LowerFault}
+use Rattle.lowering_rules.specs.declared.fault.LowerFault.TheVariants as lower
+use Rattle.lowering_rules.specs.Formula.{all_facts}
+use Rattle.lowering_rules.specs.Problem.{IsRefusal}
 use Rattle.model_texts.specs.Texts.ModelText.{SaysModel}
 use Rattle.script_format.specs.declared.entries.ModelEntry.{ModelEntry}
 use Rattle.script_format.specs.declared.entries.SessionEntry.{SessionEntry}
@@ -15,7 +20,7 @@ use Rattle.served_models.specs.declared.purposes.Purpose.{Purpose}
 use Rattle.served_models.specs.declared.commands.ServedCommand.{ServedCommand}
 use Rattle.served_models.specs.declared.commands.Commands.{Commands}
 use Rattle.served_models.specs.declared.commands.Commands.TheVariants as commands
-use Rattle.served_models.specs.Served.{IsAsked, IsProblemOf, Fits, IsUnfit, renamings_words, HasProblem, IsUnusable, HasBadCommand, IsUsable, IsRefused, AreUsable, IsFirstRefused, IsLeastAsked, IsServedFor, AreOf, AreFit, HasMade, AreMade, AreServed, IsFound, AreAllMade, AreUsed}
+use Rattle.served_models.specs.Served.{IsAsked, IsProblemOf, Fits, IsUnfit, renamings_words, HasProblem, IsUnusable, HasBadCommand, IsUsable, IsRefused, AreUsable, IsFirstRefused, IsLeastAsked, IsServedFor, IsTooLarge, HasLargeCommand, SaysLargeCommand, HasLargeModel, AreOf, AreFit, HasMade, AreMade, AreServed, IsFound, AreAllMade, AreUsed}
 
 -- ---- one command
 
@@ -25,6 +30,19 @@ pub served_or_unfit : (purpose : Purpose) (m : NamedTree) (number : ℕ) (p : Bo
     → MatchResult found (IsServedFor purpose m number) (λ (words : Vec ℕ Global). IsUnusable purpose m number words.items)
 served_or_unfit purpose m number p (Ok x) is h = (h.0, subst (IsProblemOf m number) (sym h.1) is, subst (Fits purpose) (sym h.1) h.2)
 served_or_unfit purpose m number p (Err words) is h = inr (record { problem = p; is = is; unfit = h.0; words_are = h.1 })
+
+-- ---- formulas that are too large to build
+
+pub too_large : (m : NamedTree) (n : ℕ) (f : LowerFault) → IsRefusal m n (all_facts m) f → f ≡ lower.TooLarge → IsTooLarge m n
+too_large m n f refused same = subst (IsRefusal m n (all_facts m)) same refused
+
+pub large_command : (sessions : List SessionEntry) (place : ℕ) (m : NamedTree) (from number : ℕ) → IsLeastAsked sessions place from number → IsTooLarge m number → HasLargeCommand sessions place m
+large_command sessions place m from number least large = (number, least.asked, large)
+
+pub large_model : (sessions : List SessionEntry) (entries : List ModelEntry) (i : ℕ) (entry : ModelEntry) (text : List ℕ) → i < length entries → entry ≡ get_or entries i entry
+    → text ≡ entry.text → SaysLargeCommand sessions i text → HasLargeModel sessions entries
+large_model sessions entries i entry text l item told large =
+    (i, entry, slice_get_read entries (length entries) i entry refl l item, subst (SaysLargeCommand sessions i) told large)
 
 -- ---- the commands of one model
 

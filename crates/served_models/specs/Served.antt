@@ -1,5 +1,5 @@
 -- Which models and commands sessions can run on, and how the others are refused.
-use Rattle.std.specs.Prelude.{◌≡◌, ◌≢◌, ◌⊎◌, ◌+◌, ◌<◌, ◌≤◌, ℕ, List, [], ◌∷◌, ◌++◌, length, codes, decimal, Contains, All, AllPairs, Option, MatchOption, Vec}
+use Rattle.std.specs.Prelude.{◌≡◌, ◌≢◌, ◌⊎◌, ◌+◌, ◌<◌, ◌≤◌, ℕ, List, [], ◌∷◌, ◌++◌, length, codes, decimal, Contains, All, AllPairs, slice_get, Option, Some, MatchOption, Vec}
 use Rattle.std.specs.declared.alloc.Global.{Global}
 use Rattle.rel_formula.specs.Bounds.{Bounded, IsProblem}
 use Rattle.renaming_classes.specs.Counts.{IsNumberOfRenamings}
@@ -50,9 +50,13 @@ pub record IsUsable (purpose : Purpose) (sessions : List SessionEntry) (place : 
   pub says : SaysModel text m
   pub served : (number : ℕ) → IsAsked sessions place number → HasProblem purpose m number
 
--- a fault is no want of memory
+-- a fault is no want of memory, or of room
 abbrev pub IsToldOf : LowerFault → Type 0
-IsToldOf f = (f ≢ lower.Memory) × (f ≢ lower.Scope name.Memory)
+IsToldOf f = (f ≢ lower.Memory) × (f ≢ lower.TooLarge) × (f ≢ lower.Scope name.Memory)
+
+-- the formula of a model's command is too large to build
+abbrev pub IsTooLarge : NamedTree → ℕ → Type 0
+IsTooLarge m number = IsRefusal m number (all_facts m) lower.TooLarge
 
 -- a command has no problem, and these words tell why
 pub record LacksProblem (m : NamedTree) (number : ℕ) (words : List ℕ) : Type 0 where
@@ -111,6 +115,18 @@ pub record IsFirstRefused (purpose : Purpose) (sessions : List SessionEntry) (en
 -- the line that refuses the model of this name, with what is wrong with it
 abbrev pub model_line : List ℕ → List ℕ → List ℕ
 model_line name words = codes "fault model " ++ name ++ codes " " ++ words ++ codes "\n"
+
+-- a session is on a command of this model whose formula is too large to build
+abbrev pub HasLargeCommand : List SessionEntry → ℕ → NamedTree → Type 0
+HasLargeCommand sessions place m = (number : ℕ) × IsAsked sessions place number × IsTooLarge m number
+
+-- the text says such a model
+abbrev pub SaysLargeCommand : List SessionEntry → ℕ → List ℕ → Type 0
+SaysLargeCommand sessions place text = (m : NamedTree) × SaysModel text m × HasLargeCommand sessions place m
+
+-- and so does one of these
+abbrev pub HasLargeModel : List SessionEntry → List ModelEntry → Type 0
+HasLargeModel sessions entries = (place : ℕ) × (entry : ModelEntry) × (slice_get entries place ≡ Some entry) × SaysLargeCommand sessions place entry.text
 
 -- ---- what is made for sessions
 

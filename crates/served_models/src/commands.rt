@@ -1,11 +1,13 @@
 // The commands of a model on which sessions are.
-ghost use Rattle.std.specs.Prelude.{◌≡◌, IfOk, MatchResult};
+ghost use Rattle.std.specs.Prelude.{◌≡◌, IfOk, IfErr, MatchResult};
+ghost use Rattle.lowering_rules.specs.declared.fault.LowerStop.TheVariants as stop;
 ghost use Rattle.named_model.specs.View.{named_view};
 ghost use Rattle.rel_lower.specs.Lowered.{IsTyped};
-ghost use Rattle.served_models.specs.Served.{AreServed, Fits, IsUnfit, IsProblemOf, IsServedFor, LacksProblem, IsUnusable, renamings_words};
+ghost use Rattle.served_models.specs.Served.{AreServed, Fits, IsUnfit, IsTooLarge, HasLargeCommand, IsProblemOf, IsServedFor, LacksProblem, IsUnusable, renamings_words};
 
 use crate::numbers::next_asked;
 use crate::purposes::{Purpose, fits, renamings_words};
+use lowering_rules::LowerStop;
 use model_texts::fault_words::command_words;
 use named_model::Named;
 use rel_formula::Problem;
@@ -36,9 +38,10 @@ pub fn served(
     model: &Named,
     place: usize,
     sessions: &[SessionEntry],
-) -> Result<Commands, AllocError>
+) -> Result<Commands, LowerStop>
     requires { IsTyped (named_view model.now) }
-    ensures { IfOk result (AreServed purpose sessions.now place (named_view model.now)) }
+    ensures found { IfOk result (AreServed purpose sessions.now place (named_view model.now)) }
+    ensures large { IfErr result (λ e. e ≡ stop.TooLarge → HasLargeCommand sessions.now place (named_view model.now)) }
 {
     let mut made = Vec::new(alloc);
     let mut from = 0;
@@ -58,9 +61,10 @@ fn served_command(
     purpose: Purpose,
     model: &Named,
     number: u32,
-) -> Result<Result<ServedCommand, Vec<u8>>, AllocError>
+) -> Result<Result<ServedCommand, Vec<u8>>, LowerStop>
     requires { IsTyped (named_view model.now) }
-    ensures { IfOk result (λ found. MatchResult found (IsServedFor purpose (named_view model.now) number) (λ words. IsUnusable purpose (named_view model.now) number words.items)) }
+    ensures found { IfOk result (λ found. MatchResult found (IsServedFor purpose (named_view model.now) number) (λ words. IsUnusable purpose (named_view model.now) number words.items)) }
+    ensures large { IfErr result (λ e. e ≡ stop.TooLarge → IsTooLarge (named_view model.now) number) }
 {
     match problem_of(alloc, model, number)? {
         Ok(problem) => Ok(with_problem(alloc, purpose, number, problem)?),
@@ -69,14 +73,16 @@ fn served_command(
 }
 
 /// The problem of the model's command of this number, with all facts, or what stands behind the model's name in the line that
-/// tells why there is none. The error comes only for want of memory.
+/// tells why there is none. The error comes only for want of memory, and for a formula that is too large to build.
+#[tactic(auto, using(crate::proofs::Usables::too_large))]
 pub fn problem_of(
     alloc: Global,
     model: &Named,
     number: u32,
-) -> Result<Result<Problem, Vec<u8>>, AllocError>
+) -> Result<Result<Problem, Vec<u8>>, LowerStop>
     requires { IsTyped (named_view model.now) }
-    ensures { IfOk result (λ found. MatchResult found (IsProblemOf (named_view model.now) number) (λ words. LacksProblem (named_view model.now) number words.items)) }
+    ensures found { IfOk result (λ found. MatchResult found (IsProblemOf (named_view model.now) number) (λ words. LacksProblem (named_view model.now) number words.items)) }
+    ensures large { IfErr result (λ e. e ≡ stop.TooLarge → IsTooLarge (named_view model.now) number) }
 {
     match lower(alloc, model, number) {
         Ok(problem) => {

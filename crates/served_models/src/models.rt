@@ -1,9 +1,11 @@
 // The models of a script.
-ghost use Rattle.std.specs.Prelude.{◌≡◌, ◌≤◌, length, All, IfOk};
-ghost use Rattle.served_models.specs.Served.{AreFound, IsFound, model_line};
+ghost use Rattle.std.specs.Prelude.{◌≡◌, ◌≤◌, length, All, IfOk, IfErr};
+ghost use Rattle.lowering_rules.specs.declared.fault.LowerStop.TheVariants as stop;
+ghost use Rattle.served_models.specs.Served.{AreFound, IsFound, SaysLargeCommand, HasLargeModel, model_line};
 
 use crate::commands::{Commands, ServedCommand, served};
 use crate::purposes::Purpose;
+use lowering_rules::LowerStop;
 use model_texts::typed_texts::{ModelText, read_model};
 use script_format::{ModelEntry, SessionEntry};
 use std::alloc::{AllocError, Global};
@@ -25,9 +27,10 @@ pub fn read_models(
     purpose: Purpose,
     entries: &[ModelEntry],
     sessions: &[SessionEntry],
-) -> Result<Models, AllocError>
+) -> Result<Models, LowerStop>
     requires { All (λ m. length m.text ≤ 1048576) entries.now }
-    ensures { IfOk result (AreFound purpose sessions.now entries.now) }
+    ensures found { IfOk result (AreFound purpose sessions.now entries.now) }
+    ensures large { IfErr result (λ e. e ≡ stop.TooLarge → HasLargeModel sessions.now entries.now) }
 {
     let mut models = Vec::new(alloc);
     for (place, entry) in entries.iter().enumerate() {
@@ -49,9 +52,10 @@ fn read_served(
     text: &str,
     place: usize,
     sessions: &[SessionEntry],
-) -> Result<Commands, AllocError>
+) -> Result<Commands, LowerStop>
     requires { length text.now ≤ 1048576 }
-    ensures { IfOk result (IsFound purpose sessions.now place text.now) }
+    ensures found { IfOk result (IsFound purpose sessions.now place text.now) }
+    ensures large { IfErr result (λ e. e ≡ stop.TooLarge → SaysLargeCommand sessions.now place text.now) }
 {
     match read_model(alloc, text)? {
         ModelText::Typed(model) => Ok(served(alloc, purpose, &model, place, sessions)?),

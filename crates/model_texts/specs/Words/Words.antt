@@ -88,6 +88,7 @@ lower_kind (lower.Scope f) = name_kind f
 lower_kind lower.TooManyRelations = codes "too_many_relations"
 lower_kind lower.TooManyCells = codes "too_many_cells"
 lower_kind lower.TooManyTerms = codes "too_many_terms"
+lower_kind lower.TooLarge = []
 lower_kind lower.Memory = []
 
 -- the command's number stands before what is wrong with it

@@ -83,6 +83,7 @@ many_told m sizes o room (fault.Scope e) few many h = absurd h
 many_told m sizes o room fault.TooManyRelations few many h = absurd h
 many_told m sizes o room fault.TooManyCells few many h = (few, many h)
 many_told m sizes o room fault.TooManyTerms few many h = absurd h
+many_told m sizes o room fault.TooLarge few many h = absurd h
 many_told m sizes o room fault.Memory few many h = tt
 
 pub field_at : (fields items : List Field) (i : ℕ) (x : Field) → items ≡ fields → i < length items → x ≡ get_or items i x

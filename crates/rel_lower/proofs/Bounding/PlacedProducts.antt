@@ -79,6 +79,7 @@ weaker_too_large room P Q (fault.Scope e) g h = absurd h
 weaker_too_large room P Q fault.TooManyRelations g h = absurd h
 weaker_too_large room P Q fault.TooManyCells g h = weaker_at_least (room + 1) P Q g h
 weaker_too_large room P Q fault.TooManyTerms g h = absurd h
+weaker_too_large room P Q fault.TooLarge g h = absurd h
 weaker_too_large room P Q fault.Memory g h = tt
 
 pub more_than : (room n : ℕ) (v : Rows) (P : Pred) → IsRows v → room < length v.rows → IsSetOf v n P → HasAtLeast (room + 1) P

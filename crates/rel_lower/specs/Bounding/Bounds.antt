@@ -4,7 +4,7 @@ use Rattle.std.specs.List.{AllZip}
 use Rattle.tuple_core.specs.Operators.{Pred}
 use Rattle.tuple_core.specs.Rows.{IsRows}
 use Rattle.rel_formula.specs.declared.problem.Relation.{Relation}
-use Rattle.rel_formula.specs.Bounds.{cells_from}
+use Rattle.rel_formula.specs.Bounds.{cells_from, most_cells}
 use Rattle.rel_formula.specs.Meaning.{HasAtLeast}
 use Rattle.named_model.specs.declared.named.Signature.{Signature}
 use Rattle.named_model.specs.Phrase.{PhraseTree, LinkTrees}
@@ -40,11 +40,11 @@ pub record AreRelations (m : NamedTree) (sizes : List Size) (rs : List Relation)
   pub outlined : AllZip (IsOutlined sizes) (outlines m sizes) rs
   pub sets : All (λ (r : Relation). IsRows r.lower × IsRows r.upper) rs
   pub few : length rs ≤ 128
-  pub few_cells : length (cells_from 0 rs) ≤ 4096
+  pub few_cells : length (cells_from 0 rs) ≤ most_cells
 
 -- there are too many relations, or else too many cells
 abbrev pub IsTooMany : NamedTree → List Size → LowerFault → Type 0
 IsTooMany m sizes fault.TooManyRelations = 128 < length (outlines m sizes)
-IsTooMany m sizes fault.TooManyCells = (length (outlines m sizes) ≤ 128) × HasMoreCells sizes (outlines m sizes) 4096
+IsTooMany m sizes fault.TooManyCells = (length (outlines m sizes) ≤ 128) × HasMoreCells sizes (outlines m sizes) most_cells
 IsTooMany m sizes fault.Memory = Unit {0}
 IsTooMany m sizes other = ⊥

@@ -11,24 +11,25 @@ use crate::field_formulas::words::{add_arrow, add_unary};
 use crate::signature_formulas::relations::relation;
 use body_lowering::kernel_parts::expressions::product;
 use body_lowering::{Room, bodies};
+use lowering_rules::{LowerStop, TooLarge};
 use named_model::Named;
 use named_model::named::Field;
 use rel_formula::{Comparison, Formula};
-use std::alloc::{AllocError, Global};
+use std::alloc::Global;
 
 /// Adds what is said of all fields of a model, in order of declaration. A relation's number above 255 is answered as want of
-/// memory, and so is a model whose bounds have more nodes than there is room for.
+/// memory; bounds may be too large to build.
 pub fn add_fields(
     alloc: Global,
     formulas: &mut Vec<Formula>,
     model: &Named,
     room: &mut Room,
-) -> Result<(), AllocError>
+) -> Result<(), LowerStop>
     ensures { IfOk result (λ _. Says formulas.old.items formulas.new.items (fields_say (base_of (named_view model.now)) (field_number (length model.now.signatures.items) 0) (map field_view model.now.fields.items))) }
 {
     let first = model.signatures.len();
     for field in 0..model.fields.len() {
-        let number = first.checked_add(field).ok_or(AllocError)?;
+        let number = first.checked_add(field).ok_or(TooLarge)?;
         add_field(alloc, formulas, model, room, number, &model.fields[field])?;
     }
     Ok(())
@@ -43,7 +44,7 @@ pub fn add_field(
     room: &mut Room,
     number: usize,
     field: &Field,
-) -> Result<(), AllocError>
+) -> Result<(), LowerStop>
     ensures { IfOk result (λ _. Says formulas.old.items formulas.new.items (field_says (base_of (named_view model.now)) number (field_view field.now))) }
 {
     add_bound(alloc, formulas, model, room, number, field)?;
@@ -59,7 +60,7 @@ fn add_bound(
     room: &mut Room,
     number: usize,
     field: &Field,
-) -> Result<(), AllocError>
+) -> Result<(), LowerStop>
     ensures { IfOk result (λ _. Says formulas.old.items formulas.new.items (within (rel number) (product (rel field.now.owner) (expression_in (lowered (base_of (named_view model.now)) [] 0 (phrase_view field.now.bound)))) ∷ [])) }
 {
     let bound = bodies::expression(alloc, model, room, 0, &field.bound)?;

@@ -15,6 +15,7 @@ use alloy_syntax::tree::MultiplicityWord;
 use body_lowering::kernel_parts::counts::{marked, one_of};
 use body_lowering::kernel_parts::expressions::join;
 use body_lowering::{Room, bodies};
+use lowering_rules::LowerStop;
 use model_types::part_sorts::bounds::bound_arity;
 use named_model::Named;
 use named_model::named::Field;
@@ -61,7 +62,7 @@ pub fn add_arrow(
     room: &mut Room,
     number: usize,
     field: &Field,
-) -> Result<(), AllocError>
+) -> Result<(), LowerStop>
     ensures { IfOk result (λ _. Says formulas.old.items formulas.new.items (arrow_says (base_of (named_view model.now)) number (field_view field.now) (sides_of (phrase_view field.now.bound)))) }
 {
     match sides(&field.bound) {
@@ -82,7 +83,7 @@ fn add_right(
     number: usize,
     field: &Field,
     left: &Phrase,
-) -> Result<(), AllocError>
+) -> Result<(), LowerStop>
     ensures { IfOk result (λ _. Says formulas.old.items formulas.new.items (right_says (base_of (named_view model.now)) number (field_view field.now) (phrase_view left.now))) }
 {
     let of_owner = join(alloc, Expression::Var(1), relation(number)?)?;
@@ -100,7 +101,7 @@ fn add_left(
     number: usize,
     field: &Field,
     right: &Phrase,
-) -> Result<(), AllocError>
+) -> Result<(), LowerStop>
     ensures { IfOk result (λ _. Says formulas.old.items formulas.new.items (left_says (base_of (named_view model.now)) number (field_view field.now) (phrase_view right.now))) }
 {
     let of_owner = join(alloc, Expression::Var(1), relation(number)?)?;
@@ -118,7 +119,7 @@ fn add_for_side(
     owner: usize,
     side: &Phrase,
     says: Option<Formula>,
-) -> Result<(), AllocError>
+) -> Result<(), LowerStop>
     ensures { IfOk result (λ _. Says formulas.old.items formulas.new.items (map (λ g. for_all (rel owner) (for_all (expression_in (lowered (base_of (named_view model.now)) [] 1 (phrase_view side.now))) g)) (option_to_list (option_map formula_tree says)))) }
 {
     match says {

@@ -9,10 +9,11 @@ ghost use Rattle.lowering_rules.specs.Formula.{block_says, command_says, is_chec
 use alloy_syntax::tree::CommandKind;
 use body_lowering::kernel_parts::connectives::negation_if;
 use body_lowering::{Room, bodies};
+use lowering_rules::LowerStop;
 use named_model::Named;
 use named_model::named::{Command, Target};
 use rel_formula::Formula;
-use std::alloc::{AllocError, Global};
+use std::alloc::Global;
 
 /// What a command says: that what it runs is true, or that what it checks is not.
 pub fn command_formula(
@@ -20,11 +21,11 @@ pub fn command_formula(
     model: &Named,
     room: &mut Room,
     command: &Command,
-) -> Result<Formula, AllocError>
+) -> Result<Formula, LowerStop>
     ensures { IfOk result (λ f. formula_tree f ≡ command_says (named_view model.now) (base_of (named_view model.now)) (command_view command.now)) }
 {
     let target = target_formula(alloc, model, room, &command.target)?;
-    negation_if(alloc, is_check(command.kind), target)
+    Ok(negation_if(alloc, is_check(command.kind), target)?)
 }
 
 // Whether the command is a `check`.
@@ -40,7 +41,7 @@ fn target_formula(
     model: &Named,
     room: &mut Room,
     target: &Target,
-) -> Result<Formula, AllocError>
+) -> Result<Formula, LowerStop>
     ensures { IfOk result (λ f. formula_tree f ≡ target_says (named_view model.now) (base_of (named_view model.now)) (target_view target.now)) }
 {
     match target {
@@ -55,7 +56,7 @@ fn predicate_formula(
     model: &Named,
     room: &mut Room,
     number: usize,
-) -> Result<Formula, AllocError>
+) -> Result<Formula, LowerStop>
     ensures { IfOk result (λ f. formula_tree f ≡ predicate_says (base_of (named_view model.now)) (slice_get (named_view model.now).callees number)) }
 {
     match model.callees.get(number) {
@@ -69,7 +70,7 @@ fn assertion_formula(
     model: &Named,
     room: &mut Room,
     number: usize,
-) -> Result<Formula, AllocError>
+) -> Result<Formula, LowerStop>
     ensures { IfOk result (λ f. formula_tree f ≡ block_says (base_of (named_view model.now)) (slice_index_or (named_view model.now).assertions number no_phrases)) }
 {
     match model.assertions.get(number) {

@@ -7,9 +7,10 @@ ghost use Rattle.lowering_rules.specs.Formula.{fact_says};
 ghost use Rattle.rel_lower.specs.Signatures.Said.{Says};
 
 use body_lowering::{Room, bodies};
+use lowering_rules::LowerStop;
 use named_model::Named;
 use rel_formula::Formula;
-use std::alloc::{AllocError, Global};
+use std::alloc::Global;
 
 /// Adds what these facts say, in this order. Facts are numbered from 1.
 pub fn add_facts(
@@ -18,7 +19,7 @@ pub fn add_facts(
     model: &Named,
     room: &mut Room,
     facts: &[usize],
-) -> Result<(), AllocError>
+) -> Result<(), LowerStop>
     ensures { IfOk result (λ _. Says formulas.old.items formulas.new.items (map (fact_says (named_view model.now) (base_of (named_view model.now))) facts.now)) }
 {
     for fact in facts {
@@ -34,7 +35,7 @@ fn fact_formula(
     model: &Named,
     room: &mut Room,
     fact: usize,
-) -> Result<Formula, AllocError>
+) -> Result<Formula, LowerStop>
     ensures { IfOk result (λ f. formula_tree f ≡ fact_says (named_view model.now) (base_of (named_view model.now)) fact) }
 {
     match model.facts.get(fact.saturating_sub(1)) {

@@ -10,20 +10,21 @@ use crate::problem_formula::commands::command_formula;
 use crate::problem_formula::facts::add_facts;
 use crate::signature_formulas::signatures::add_signatures;
 use body_lowering::Room;
+use lowering_rules::LowerStop;
 use named_model::Named;
 use named_model::named::{Command, Listing};
 use rel_formula::Formula;
-use std::alloc::{AllocError, Global};
+use std::alloc::Global;
 
 /// The formula of the problem of a model and a command with these facts, which are numbered from 1: what is said of each
-/// signature and each field, what the facts say, and what the command says. A relation's number above 255 is answered as want
-/// of memory, and so is a formula with more nodes than `Room::new()` has room for.
+/// signature and each field, what the facts say, and what the command says. It is too large where it would take more nodes
+/// than `Room::new()` has, or more levels than a body may have; a relation's number above 255 is answered as want of memory.
 pub fn formula_of(
     alloc: Global,
     model: &Named,
     command: &Command,
     facts: &[usize],
-) -> Result<Formula, AllocError>
+) -> Result<Formula, LowerStop>
     ensures { IfOk result (λ f. formula_tree f ≡ formula.formula_of (named_view model.now) (command_view command.now) facts.now) }
 {
     let mut room = Room::new();
