@@ -1,5 +1,5 @@
 -- The search for offers on its way.
-use Rattle.std.proofs.Common.{◌≡◌, ◌≢◌, ◌↔◌, ◌⊎◌, inl, inr, ◌<◌, ◌+◌, ◌-◌, ℕ, Bool, true, false, List, [], ◌∷◌, ◌++◌, replicate, length, get_or, sum_by, All, AllPairs, Contains, IsTrue, refl, sym, ◌∙◌, ap, subst, arith}
+use Rattle.std.proofs.Common.{◌≡◌, ◌≢◌, ◌↔◌, ◌⊎◌, inl, inr, ◌<◌, ◌≤◌, ◌+◌, ◌-◌, ℕ, Bool, true, false, List, [], ◌∷◌, ◌++◌, replicate, length, get_or, sum_by, All, AllPairs, Contains, IsTrue, refl, sym, ◌∙◌, ap, subst, arith}
 use Rattle.std.specs.List.{AllZip}
 use Rattle.std.proofs.lemmas.Bool.{cases_lt, cases_Bool}
 use Rattle.std.proofs.lemmas.List.{get_or-replicate, length-replicate}
@@ -222,6 +222,10 @@ others_refuted t pool scenario budget upto marks parts left trying all cells exa
   | inl marked ↦ absurd (out ((exactly cell).1 ((let e = trying.count in omega arith), absent, marked)))
   | inr unmarked ↦ trying.refuted cell (omega arith) absent unmarked
 ]
+
+-- a count that was raised by no more than the novel steps of one more part
+pub counted : (t : Translated) (pool : List LogStep) (parts : List Parted) (part : Parted) (first old new : ℕ) → new ≤ old + novel_in t pool (part ∷ []) → old ≤ first + novel_in t pool parts → new ≤ first + novel_in t pool (parts ++ part ∷ [])
+counted t pool parts part first old new rose before = omega (arith, sum_by-append (λ (p : Parted). novel_steps (given_to t pool p) p.log) parts (part ∷ []), rose, before)
 
 -- a scenario of cells with one cell more is one too
 pub with_cell_in : (p : Bounded) (scenario : List ℕ) (cell : ℕ) → AreCells p scenario → cell < length (cells_of p) → AreCells p (with_cell cell scenario)

@@ -1,5 +1,5 @@
 -- What an answer of the solver says of a search for an instance with some cells.
-use Rattle.std.proofs.Common.{◌≡◌, ◌≢◌, ◌≤◌, ◌-◌, ℕ, Bool, List, [], ◌∷◌, ◌++◌, length, All, refl, ap, subst, arith}
+use Rattle.std.proofs.Common.{◌≡◌, ◌≢◌, ◌≤◌, ◌+◌, ◌-◌, ℕ, Bool, List, [], ◌∷◌, ◌++◌, length, All, refl, ap, subst, arith}
 use Rattle.std.proofs.lemmas.List.{length-map}
 use Rattle.std.proofs.lemmas.List.Elements.{All-map, All-take}
 use Rattle.cnf_core.specs.declared.literal.Lit.{Lit}
@@ -12,12 +12,14 @@ use Rattle.rel_formula.specs.Bounds.{Bounded, cells_of}
 use Rattle.rel_formula.specs.Instance.{AreCells, IsInstance}
 use Rattle.sat_core.specs.declared.search.Answer.{Answer}
 use Rattle.sat_core.specs.declared.search.Answer.TheVariants.{Found, Refuted, Spent}
-use Rattle.sat_core.specs.Answers.{log_of, HasEmptyOnlyLast, IsRight, IsStopped, NamesNoUnits}
+use Rattle.sat_core.specs.Answers.{learnt_in, log_of, HasEmptyOnlyLast, IsRight, IsStopped, NamesNoUnits}
+use Rattle.sat_core.specs.Count.{raised}
 use Rattle.sat_core.specs.Search.{IsAnswerTo}
+use Rattle.sat_core.proofs.Counts.{learnt_novel}
 use Rattle.translation_rules.specs.Translation.{Translated, IsSatisfiableAt, var_of}
 use Rattle.translation_rules.specs.Locals.{literal_of, units_of}
 use Rattle.translation_rules.specs.Offers.{IsPossible}
-use Rattle.translation_rules.specs.Parts.{GoesOn}
+use Rattle.translation_rules.specs.Parts.{GoesOn, novel_in}
 use Rattle.augmenter.specs.Search.{IsSearchFor, GivesInstance}
 use Rattle.augmenter.proofs.AllNovel.{all_novel, none_empty}
 use Rattle.augmenter.proofs.FreedLogs.{HintsNameMembers, all_are_free, ended_is_free}
@@ -53,6 +55,11 @@ told_stopped t pool cells f asked a e same stopped = subst (λ (g : Formula). Is
 pub spent_goes_on : (t : Translated) (pool : List LogStep) (cells : List ℕ) (budget : ℕ) (log : List LogStep) → Told t pool cells budget (Spent log) → IsStopped (t.cnf.clauses ++ units_of cells) pool (Spent log) →
     GoesOn t pool (record { local = units_of cells; log = log })
 spent_goes_on t pool cells budget log told stopped = record { no_empty = told.answer.2; step = stopped.0; one_more = stopped.1 }
+
+-- what the search raised a count by is novel
+pub counted : (t : Translated) (pool : List LogStep) (cells : List ℕ) (budget : ℕ) (a : Answer) (old new : ℕ) → Told t pool cells budget a → new ≡ raised old (learnt_in a) →
+    new ≤ old + novel_in t pool (record { local = units_of cells; log = log_of a } ∷ [])
+counted t pool cells budget a old new told rose = omega (arith, learnt_novel t.cnf.vars (t.cnf.clauses ++ units_of cells) pool budget a told.log told.answer, rose)
 
 -- no unit is empty
 units_some : (cells : List ℕ) → All (λ (c : List Lit). c ≢ []) (units_of cells)

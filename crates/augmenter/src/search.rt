@@ -1,15 +1,16 @@
 // One search for an instance that has some cells.
-ghost use Rattle.std.specs.Prelude.{◌≤◌, length, IfOk};
-ghost use Rattle.refutation_check.specs.Chain.{IsAccepted};
+ghost use Rattle.std.specs.Prelude.{◌≤◌, ◌+◌, ◌∷◌, [], IfOk};
 ghost use Rattle.rel_formula.specs.Instance.{AreCells};
 ghost use Rattle.sat_trail.specs.Trailed.{IsBase};
+ghost use Rattle.translation_rules.specs.Imports.{IsImport};
+ghost use Rattle.translation_rules.specs.Parts.{novel_in};
 ghost use Rattle.augmenter.specs.Search.{part_in, IsSearchFor, IsRightFor, IsStoppedFor};
 
 use clause_pool::accepted_hints_name_members;
 use cnf_core::Valuation;
 use refutation_check::{Log, Part, accepted_is_entailed};
 use rel_formula::Scenario;
-use sat_core::{Answer, SavedPhases, Trail, solve_from};
+use sat_core::{Answer, SavedPhases, StepCount, Trail, solve_from};
 use std::alloc::{AllocError, Global};
 use translation::Translation;
 use translation_rules::laws::units_say_what_is_possible;
@@ -29,26 +30,28 @@ pub enum Sought {
 /// Searches for an instance that has these cells.
 ///
 /// The local clauses say of each cell that it is there, and only an empty step, which is the last one, rests on them. The
-/// search takes at most `budget` steps, which is at most 100,000,000. The pool is an accepted log over the translation's
-/// clauses, of at most 20,000 steps. The error comes only for want of memory.
+/// search takes at most `budget` steps, which is at most 100,000,000, and raises the count by no more, whatever it comes to. The
+/// pool is an accepted log over the translation's clauses, of at most 20,000 steps. The error comes only for want of memory.
 pub fn seek(
     alloc: Global,
     translation: &Translation,
     pool: &Log,
     cells: &Scenario,
     budget: u64,
+    count: &mut StepCount,
 ) -> Result<Sought, AllocError>
-    requires pool { IsAccepted translation.now.cnf.clauses pool.now }
-    requires few { length pool.now ≤ 20000 }
+    requires import { IsImport translation.now pool.now }
     requires cells { AreCells translation.now.problem cells.now }
     requires budget { budget ≤ 100000000 }
     ensures part { IfOk result (λ sought. IsSearchFor translation.now pool.now cells.now budget (part_in sought)) }
     ensures answer { IfOk result (IsRightFor translation.now pool.now cells.now budget) }
     ensures stopped { IfOk result (IsStoppedFor translation.now pool.now) }
+    ensures novel { IfOk result (λ sought. count.new ≤ count.old + novel_in translation.now pool.now (part_in sought ∷ [])) }
+    ensures spent { count.new ≤ count.old + budget }
 {
     let cnf = translation.cnf();
     let base = Trail::over(alloc, cnf, cnf.vars())?;
-    seek_from(alloc, translation, &base, pool, cells, budget)
+    seek_from(alloc, translation, &base, pool, cells, budget, count)
 }
 
 /// Searches as `seek` does, from a trail of the translation's formula, which serves any number of searches.
@@ -59,15 +62,17 @@ pub(crate) fn seek_from(
     pool: &Log,
     cells: &Scenario,
     budget: u64,
+    count: &mut StepCount,
 ) -> Result<Sought, AllocError>
     requires base { IsBase translation.now.cnf base.now }
-    requires pool { IsAccepted translation.now.cnf.clauses pool.now }
-    requires few { length pool.now ≤ 20000 }
+    requires import { IsImport translation.now pool.now }
     requires cells { AreCells translation.now.problem cells.now }
     requires budget { budget ≤ 100000000 }
     ensures part { IfOk result (λ sought. IsSearchFor translation.now pool.now cells.now budget (part_in sought)) }
     ensures answer { IfOk result (IsRightFor translation.now pool.now cells.now budget) }
     ensures stopped { IfOk result (IsStoppedFor translation.now pool.now) }
+    ensures novel { IfOk result (λ sought. count.new ≤ count.old + novel_in translation.now pool.now (part_in sought ∷ [])) }
+    ensures spent { count.new ≤ count.old + budget }
 {
     accepted_hints_name_members();
     accepted_is_entailed();
@@ -83,6 +88,7 @@ pub(crate) fn seek_from(
         local.as_slice(),
         budget,
         &mut leaning,
+        count,
     )? {
         Answer::Found { valuation, log } => {
             let part = Part::of(local, log);

@@ -1,9 +1,12 @@
 // A search for an instance that has some cells, tried first on a trail that serves again.
-ghost use Rattle.std.specs.Prelude.{◌≡◌, ◌≤◌, ◌<◌, ◌^◌, ◌+◌, ◌++◌, [], length, IfOk, IfSome, OnOk};
+ghost use Rattle.std.specs.Prelude.{◌≡◌, ◌≤◌, ◌<◌, ◌^◌, ◌+◌, ◌++◌, ◌∷◌, [], length, IfOk, IfSome, OnOk};
 ghost use Rattle.refutation_check.specs.Chain.{members_of, IsAccepted, IsChain};
+ghost use Rattle.refutation_check.specs.Pool.{most_pool_steps};
 ghost use Rattle.rel_formula.specs.Bounds.{cells_of};
 ghost use Rattle.rel_formula.specs.Instance.{AreCells, with_cell};
 ghost use Rattle.sat_trail.specs.Trailed.{IsBase};
+ghost use Rattle.translation_rules.specs.Imports.{IsImport};
+ghost use Rattle.translation_rules.specs.Parts.{novel_in};
 ghost use Rattle.augmenter.specs.Search.{part_in, IsSearchFor, IsRightFor, IsStoppedFor};
 ghost use Rattle.augmenter.specs.Raising.{HasCells, Serves};
 
@@ -13,7 +16,7 @@ use clause_pool::accepted_hints_name_members;
 use cnf_core::{Clause, Valuation};
 use refutation_check::{Log, Part, Step, accepted_is_entailed};
 use rel_formula::Scenario;
-use sat_core::Trail;
+use sat_core::{StepCount, Trail};
 use sat_trail::{Propagated, learn};
 use std::alloc::{AllocError, Global};
 use translation::Translation;
@@ -29,7 +32,7 @@ pub(crate) fn trail_with(
     scenario: &Scenario,
 ) -> Result<Trail, AllocError>
     requires base { IsBase translation.now.cnf base.now }
-    requires few { length pool.now ≤ 20000 }
+    requires few { length pool.now ≤ most_pool_steps }
     requires scenario { AreCells translation.now.problem scenario.now }
     ensures { IfOk result (Serves translation.now pool.now scenario.now) }
 {
@@ -51,11 +54,11 @@ pub(crate) fn seek_on(
     cell: u32,
     marks: &[bool],
     budget: u64,
+    count: &mut StepCount,
 ) -> Result<Sought, AllocError>
     requires base { IsBase translation.now.cnf base.now }
     requires trail { Serves translation.now pool.now scenario.now trail.old }
-    requires pool { IsAccepted translation.now.cnf.clauses pool.now }
-    requires few { length pool.now ≤ 20000 }
+    requires import { IsImport translation.now pool.now }
     requires scenario { AreCells translation.now.problem scenario.now }
     requires cell { cell < length (cells_of translation.now.problem) }
     requires marks { length marks.now ≡ length (cells_of translation.now.problem) }
@@ -64,6 +67,8 @@ pub(crate) fn seek_on(
     ensures part { IfOk result (λ sought. IsSearchFor translation.now pool.now (with_cell cell scenario.now) budget (part_in sought)) }
     ensures answer { IfOk result (IsRightFor translation.now pool.now (with_cell cell scenario.now) budget) }
     ensures stopped { IfOk result (IsStoppedFor translation.now pool.now) }
+    ensures novel { IfOk result (λ sought. count.new ≤ count.old + novel_in translation.now pool.now (part_in sought ∷ [])) }
+    ensures spent { count.new ≤ count.old + budget }
 {
     let _ = translation.problem().relations(); // for the proof
     let wanted = with(alloc, scenario, cell)?;
@@ -74,7 +79,7 @@ pub(crate) fn seek_on(
     } else if let Some(sought) = refused(alloc, translation, base, pool, &wanted, budget)? {
         return Ok(sought);
     }
-    seek_from(alloc, translation, base, pool, &wanted, budget)
+    seek_from(alloc, translation, base, pool, &wanted, budget, count)
 }
 
 // The scenario with one more cell.
@@ -121,8 +126,7 @@ fn refused(
     budget: u64,
 ) -> Result<Option<Sought>, AllocError>
     requires base { IsBase translation.now.cnf base.now }
-    requires pool { IsAccepted translation.now.cnf.clauses pool.now }
-    requires few { length pool.now ≤ 20000 }
+    requires import { IsImport translation.now pool.now }
     requires cells { AreCells translation.now.problem cells.now }
     requires budget { budget ≤ 100000000 }
     ensures part { IfOk result (λ refused. IfSome refused (λ sought. IsSearchFor translation.now pool.now cells.now budget (part_in sought))) }

@@ -9,7 +9,7 @@ use crate::found::{Called, End, Found};
 use crate::searches::{is_right, size_of};
 use cnf_core::{Clause, Cnf};
 use refutation_check::Log;
-use sat_core::{Answer, solve};
+use sat_core::{Answer, StepCount, solve};
 use std::alloc::{AllocError, Global};
 
 // The most steps of a call.
@@ -94,7 +94,15 @@ fn called(alloc: Global, f: &Cnf, calls: u32) -> Result<Called, AllocError>
     let mut called = none_called();
     for call in 0..calls {
         let units = units_of(alloc, f.vars(), call)?;
-        let answer = solve(alloc, f, &Log::new(alloc), units.as_slice(), BUDGET)?;
+        let mut steps = StepCount::new();
+        let answer = solve(
+            alloc,
+            f,
+            &Log::new(alloc),
+            units.as_slice(),
+            BUDGET,
+            &mut steps,
+        )?;
         count(&mut called, &answer);
     }
     Ok(called)
@@ -109,7 +117,15 @@ fn checked(alloc: Global, f: &Cnf, calls: u32) -> Result<Option<Called>, AllocEr
     let mut called = none_called();
     for call in 0..calls {
         let units = units_of(alloc, f.vars(), call)?;
-        let answer = solve(alloc, f, &Log::new(alloc), units.as_slice(), BUDGET)?;
+        let mut steps = StepCount::new();
+        let answer = solve(
+            alloc,
+            f,
+            &Log::new(alloc),
+            units.as_slice(),
+            BUDGET,
+            &mut steps,
+        )?;
         if !is_right_with(alloc, f, units.as_slice(), &answer)? {
             return Ok(None);
         }

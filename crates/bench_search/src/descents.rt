@@ -9,6 +9,7 @@ use augmenter::{Offers, offers};
 use minimiser::{Down, minimise};
 use refutation_check::{Log, Part};
 use rel_formula::{Problem, Scenario, holds};
+use sat_core::StepCount;
 use std::alloc::{AllocError, Global};
 use translation::Translation;
 
@@ -85,7 +86,16 @@ fn descended(
         return Ok(None);
     }
     let floor = Scenario::new(alloc);
-    match minimise(alloc, made, &Log::new(alloc), &floor, &start, BUDGET)? {
+    let mut steps = StepCount::new();
+    match minimise(
+        alloc,
+        made,
+        &Log::new(alloc),
+        &floor,
+        &start,
+        BUDGET,
+        &mut steps,
+    )? {
         Down::Minimal { scenario, parts } => Ok(Some(Descended {
             from: start.len(),
             to: scenario.len(),
@@ -106,7 +116,8 @@ fn offered(alloc: Global, made: &Translation) -> Result<Option<Offered>, AllocEr
     if !holds(alloc, problem, &scenario)? {
         return Ok(None);
     }
-    match offers(alloc, made, &Log::new(alloc), &scenario, BUDGET)? {
+    let mut steps = StepCount::new();
+    match offers(alloc, made, &Log::new(alloc), &scenario, BUDGET, &mut steps)? {
         Offers::Exactly { cells, parts } => Ok(Some(Offered {
             at: scenario.len(),
             outside: (problem.cells() as usize).saturating_sub(scenario.len()),

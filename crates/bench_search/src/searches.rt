@@ -12,7 +12,7 @@ use crate::formulas::of_kind;
 use crate::found::{End, Found, Searched};
 use cnf_core::{Cnf, Lit, Valuation};
 use refutation_check::{Log, Scratch, Verdict, accepted_is_entailed, check};
-use sat_core::{Answer, solve};
+use sat_core::{Answer, StepCount, solve};
 use std::alloc::{AllocError, Global};
 
 /// The most steps of a search.
@@ -47,7 +47,8 @@ pub fn found(
 fn searched(alloc: Global, f: &Cnf) -> Result<Searched, AllocError>
     requires { length f.now.clauses ≤ 1000000 }
 {
-    let answer = solve(alloc, f, &Log::new(alloc), &[], BUDGET)?;
+    let mut steps = StepCount::new();
+    let answer = solve(alloc, f, &Log::new(alloc), &[], BUDGET, &mut steps)?;
     Ok(size_of(&answer))
 }
 
@@ -57,7 +58,8 @@ fn checked(alloc: Global, f: &Cnf) -> Result<Option<Searched>, AllocError>
     ensures { IfOk result (λ told. IfSome told (λ s. IsTold f.now.clauses s.end)) }
 {
     let _vars = f.vars(); // for the proof
-    let answer = solve(alloc, f, &Log::new(alloc), &[], BUDGET)?;
+    let mut steps = StepCount::new();
+    let answer = solve(alloc, f, &Log::new(alloc), &[], BUDGET, &mut steps)?;
     if is_right(alloc, f, &answer)? {
         return Ok(Some(size_of(&answer)));
     }

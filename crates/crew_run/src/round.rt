@@ -8,10 +8,10 @@ use crate::leaning::leaning_of;
 use crate::reading::Reading;
 use refutation_check::{Log, Part};
 use rel_formula::Scenario;
-use sat_core::{SavedPhases, Trail};
+use sat_core::{SavedPhases, StepCount, Trail};
 use session_rules::Parts;
 use session_rules::laws::a_refuting_part_makes_a_proof;
-use session_state::search_rounds::{RoundEnd, all_vars, joined, proof_of, round_at};
+use session_state::search_rounds::{RoundEnd, joined, proof_of, round_at};
 use std::alloc::{AllocError, Global};
 use translation::Translation;
 
@@ -34,7 +34,7 @@ pub(crate) fn searcher_of(
 ) -> Result<Searcher, AllocError>
     ensures { IfOk result (IsSearcher translation.now) }
 {
-    let base = Trail::over(alloc, translation.cnf(), all_vars(translation))?;
+    let base = Trail::over(alloc, translation.cnf(), translation.vars())?;
     let trail = base.copy(alloc)?;
     let leaning = leaning_of(alloc, worker, translation.problem().cells())?;
     Ok(Searcher {
@@ -47,19 +47,21 @@ pub(crate) fn searcher_of(
 }
 
 impl Searcher {
-    // What one round comes to, with all that was read of the journal blocked.
+    // What one round comes to, with all that was read of the journal blocked. Its searches raise the count by no more than the budget.
     pub(crate) fn event(
         &mut self,
         alloc: Global,
         translation: &Translation,
         reading: &Reading,
         budget: u64,
+        count: &mut StepCount,
     ) -> Result<CrewEvent, AllocError>
         requires searcher { IsSearcher translation.now self.old }
         requires read { IsReadable translation.now reading.now }
         requires budget { budget ≤ 100000000 }
         ensures searcher { OnOk result (IsSearcher translation.now self.new) }
         ensures event { IfOk result (IsEventOf translation.now budget reading.now) }
+        ensures spent { count.new ≤ count.old + budget }
     {
         let end = round_at(
             alloc,
@@ -72,6 +74,7 @@ impl Searcher {
             reading.told.as_slice(),
             budget,
             &mut self.leaning,
+            count,
         )?;
         event_of(alloc, translation, reading, budget, end)
     }

@@ -8,6 +8,7 @@ use crate::reading::Reading;
 use crate::round::{Searcher, searcher_of};
 use crate::turns::{read_on, write_down};
 use hub_lock::{Gate, Pass, Turns};
+use sat_core::StepCount;
 use std::alloc::{AllocError, Global};
 use std::sync::Wait;
 use translation::Translation;
@@ -51,7 +52,7 @@ pub(crate) fn work<R: Wait, G: Gate>(
     );
 }
 
-// The rounds. None but the last leaves what the crew has told as it was, so these are enough.
+// The rounds, each with a count of its own. None but the last leaves what the crew has told as it was, so these are enough.
 fn rounds<R: Wait, G: Gate>(
     rt: &R,
     alloc: Global,
@@ -76,7 +77,8 @@ fn rounds<R: Wait, G: Gate>(
         if !read_on(rt, alloc, lock, pass, &mut reading)? {
             return Ok(());
         }
-        let event = searcher.event(alloc, translation, &reading, budget)?;
+        let mut count = StepCount::new();
+        let event = searcher.event(alloc, translation, &reading, budget, &mut count)?;
         let is_last = event.told().is_none();
         write_down(rt, lock, pass, reading.read, event)?;
         if is_last {

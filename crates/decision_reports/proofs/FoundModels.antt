@@ -12,12 +12,12 @@ use Rattle.named_model.specs.View.{named_view}
 use Rattle.rel_formula.specs.Bounds.{Bounded, IsProblem}
 use Rattle.rel_terms.specs.Terms.{HasTerms}
 use Rattle.lowering_rules.specs.declared.fault.LowerFault.{LowerFault}
-use Rattle.lowering_rules.specs.declared.fault.LowerFault.TheVariants as lower
 use Rattle.lowering_rules.specs.Formula.{all_facts}
-use Rattle.lowering_rules.specs.Problem.{ProblemOf, IsRefusal}
+use Rattle.lowering_rules.specs.Problem.{ProblemOf, IsWant, IsRefusal}
 use Rattle.model_texts.specs.Texts.ModelText.{SaysModel}
 use Rattle.script_format.specs.declared.entries.ModelEntry.{ModelEntry}
 use Rattle.served_models.specs.Served.{LacksProblem}
+use Rattle.served_models.proofs.Refusals.{told_no_want}
 use Rattle.decision_reports.specs.declared.taken_models.TakenModel.{TakenModel}
 use Rattle.decision_reports.specs.declared.taken_models.FoundModel.{FoundModel}
 use Rattle.decision_reports.specs.declared.taken_models.FoundModel.TheVariants as model
@@ -47,12 +47,12 @@ numbers_more kind m place old new taken e added before =
 
 -- a model's command has a problem, or lacks one
 abbrev pub NotRefused : Type 0
-NotRefused = (m : NamedTree) (n : ℕ) (facts : List ℕ) (p : Bounded) → IsProblem p → ProblemOf m n facts p → (k : ℕ) → HasTerms p k → k ≤ 2 ^ 18 → (f : LowerFault) → IsRefusal m n facts f → f ≡ lower.Memory
+NotRefused = (m : NamedTree) (n : ℕ) (facts : List ℕ) (p : Bounded) → IsProblem p → ProblemOf m n facts p → (k : ℕ) → HasTerms p k → k ≤ 2 ^ 18 → (f : LowerFault) → IsRefusal m n facts f → IsWant f
 
 pub has_or_lacks : NotRefused → (m : NamedTree) (n : ℕ) (words : List ℕ) → CanBeRun m n → LacksProblem m n words → ⊥
 has_or_lacks not_refused m n words (p, is) lacks =
     let few = is.lowered.translatable.few_terms in
-    lacks.told.0 (not_refused m n (all_facts m) p is.problem is.lowered.is few.0 few.1 few.2 lacks.fault lacks.refused)
+    told_no_want lacks.fault lacks.told (not_refused m n (all_facts m) p is.problem is.lowered.is few.0 few.1 few.2 lacks.fault lacks.refused)
 
 -- the loop over numbers stops at the first whose command has no problem
 pub bad_among : (m : NamedTree) (numbers : List ℕ) (i number : ℕ) (words : List ℕ) → i < length numbers → number ≡ get_or numbers i number → All (CanBeRun m) (take i numbers) → LacksProblem m number words

@@ -5,13 +5,13 @@ use Rattle.alloy_syntax.specs.declared.tree.CommandKind.{CommandKind}
 use Rattle.alloy_syntax.specs.declared.tree.CommandKind.TheVariants.{Run, Check}
 use Rattle.named_model.specs.Model.{NamedTree}
 use Rattle.lowering_rules.specs.declared.fault.LowerFault.{LowerFault}
-use Rattle.lowering_rules.specs.declared.fault.LowerFault.TheVariants as lower
 use Rattle.lowering_rules.specs.Formula.{all_facts}
-use Rattle.lowering_rules.specs.Problem.{IsRefusal}
+use Rattle.lowering_rules.specs.Problem.{IsWant, IsRefusal}
 use Rattle.model_texts.specs.Words.Words.{command_words}
 use Rattle.model_texts.specs.Texts.ModelText.{SaysModel, IsFaulty}
 use Rattle.script_format.specs.declared.entries.ModelEntry.{ModelEntry}
 use Rattle.served_models.specs.Served.{LacksProblem, IsToldOf}
+use Rattle.served_models.proofs.Refusals.{told_no_want}
 use Rattle.decision_reports.specs.Taken.{CanBeRun, numbers_of, IsUsableFor, HasBadAmong, SaysBadCommandOf, IsRefusedFor, IsFirstRefusedFor}
 use Rattle.decision_reports.specs.Texts.{AreTexts}
 use Rattle.decision_reports.specs.Reports.{IsDecisionOn, AreDecisionsOn, AreAssertionsOf}
@@ -46,7 +46,7 @@ module _ {X : Type 0} where
 -- ---- what the laws below say, as they are used here
 
 abbrev pub OneRefusal : Type 0
-OneRefusal = (m : NamedTree) (n : ℕ) (facts : List ℕ) (f g : LowerFault) → IsRefusal m n facts f → IsRefusal m n facts g → (f ≡ g) ⊎ ((f ≡ lower.Memory) ⊎ (g ≡ lower.Memory))
+OneRefusal = (m : NamedTree) (n : ℕ) (facts : List ℕ) (f g : LowerFault) → IsRefusal m n facts f → IsRefusal m n facts g → (f ≡ g) ⊎ (IsWant f ⊎ IsWant g)
 
 pub record IsOneThing : Type 0 where
   pub model : (text : List ℕ) (m n : NamedTree) → SaysModel text m → SaysModel text n → m ≡ n
@@ -60,8 +60,8 @@ module _ (not_refused : NotRefused) (one_refusal : OneRefusal) (text_is : IsOneT
   one_told m n words others x y =
       let fault : x.fault ≡ y.fault = elim (one_refusal m n (all_facts m) x.fault y.fault x.refused y.refused) [
         | inl same ↦ same
-        | inr (inl memory) ↦ absurd (x.told.0 memory)
-        | inr (inr memory) ↦ absurd (y.told.0 memory)
+        | inr (inl memory) ↦ absurd (told_no_want x.fault x.told memory)
+        | inr (inr memory) ↦ absurd (told_no_want y.fault y.told memory)
       ] in
       x.words_are ∙ ap (command_words n) fault ∙ sym y.words_are
 

@@ -17,6 +17,7 @@ use crate::decision::{Decision, decide};
 use crate::taken_models::{TakenModel, TakenModels, read_taken};
 use alloy_syntax::tree::CommandKind;
 use itoa::Buffer;
+use lowering_rules::LowerStop;
 use lowering_rules::laws::{problems_are_not_refused, problems_are_symmetric};
 use named_model::Named;
 use rel_formula::{Problem, Scenario};
@@ -37,13 +38,13 @@ pub enum Report {
 
 /// Decides each `check` command of models whose texts have at most 1,048,576 bytes, in order, each with this budget, which is at most
 /// 100,000,000. No other command is used. All models are read, and all these commands lowered, before the first is decided; then
-/// one translation is there at a time. The error comes only for want of memory, which is told too where the text would be longer than
-/// an output may be, or where a model has more commands than 32 bits can number.
+/// one translation is there at a time. The error comes for want of memory, which is told too where the text would be longer than
+/// an output may be, or where a model has more commands than 32 bits can number, and for a formula that is too large to build.
 pub fn assertions_of(
     alloc: Global,
     budget: u32,
     entries: &[ModelEntry],
-) -> Result<Report, AllocError>
+) -> Result<Report, LowerStop>
     requires budget { budget ≤ 100000000 }
     requires small { All (λ x. length x.text ≤ 1048576) entries.now }
     ensures { IfOk result (IsAssertionReport budget entries.now) }
@@ -62,7 +63,7 @@ fn decisions_on(
     budget: u32,
     entries: &[ModelEntry],
     models: &[TakenModel],
-) -> Result<Vec<u8>, AllocError>
+) -> Result<Vec<u8>, LowerStop>
     requires budget { budget ≤ 100000000 }
     requires count { length models.now ≡ length entries.now }
     requires taken { AllZip (IsTaken Check) entries.now models.now }
@@ -83,7 +84,7 @@ fn decisions_in(
     budget: u32,
     name: &str,
     taken: &TakenModel,
-) -> Result<Vec<u8>, AllocError>
+) -> Result<Vec<u8>, LowerStop>
     requires budget { budget ≤ 100000000 }
     requires typed { IsTyped (named_view taken.now.model) }
     requires problems { All (CanBeRun (named_view taken.now.model)) taken.now.numbers.items }
@@ -99,7 +100,7 @@ fn decisions_at(
     name: &str,
     model: &Named,
     numbers: &[u32],
-) -> Result<Vec<u8>, AllocError>
+) -> Result<Vec<u8>, LowerStop>
     requires budget { budget ≤ 100000000 }
     requires typed { IsTyped (named_view model.now) }
     requires problems { All (CanBeRun (named_view model.now)) numbers.now }
@@ -121,7 +122,7 @@ fn decision_on(
     name: &str,
     model: &Named,
     number: u32,
-) -> Result<Vec<u8>, AllocError>
+) -> Result<Vec<u8>, LowerStop>
     requires budget { budget ≤ 100000000 }
     requires typed { IsTyped (named_view model.now) }
     requires problem { CanBeRun (named_view model.now) number }
@@ -138,7 +139,7 @@ fn lines_over(
     name: &str,
     number: u32,
     translation: &Translation,
-) -> Result<Vec<u8>, AllocError>
+) -> Result<Vec<u8>, LowerStop>
     requires { budget ≤ 100000000 }
     ensures { IfOk result (λ text. (m : NamedTree) → IsProblemOf m number translation.now.problem → IsDecisionOn budget name.now m number text.items) }
 {
@@ -149,7 +150,7 @@ fn lines_over(
 }
 
 // The translation of the problem of a model's command that has one.
-fn translation_of(alloc: Global, model: &Named, number: u32) -> Result<Translation, AllocError>
+fn translation_of(alloc: Global, model: &Named, number: u32) -> Result<Translation, LowerStop>
     requires typed { IsTyped (named_view model.now) }
     requires problem { CanBeRun (named_view model.now) number }
     ensures { IfOk result (λ t. IsProblemOf (named_view model.now) number t.problem) }
@@ -182,14 +183,16 @@ fn decision_text(
     budget: u32,
     translation: &Translation,
     decision: &Decision,
-) -> Result<Vec<u8>, AllocError>
+) -> Result<Vec<u8>, LowerStop>
     requires { IsDecision translation.now budget decision.now }
     ensures { IfOk result (λ text. IsDecisionText translation.now.problem budget front.items decision.now text.items) }
 {
     match decision {
-        Decision::Holds { .. } => held(front),
-        Decision::Fails { scenario } => failed(alloc, front, translation.problem(), scenario),
-        Decision::Spent { .. } => spent(front, budget),
+        Decision::Holds { .. } => Ok(held(front)?),
+        Decision::Fails { scenario } => {
+            Ok(failed(alloc, front, translation.problem(), scenario)?)
+        }
+        Decision::Spent { .. } => Ok(spent(front, budget)?),
     }
 }
 

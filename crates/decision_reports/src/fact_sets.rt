@@ -5,7 +5,8 @@ ghost use Rattle.alloy_syntax.specs.declared.tree.CommandKind.TheVariants.{Run};
 ghost use Rattle.named_model.specs.Numbered.{name_of_fact};
 ghost use Rattle.named_model.specs.View.{named_view};
 ghost use Rattle.rel_lower.specs.Lowered.{IsTyped};
-ghost use Rattle.lowering_rules.specs.declared.fault.LowerFault.TheVariants.{Memory};
+ghost use Rattle.lowering_rules.specs.Problem.{IsWant};
+ghost use Rattle.lowering_rules.specs.Stops.{fault_of};
 ghost use Rattle.decision_reports.specs.Taken.{CanBeRun, IsTaken};
 ghost use Rattle.decision_reports.specs.Texts.{AreTexts};
 ghost use Rattle.decision_reports.specs.Reports.{command_front};
@@ -17,8 +18,8 @@ use crate::taken_models::{TakenModel, TakenModels, read_taken};
 use alloy_lex::Text;
 use alloy_syntax::tree::CommandKind;
 use itoa::Buffer;
-use lowering_rules::LowerFault;
 use lowering_rules::laws::problems_are_not_refused;
+use lowering_rules::{LowerFault, LowerStop};
 use named_model::Named;
 use script_format::ModelEntry;
 use script_text::{fits_output, push_number_line};
@@ -26,14 +27,10 @@ use std::alloc::{AllocError, Global};
 
 /// Tells of each `run` command of models whose texts have at most 1,048,576 bytes, in order, whether all facts can be true under it,
 /// or which can't, where each search has this budget, which is at most 100,000,000. No other command is used. All models are read,
-/// and all these commands lowered, before the first search; then one command is searched at a time. The error comes only for want of
+/// and all these commands lowered, before the first search; then one command is searched at a time. The error comes for want of
 /// memory, which is told too where the text would be longer than an output may be, or where a model has more commands than 32 bits
-/// can number.
-pub fn fact_sets_of(
-    alloc: Global,
-    budget: u32,
-    entries: &[ModelEntry],
-) -> Result<Report, AllocError>
+/// can number, and for a formula that is too large to build.
+pub fn fact_sets_of(alloc: Global, budget: u32, entries: &[ModelEntry]) -> Result<Report, LowerStop>
     requires budget { budget ≤ 100000000 }
     requires small { All (λ x. length x.text ≤ 1048576) entries.now }
     ensures { IfOk result (IsFactReport budget entries.now) }
@@ -51,7 +48,7 @@ fn sets_on(
     budget: u32,
     entries: &[ModelEntry],
     models: &[TakenModel],
-) -> Result<Vec<u8>, AllocError>
+) -> Result<Vec<u8>, LowerStop>
     requires budget { budget ≤ 100000000 }
     requires taken { AllZip (IsTaken Run) entries.now models.now }
     requires count { length models.now ≡ length entries.now }
@@ -67,12 +64,7 @@ fn sets_on(
 }
 
 // What is known of the facts under the commands of a model that are taken.
-fn sets_in(
-    alloc: Global,
-    budget: u32,
-    name: &str,
-    taken: &TakenModel,
-) -> Result<Vec<u8>, AllocError>
+fn sets_in(alloc: Global, budget: u32, name: &str, taken: &TakenModel) -> Result<Vec<u8>, LowerStop>
     requires budget { budget ≤ 100000000 }
     requires typed { IsTyped (named_view taken.now.model) }
     requires problems { All (CanBeRun (named_view taken.now.model)) taken.now.numbers.items }
@@ -88,7 +80,7 @@ fn sets_at(
     name: &str,
     model: &Named,
     numbers: &[u32],
-) -> Result<Vec<u8>, AllocError>
+) -> Result<Vec<u8>, LowerStop>
     requires budget { budget ≤ 100000000 }
     requires typed { IsTyped (named_view model.now) }
     requires problems { All (CanBeRun (named_view model.now)) numbers.now }
@@ -110,7 +102,7 @@ fn set_on(
     name: &str,
     model: &Named,
     number: u32,
-) -> Result<Vec<u8>, AllocError>
+) -> Result<Vec<u8>, LowerStop>
     requires budget { budget ≤ 100000000 }
     requires typed { IsTyped (named_view model.now) }
     requires problem { CanBeRun (named_view model.now) number }
@@ -119,7 +111,7 @@ fn set_on(
     problems_are_not_refused();
     match facts_of(alloc, model, number, u64::from(budget)) {
         Ok(set) => lines_of(alloc, budget, name, model, number, &set),
-        Err(fault) => Err(memory_in(fault)),
+        Err(fault) => Err(stop_of(fault)),
     }
 }
 
@@ -131,18 +123,22 @@ fn lines_of(
     model: &Named,
     number: u32,
     set: &FactSet,
-) -> Result<Vec<u8>, AllocError>
+) -> Result<Vec<u8>, LowerStop>
     ensures { IfOk result (λ text. text.items ≡ command_front name.now number ++ set_text model.now.fact_names.items budget set.now) }
 {
     let front = command_front(alloc, name, number)?;
-    set_text(front, budget, model, set)
+    Ok(set_text(front, budget, model, set)?)
 }
 
-// The want of memory that the fault is.
-fn memory_in(_fault: LowerFault) -> AllocError
-    requires { _fault ≡ Memory }
+// The want that the fault is.
+fn stop_of(fault: LowerFault) -> LowerStop
+    requires { IsWant fault }
+    ensures { fault_of result ≡ fault }
 {
-    AllocError
+    match fault {
+        LowerFault::TooLarge => LowerStop::TooLarge,
+        _ => LowerStop::Memory,
+    }
 }
 
 // The lines that tell what is known of facts, behind this front.

@@ -6,6 +6,7 @@ ghost use Rattle.served_models.specs.Served.{LacksProblem};
 ghost use Rattle.decision_reports.specs.Taken.{CanBeRun, is_of_kind, numbers_of, AreLowered, AreTaken, IsFoundFor, IsFoundIn};
 
 use alloy_syntax::tree::CommandKind;
+use lowering_rules::LowerStop;
 use model_texts::typed_texts::{ModelText, read_model};
 use named_model::Named;
 use script_format::ModelEntry;
@@ -38,13 +39,13 @@ pub enum FoundModel {
 }
 
 /// Reads the models of a script, whose texts have at most 1,048,576 bytes, in order, and takes their commands of this kind. Each of
-/// these is lowered, and no problem is kept. The error comes only for want of memory, which is told too of a model that has more
-/// commands than 32 bits can number.
+/// these is lowered, and no problem is kept. The error comes for want of memory, which is told too of a model that has more commands
+/// than 32 bits can number, and for a formula that is too large to build.
 pub fn read_taken(
     alloc: Global,
     kind: CommandKind,
     entries: &[ModelEntry],
-) -> Result<TakenModels, AllocError>
+) -> Result<TakenModels, LowerStop>
     requires { All (λ x. length x.text ≤ 1048576) entries.now }
     ensures { IfOk result (AreTaken kind entries.now) }
 {
@@ -62,7 +63,7 @@ pub fn read_taken(
 }
 
 // Reads the text of a model.
-fn read_one(alloc: Global, kind: CommandKind, text: &str) -> Result<FoundModel, AllocError>
+fn read_one(alloc: Global, kind: CommandKind, text: &str) -> Result<FoundModel, LowerStop>
     requires { length text.now ≤ 1048576 }
     ensures { IfOk result (IsFoundFor kind text.now) }
 {
@@ -73,7 +74,7 @@ fn read_one(alloc: Global, kind: CommandKind, text: &str) -> Result<FoundModel, 
 }
 
 // What is found of a model.
-fn of_model(alloc: Global, kind: CommandKind, model: Named) -> Result<FoundModel, AllocError>
+fn of_model(alloc: Global, kind: CommandKind, model: Named) -> Result<FoundModel, LowerStop>
     requires { IsTyped (named_view model) }
     ensures { IfOk result (IsFoundIn kind (named_view model)) }
 {
@@ -121,7 +122,7 @@ fn is_of_kind(kind: CommandKind, model: &Named, number: u32) -> bool
 }
 
 // What is told of the first of these commands that has no problem, where there is one.
-fn first_lack(alloc: Global, model: &Named, numbers: &[u32]) -> Result<Option<Vec<u8>>, AllocError>
+fn first_lack(alloc: Global, model: &Named, numbers: &[u32]) -> Result<Option<Vec<u8>>, LowerStop>
     requires { IsTyped (named_view model.now) }
     ensures { IfOk result (λ found. AreLowered (named_view model.now) numbers.now found) }
 {
@@ -134,7 +135,7 @@ fn first_lack(alloc: Global, model: &Named, numbers: &[u32]) -> Result<Option<Ve
 }
 
 // What is told of the model's command of this number, where it has no problem.
-fn lack_of(alloc: Global, model: &Named, number: u32) -> Result<Option<Vec<u8>>, AllocError>
+fn lack_of(alloc: Global, model: &Named, number: u32) -> Result<Option<Vec<u8>>, LowerStop>
     requires { IsTyped (named_view model.now) }
     ensures none { IfOk result (λ found. IfNone found (CanBeRun (named_view model.now) number)) }
     ensures some { IfOk result (λ found. IfSome found (λ words. LacksProblem (named_view model.now) number words.items)) }

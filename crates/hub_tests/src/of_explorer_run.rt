@@ -7,7 +7,7 @@ ghost use Rattle.explorer_run.specs.Served.{IsServable, IsServableScript, values
 ghost use Rattle.explorer_run.specs.Seats.{IsRoot, StaysRoot};
 
 use cnf_core::Cnf;
-use explorer_run::{Explorer, Gate, OpenGate, Served, SessionScript, serve_sessions};
+use explorer_run::{Explorer, Gate, OpenGate, Served, SessionScript, StepCount, serve_sessions};
 use hub_lock::Pass;
 use hub_state::{Entry, Event, Hub};
 use rel_formula::{Expression, Formula, Problem, Quantifier, Scenario};
@@ -199,7 +199,16 @@ fn served<R: Threads + Wait + Sync>(rt: &R, alloc: Global, workers: u32) -> Resu
 {
     let problems = two_problems(alloc)?;
     let scripts = five_sessions(alloc)?;
-    Ok(serve_sessions(rt, alloc, &OpenGate, problems, scripts.as_slice(), workers)?)
+    let mut count = StepCount::new();
+    Ok(serve_sessions(
+        rt,
+        alloc,
+        &OpenGate,
+        problems,
+        scripts.as_slice(),
+        workers,
+        &mut count,
+    )?)
 }
 
 #[test]
@@ -269,7 +278,15 @@ fn journal_of<R: Threads + Wait + Sync>(rt: &R, alloc: Global, workers: u32) -> 
     let scripts = five_sessions(alloc)?;
     match Explorer::new(rt, alloc, problems, &OpenGate, workers) {
         Ok((explorer, mut root)) => {
-            let served = explorer.serve_all(rt, alloc, &mut root, scripts.as_slice(), workers);
+            let mut count = StepCount::new();
+            let served = explorer.serve_all(
+                rt,
+                alloc,
+                &mut root,
+                scripts.as_slice(),
+                workers,
+                &mut count,
+            );
             let (hub, _) = explorer.finish(root);
             served?;
             Ok(hub)
@@ -323,7 +340,8 @@ fn one_reply<R: Wait>(
 {
     let (mut pass, mut session) = explorer.open(rt, alloc, root, 0, 1000)?;
     let next = Command::Step(Step::Next);
-    let reply = explorer.command(rt, alloc, &mut pass, &mut session, 0, 0, &next);
+    let mut count = StepCount::new();
+    let reply = explorer.command(rt, alloc, &mut pass, &mut session, 0, 0, &next, &mut count);
     explorer.retire(root, pass);
     Ok(reply)
 }
@@ -393,7 +411,16 @@ fn goes_on<R: Threads + Wait + Sync>(
     let problems = two_problems(alloc)?;
     let scripts = vec![in alloc; session(alloc, 0)?, session(alloc, 0)?]?;
     let gate = Holding::new(looks);
-    let served = serve_sessions(rt, alloc, &gate, problems, scripts.as_slice(), workers)?;
+    let mut count = StepCount::new();
+    let served = serve_sessions(
+        rt,
+        alloc,
+        &gate,
+        problems,
+        scripts.as_slice(),
+        workers,
+        &mut count,
+    )?;
     let gave_up = gate.gave_up.load(Ordering::SeqCst);
     Ok(served.transcripts.len() == 2 && !gave_up)
 }

@@ -8,7 +8,7 @@ use hub_lock::{Pass, Turns, turns};
 use hub_state::Hub;
 use hub_turns::{passes_stay_idle, publish};
 use session_rules::{Reply, Step};
-use session_turns::{command, open_session};
+use session_turns::{StepCount, command, open_session};
 use session_words::Command;
 use std::alloc::{AllocError, Global};
 use std::sync::{Arc, Wait};
@@ -38,6 +38,7 @@ fn serve<R: Wait>(
     ensures goes { WentOn lock.now pass.old pass.new }
 {
     let mut session = open_session(rt, alloc, lock, pass, 0, 50)?;
+    let mut count = StepCount::new();
     let next = command(
         rt,
         alloc,
@@ -46,8 +47,18 @@ fn serve<R: Wait>(
         &mut session,
         t,
         &Command::Step(Step::Next),
+        &mut count,
     );
-    let all = command(rt, alloc, lock, pass, &mut session, t, &Command::All(3));
+    let all = command(
+        rt,
+        alloc,
+        lock,
+        pass,
+        &mut session,
+        t,
+        &Command::All(3),
+        &mut count,
+    );
     let proof = command(
         rt,
         alloc,
@@ -56,6 +67,7 @@ fn serve<R: Wait>(
         &mut session,
         t,
         &Command::Step(Step::Proof),
+        &mut count,
     );
     let budget = command(
         rt,
@@ -65,6 +77,7 @@ fn serve<R: Wait>(
         &mut session,
         t,
         &Command::Step(Step::Budget(7)),
+        &mut count,
     );
     Ok(Replies {
         next,

@@ -8,7 +8,7 @@ use hub_lock::{Gate, Pass, Turns, turns};
 use hub_state::Hub;
 use hub_turns::{passes_stay_idle, publish};
 use session_rules::{Refusal, Reply, Step, Transcript};
-use session_turns::{open_session, serve_session};
+use session_turns::{StepCount, open_session, serve_session};
 use session_words::Command;
 use std::alloc::{AllocError, Global};
 use std::cell::Cell;
@@ -54,6 +54,7 @@ fn serve_four<R: Wait, G: Gate>(
         Command::All(2),
         Command::Step(Step::Budget(9)),
     ];
+    let mut count = StepCount::new();
     serve_session(
         rt,
         alloc,
@@ -64,6 +65,7 @@ fn serve_four<R: Wait, G: Gate>(
         &mut session,
         t,
         &commands,
+        &mut count,
     )
 }
 

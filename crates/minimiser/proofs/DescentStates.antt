@@ -1,21 +1,21 @@
 -- A descent on its way.
-use Rattle.std.proofs.Common.{◌≡◌, ◌≢◌, ◌↔◌, inl, inr, ◌≤◌, ◌+◌, ◌-◌, ℕ, Bool, List, [], ◌∷◌, ◌++◌, map, length, get_or, sum_by, All, AllPairs, refl, sym, ◌∙◌, ap, subst, arith}
+use Rattle.std.proofs.Common.{◌≡◌, ◌↔◌, inl, inr, ◌≤◌, ◌+◌, ◌-◌, ℕ, Bool, List, [], ◌∷◌, ◌++◌, map, length, get_or, sum_by, All, AllPairs, refl, sym, ◌∙◌, ap, subst, arith}
 use Rattle.std.proofs.lemmas.List.{map-append, length_push}
 use Rattle.std.proofs.lemmas.List.Elements.{All-push, All-nil}
 use Rattle.std.proofs.lemmas.List.Quantifiers.{all_pairs_push}
 use Rattle.std.proofs.lemmas.List.Sums.{sum_by-append}
-use Rattle.cnf_core.specs.declared.literal.Lit.{Lit}
 use Rattle.cnf_core.specs.Valuation.{Satisfies}
 use Rattle.refutation_check.specs.declared.log.Step.{Step as LogStep}
-use Rattle.refutation_check.specs.SearchLog.{IsSearchLog, IsNovelButLast, IsAllNovel, HasNoEmpty, novel_steps}
+use Rattle.refutation_check.specs.SearchLog.{IsSearchLog, IsAllNovel, HasNoEmpty, novel_steps}
 use Rattle.refutation_check.specs.Part.{Parted}
 use Rattle.refutation_check.proofs.Novelty.{novel_at_most, novel_all}
 use Rattle.rel_formula.specs.Instance.{AreCells, IsScenario, IsInstance, IsMinimalAbove, Includes}
-use Rattle.rel_formula.proofs.Lists.{some-Contains}
 use Rattle.translation_rules.specs.Translation.{Translated, IsSatisfiableAt}
 use Rattle.translation_rules.specs.Parts.{AreSearched, given_to, novel_in}
 use Rattle.translation_rules.specs.Descents.{IsProperPart, IsSmaller, Lowering, IsLowering, descent_locals}
 use Rattle.translation_rules.proofs.Tests.{includes_or_not, cells_within}
+use Rattle.sat_core.specs.Count.{raised}
+use Rattle.sat_core.proofs.Counts.{all_novel}
 use Rattle.minimiser.specs.declared.descent.Down.{Down}
 use Rattle.minimiser.specs.declared.descent.Down.TheVariants.{Minimal, Spent}
 use Rattle.minimiser.specs.Down.{IsDescent, IsRight, IsRightOn}
@@ -76,15 +76,6 @@ first_of_push (z ∷ zs) y start none some x others e = subst (λ (w : Lowering)
 smaller_still : (s m part : List ℕ) → IsProperPart s m → IsProperPart m part → IsProperPart s part
 smaller_still s m part one two = (λ n c. one.0 n (two.0 n c), λ back. two.1 (λ n c. back n (one.0 n c)))
 
--- a log whose steps are not empty is novel
-all_novel : (given : List (List Lit)) (log : List LogStep) → IsNovelButLast given log → HasNoEmpty log → IsAllNovel given log
-all_novel given log novel none i s at = elim (novel i s at) [
-  | inl is ↦ is
-  | inr last ↦
-      let c = some-Contains log i s at in
-      absurd (subst (λ (x : LogStep). x.clause ≢ []) c.2 (none c.0 s c.1) last.1)
-]
-
 module _ (t : Translated) (pool : List LogStep) (floor start : List ℕ) (budget : ℕ) (scenario : List ℕ) (left : ℕ) (parts : List Parted) (going : Going t pool floor start budget scenario left parts)
     (part : Parted) (local : part.local ≡ descent_locals t.problem floor scenario) (log : IsSearchLog (given_to t pool part) part.log) (few : length part.log ≤ left) where
   lowering : Lowering
@@ -140,6 +131,10 @@ module _ (t : Translated) (pool : List LogStep) (floor start : List ℕ) (budget
   -- all of the budget is spent
   pub spent_all : length part.log ≡ left → IsAllNovel (given_to t pool part) part.log → novel_in t pool (parts ++ part ∷ []) ≡ budget
   spent_all all novel = let e = more_novel in let m = novel_all (given_to t pool part) part.log novel in let s = going.spent in omega arith
+
+  -- a count that the search raised by no more than its novel steps
+  pub counted : (first old new learnt : ℕ) → new ≡ raised old learnt → learnt ≤ novel_steps (given_to t pool part) part.log → old ≤ first + novel_in t pool parts → new ≤ first + novel_in t pool (parts ++ part ∷ [])
+  counted first old new learnt rose all before = omega (arith, more_novel, rose, all, before)
 
   -- on to a smaller instance
   pub next : (s : List ℕ) → IsSmaller t.problem floor scenario s → HasNoEmpty part.log → Going t pool floor start budget s (left - length part.log) (parts ++ part ∷ [])

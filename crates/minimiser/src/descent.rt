@@ -1,9 +1,10 @@
 // The descent.
-ghost use Rattle.std.specs.Prelude.{◌≡◌, ◌↔◌, ◌<◌, ◌≤◌, ℕ, length, Contains, IsTrue, AllPairs, IfOk, OnOk};
+ghost use Rattle.std.specs.Prelude.{◌≡◌, ◌↔◌, ◌<◌, ◌≤◌, ◌+◌, ℕ, length, Contains, IsTrue, AllPairs, IfOk, OnOk};
 ghost use Rattle.cnf_core.specs.Valuation.{value_of};
-ghost use Rattle.refutation_check.specs.Chain.{IsAccepted};
 ghost use Rattle.rel_formula.specs.Instance.{AreCells, IsInstance, Includes};
 ghost use Rattle.sat_trail.specs.Trailed.{IsBase};
+ghost use Rattle.translation_rules.specs.Imports.{IsImport};
+ghost use Rattle.translation_rules.specs.Parts.{novel_in};
 ghost use Rattle.translation_rules.specs.Translation.{var_of};
 ghost use Rattle.minimiser.specs.Down.{parts_of, IsDescent, IsRight, IsRightOn, IsStopped};
 ghost use Rattle.minimiser.specs.Lowering.{IsOver};
@@ -12,7 +13,7 @@ use crate::lowering::lowest;
 use cnf_core::Valuation;
 use refutation_check::{Log, Part};
 use rel_formula::Scenario;
-use sat_core::{Answer, SavedPhases, Trail, solve_from};
+use sat_core::{Answer, SavedPhases, StepCount, Trail, solve_from};
 use std::alloc::{AllocError, Global};
 use translation::Translation;
 use translation_rules::laws::descent_clauses_say_what_is_smaller;
@@ -35,8 +36,9 @@ pub enum Down {
 /// Goes down from an instance that has the floor's cells to a scenario that is minimal above the floor.
 ///
 /// Each search asks for an instance that has the floor's cells and is a proper part of the last one; its local clauses say
-/// just this. The descent takes at most `budget` novel steps, which is at most 100,000,000. The pool is an accepted log over
-/// the translation's clauses, of at most 20,000 steps. The error comes only for want of memory.
+/// just this. The descent takes at most `budget` novel steps, which is at most 100,000,000, and its searches raise the count by no
+/// more, whatever it comes to. The pool is an accepted log over the translation's clauses, of at most 20,000 steps. The error comes
+/// only for want of memory.
 pub fn minimise(
     alloc: Global,
     translation: &Translation,
@@ -44,9 +46,9 @@ pub fn minimise(
     floor: &Scenario,
     start: &Scenario,
     budget: u64,
+    count: &mut StepCount,
 ) -> Result<Down, AllocError>
-    requires pool { IsAccepted translation.now.cnf.clauses pool.now }
-    requires few { length pool.now ≤ 20000 }
+    requires import { IsImport translation.now pool.now }
     requires floor { AreCells translation.now.problem floor.now }
     requires start { IsInstance translation.now.problem start.now }
     requires above { Includes start.now floor.now }
@@ -54,10 +56,12 @@ pub fn minimise(
     ensures parts { IfOk result (λ down. IsDescent translation.now pool.now floor.now start.now budget (parts_of down)) }
     ensures answer { IfOk result (IsRight translation.now pool.now floor.now start.now budget) }
     ensures stopped { IfOk result (IsStopped translation.now pool.now) }
+    ensures novel { IfOk result (λ down. count.new ≤ count.old + novel_in translation.now pool.now (parts_of down)) }
+    ensures spent { count.new ≤ count.old + budget }
 {
     let cnf = translation.cnf();
     let base = Trail::over(alloc, cnf, cnf.vars())?;
-    minimise_from(alloc, translation, &base, pool, floor, start, budget)
+    minimise_from(alloc, translation, &base, pool, floor, start, budget, count)
 }
 
 /// Goes down as `minimise` does, and to the same end, from a trail of the translation's formula, which serves any number of
@@ -70,10 +74,10 @@ pub fn minimise_from(
     floor: &Scenario,
     start: &Scenario,
     budget: u64,
+    count: &mut StepCount,
 ) -> Result<Down, AllocError>
     requires base { IsBase translation.now.cnf base.now }
-    requires pool { IsAccepted translation.now.cnf.clauses pool.now }
-    requires few { length pool.now ≤ 20000 }
+    requires import { IsImport translation.now pool.now }
     requires floor { AreCells translation.now.problem floor.now }
     requires start { IsInstance translation.now.problem start.now }
     requires above { Includes start.now floor.now }
@@ -81,6 +85,8 @@ pub fn minimise_from(
     ensures parts { IfOk result (λ down. IsDescent translation.now pool.now floor.now start.now budget (parts_of down)) }
     ensures answer { IfOk result (IsRight translation.now pool.now floor.now start.now budget) }
     ensures stopped { IfOk result (IsStopped translation.now pool.now) }
+    ensures novel { IfOk result (λ down. count.new ≤ count.old + novel_in translation.now pool.now (parts_of down)) }
+    ensures spent { count.new ≤ count.old + budget }
 {
     descent_clauses_say_what_is_smaller();
     let problem = translation.problem();
@@ -100,6 +106,7 @@ pub fn minimise_from(
             local.as_slice(),
             left,
             &mut leaning,
+            count,
         )? {
             Answer::Found { valuation, log } => {
                 left -= log.steps().len() as u64;
@@ -129,11 +136,11 @@ pub fn minimise_on(
     floor: &Scenario,
     start: &Scenario,
     budget: u64,
+    count: &mut StepCount,
 ) -> Result<Down, AllocError>
     requires base { IsBase translation.now.cnf base.now }
     requires trail { IsOver translation.now.cnf trail.old }
-    requires pool { IsAccepted translation.now.cnf.clauses pool.now }
-    requires few { length pool.now ≤ 20000 }
+    requires import { IsImport translation.now pool.now }
     requires floor { AreCells translation.now.problem floor.now }
     requires start { IsInstance translation.now.problem start.now }
     requires above { Includes start.now floor.now }
@@ -142,13 +149,15 @@ pub fn minimise_on(
     ensures parts { IfOk result (λ down. IsDescent translation.now pool.now floor.now start.now budget (parts_of down)) }
     ensures answer { IfOk result (IsRightOn translation.now pool.now floor.now start.now budget) }
     ensures stopped { IfOk result (IsStopped translation.now pool.now) }
+    ensures novel { IfOk result (λ down. count.new ≤ count.old + novel_in translation.now pool.now (parts_of down)) }
+    ensures spent { count.new ≤ count.old + budget }
 {
     match lowest(alloc, translation, trail, floor, start)? {
         Some(scenario) => Ok(Down::Minimal {
             scenario,
             parts: Vec::new(alloc),
         }),
-        None => minimise_from(alloc, translation, base, pool, floor, start, budget),
+        None => minimise_from(alloc, translation, base, pool, floor, start, budget, count),
     }
 }
 

@@ -7,6 +7,7 @@ use crate::asks::{Ask, Asked};
 use refutation_check::Log;
 use rel_formula::Problem;
 use session_rules::Reply;
+use session_state::search_rounds::StepCount;
 use session_state::session_search::Session;
 use session_words::{AtomName, AtomNames, Step};
 use std::alloc::{AllocError, Global};
@@ -52,7 +53,8 @@ fn searched(
     ensures few { OnOk result (length session.new.kept.state.shown ≤ length session.old.kept.state.shown + 1) }
 {
     let pool = Log::new(alloc);
-    let proposal = session.propose(alloc, made, &pool, &step)?;
+    let mut count = StepCount::new();
+    let proposal = session.propose(alloc, made, &pool, &step, &mut count)?;
     let reply = proposal.reply().copy(alloc)?;
     session.reserve(&proposal)?;
     session.apply(proposal);

@@ -16,6 +16,12 @@ log_of (Found valuation log) = log
 log_of (Refuted log) = log
 log_of (Spent log) = log
 
+-- how many steps were learnt from conflicts: all but a refutation's last, the empty one, which propagation alone gives
+abbrev pub learnt_in : Answer → ℕ
+learnt_in (Found valuation log) = length log
+learnt_in (Refuted log) = length log - 1
+learnt_in (Spent log) = length log
+
 -- a valuation that was found has few values
 abbrev pub HasFewValues : Answer → Type 0
 HasFewValues (Found valuation log) = length valuation < 2 ^ 31

@@ -1,5 +1,6 @@
 pub mod Answers
 pub mod Assuming
+pub mod Count
 pub mod Lent
 pub mod Search
 pub mod Limits

@@ -4,10 +4,12 @@ ghost use Rattle.refutation_check.specs.Chain.{members_of, IsChain, Refutes};
 ghost use Rattle.unit_propagation.specs.Assignments.Trail.{falses_of};
 ghost use Rattle.sat_trail.specs.Closed.{IsClosedBelow};
 ghost use Rattle.sat_core.specs.Assuming.{AreTrue};
+ghost use Rattle.sat_core.specs.Count.{raised};
 ghost use Rattle.sat_core.specs.Lent.{steps_of, IsEnding, IsLearnt};
 ghost use Rattle.sat_core.specs.Search.{IsFound, IsFull, IsNext, HasNext, IsVarIn};
 
 use crate::deciding::{DeadEnd, decide_to_end, values_of};
+use crate::step_count::StepCount;
 use cnf_core::{Lit, Valuation};
 use refutation_check::{Log, Step};
 use sat_trail::{SavedPhases, Trail, learn};
@@ -36,6 +38,7 @@ pub fn solve_on(
     assumed: &[Lit],
     budget: u64,
     leaning: &SavedPhases,
+    count: &mut StepCount,
 ) -> Result<Ending, AllocError>
     requires in_range { All (IsVarIn trail.old.vars) assumed.now }
     requires few { length trail.old.clauses + budget < 2 ^ 30 }
@@ -44,8 +47,11 @@ pub fn solve_on(
     ensures learnt { IfOk result (λ e. IsLearnt trail.old.clauses assumed.now (steps_of e)) }
     ensures budget { IfOk result (λ e. length (steps_of e) ≤ budget) }
     ensures end { IfOk result (IsEnding trail.old.vars trail.old.clauses assumed.now budget) }
+    ensures count { IfOk result (λ e. count.new ≡ raised count.old (length (steps_of e))) }
+    ensures spent { count.new ≤ count.old + budget }
 {
     let _ = trail.level(); // for the proof
+    let _ = count.steps(); // for the proof
     trail.back_to(0);
     let mut depth = 0;
     let mut log = Log::new(alloc);
@@ -60,6 +66,7 @@ pub fn solve_on(
                 if log.steps().len() as u64 == budget {
                     return Ok(Ending::Spent { log });
                 }
+                count.rise();
                 keep(alloc, trail, &mut log, step)?;
             }
             DeadEnd::Clash => return Ok(Ending::Clash { log }),

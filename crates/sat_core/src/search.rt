@@ -5,14 +5,16 @@ ghost use Rattle.refutation_check.specs.Chain.{members_of, IsAccepted, IsChain};
 ghost use Rattle.refutation_check.specs.SearchLog.{IsSearchLog, HasVarsOf};
 ghost use Rattle.sat_trail.specs.Trailed.{IsBase};
 ghost use Rattle.sat_trail.specs.Closed.{IsClosed};
-ghost use Rattle.sat_core.specs.Answers.{log_of, leaned_behind, HasEmptyOnlyLast, HasFewValues, IsRight, IsStopped, NamesNoUnits};
+ghost use Rattle.sat_core.specs.Answers.{learnt_in, log_of, leaned_behind, HasEmptyOnlyLast, HasFewValues, IsRight, IsStopped, NamesNoUnits};
 ghost use Rattle.sat_core.specs.Assuming.{IsSplit};
+ghost use Rattle.sat_core.specs.Count.{raised};
 ghost use Rattle.sat_core.specs.Lent.{steps_of, IsEnding, IsLearnt};
 ghost use Rattle.sat_core.specs.Search.{IsAnswerTo, IsSoFar, IsVarIn};
 ghost use Rattle.cnf_core.specs.declared.literal.Lit.{Lit};
 
 use crate::lent::{Ending, solve_on};
 use crate::locals::{Locals, split};
+use crate::step_count::StepCount;
 use cnf_core::{Clause, Cnf, Lit, Valuation};
 use refutation_check::{Log, Step};
 use sat_trail::{Propagated, SavedPhases, Trail, learn};
@@ -42,6 +44,7 @@ pub fn solve(
     pool: &Log,
     local: &[Clause],
     budget: u64,
+    count: &mut StepCount,
 ) -> Result<Answer, AllocError>
     requires pool { IsAccepted f.now.clauses pool.now }
     requires few { length f.now.clauses + length local.now + length pool.now + budget < 2 ^ 30 }
@@ -52,8 +55,10 @@ pub fn solve(
     ensures stopped { IfOk result (IsStopped (f.now.clauses ++ local.now) pool.now) }
     ensures units { IfOk result (λ a. NamesNoUnits (length f.now.clauses) local.now (log_of a)) }
     ensures last { IfOk result (λ a. HasEmptyOnlyLast (log_of a)) }
+    ensures count { IfOk result (λ a. count.new ≡ raised count.old (learnt_in a)) }
+    ensures spent { count.new ≤ count.old + budget }
 {
-    solve_towards(alloc, f, pool, local, budget, false)
+    solve_towards(alloc, f, pool, local, budget, false, count)
 }
 
 /// Searches as `solve` does, and decides the variables that are open to this value: where it is true, the valuation that is
@@ -65,6 +70,7 @@ pub fn solve_towards(
     local: &[Clause],
     budget: u64,
     value: bool,
+    count: &mut StepCount,
 ) -> Result<Answer, AllocError>
     requires pool { IsAccepted f.now.clauses pool.now }
     requires few { length f.now.clauses + length local.now + length pool.now + budget < 2 ^ 30 }
@@ -75,10 +81,12 @@ pub fn solve_towards(
     ensures stopped { IfOk result (IsStopped (f.now.clauses ++ local.now) pool.now) }
     ensures units { IfOk result (λ a. NamesNoUnits (length f.now.clauses) local.now (log_of a)) }
     ensures last { IfOk result (λ a. HasEmptyOnlyLast (log_of a)) }
+    ensures count { IfOk result (λ a. count.new ≡ raised count.old (learnt_in a)) }
+    ensures spent { count.new ≤ count.old + budget }
 {
     let base = Trail::over(alloc, f, f.vars())?;
     let mut leaning = SavedPhases::towards(alloc, value);
-    solve_from(alloc, f, &base, pool, local, budget, &mut leaning)
+    solve_from(alloc, f, &base, pool, local, budget, &mut leaning, count)
 }
 
 /// Searches as `solve_towards` does, from a trail of the formula, which serves any number of searches. A variable that
@@ -91,6 +99,7 @@ pub fn solve_from(
     local: &[Clause],
     budget: u64,
     leaning: &mut SavedPhases,
+    count: &mut StepCount,
 ) -> Result<Answer, AllocError>
     requires base { IsBase f.now base.now }
     requires pool { IsAccepted f.now.clauses pool.now }
@@ -102,6 +111,8 @@ pub fn solve_from(
     ensures stopped { IfOk result (IsStopped (f.now.clauses ++ local.now) pool.now) }
     ensures units { IfOk result (λ a. NamesNoUnits (length f.now.clauses) local.now (log_of a)) }
     ensures last { IfOk result (λ a. HasEmptyOnlyLast (log_of a)) }
+    ensures count { IfOk result (λ a. count.new ≡ raised count.old (learnt_in a)) }
+    ensures spent { count.new ≤ count.old + budget }
     ensures leaning { IfOk result (λ a. leaning.new ≡ leaned_behind a leaning.old) }
     ensures err { OnErr result (leaning.new ≡ leaning.old) }
 {
@@ -109,7 +120,7 @@ pub fn solve_from(
     let others = locals.others.as_slice();
     let assumed = locals.assumed.as_slice();
     let mut trail = trail_of(alloc, f, base, pool, others, assumed)?;
-    let ending = solve_on(alloc, &mut trail, assumed, budget, leaning)?;
+    let ending = solve_on(alloc, &mut trail, assumed, budget, leaning, count)?;
     let answer = answer_of(alloc, f, base, pool, local, budget, &locals, &trail, ending)?;
     follow(alloc, leaning, &answer)?;
     Ok(answer)
@@ -152,7 +163,8 @@ fn answer_of(
     requires learnt { IsLearnt (members_of (f.now.clauses ++ locals.now.others.items) pool.now) locals.now.assumed.items (steps_of ending) }
     requires budget { length (steps_of ending) ≤ budget }
     requires end { IsEnding trail.now.vars (members_of (f.now.clauses ++ locals.now.others.items) pool.now) locals.now.assumed.items budget ending }
-    ensures { IfOk result (IsAnswerTo f.now local.now pool.now budget) }
+    ensures answer { IfOk result (IsAnswerTo f.now local.now pool.now budget) }
+    ensures learnt { IfOk result (λ a. learnt_in a ≡ length (steps_of ending)) }
 {
     let _ = trail.vars(); // for the proof
     let numbering = &locals.numbering;
@@ -189,7 +201,8 @@ fn refuted(
     requires budget { length steps ≤ budget }
     requires so_far { IsSoFar (members_of (f.now.clauses ++ local.now) pool.now) local.now (length f.now.clauses) steps }
     requires clash { (falses : List Lit) → ¬ IsClosed (members_of (members_of (f.now.clauses ++ local.now) pool.now) steps) falses }
-    ensures { IfOk result (IsAnswerTo f.now local.now pool.now budget) }
+    ensures answer { IfOk result (IsAnswerTo f.now local.now pool.now budget) }
+    ensures learnt { IfOk result (λ a. learnt_in a ≡ length steps) }
 {
     let mut log = steps;
     let step = last_step(alloc, f, base, pool, local, &log)?;

@@ -10,6 +10,6 @@ mod round;
 mod search;
 
 pub use crate::search_rounds::locals::locals_of;
-pub use crate::search_rounds::next::{Found, NextAt, all_vars, joined, next_at, proof_of};
+pub use crate::search_rounds::next::{Found, NextAt, joined, next_at, proof_of};
 pub use crate::search_rounds::round::{RoundEnd, round_at};
-pub use sat_core::SavedPhases;
+pub use sat_core::{SavedPhases, StepCount};

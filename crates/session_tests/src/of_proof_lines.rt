@@ -9,7 +9,7 @@ use rel_formula::Scenario;
 use script_text::proof_lines::laws::covered_scenarios_are_cells;
 use script_text::proof_lines::text_of_proof;
 use session_rules::{EndProof, ProofKind};
-use session_state::search_rounds::{Found, NextAt, SavedPhases, next_at};
+use session_state::search_rounds::{Found, NextAt, SavedPhases, StepCount, next_at};
 use std::alloc::Global;
 use std::test::Fail;
 use translation::Translation;
@@ -23,7 +23,18 @@ fn ended(alloc: Global, made: &Translation) -> Result<EndProof, Fail>
     let pool = Log::new(alloc);
     let floor = Scenario::new(alloc);
     let mut leaning = SavedPhases::towards(alloc, false);
-    let next = next_at(alloc, made, &pool, &floor, &[], &[], 1000, &mut leaning)?;
+    let mut count = StepCount::new();
+    let next = next_at(
+        alloc,
+        made,
+        &pool,
+        &floor,
+        &[],
+        &[],
+        1000,
+        &mut leaning,
+        &mut count,
+    )?;
     let NextAt {
         found,
         parts: _,

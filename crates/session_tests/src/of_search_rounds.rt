@@ -14,7 +14,7 @@ use sample_problems::{bits_of, scenario_of, two_sets_of};
 use samples::exhaustive_search::all_due;
 use samples::sample_translations::translated_sets;
 use session_rules::EndProof;
-use session_state::search_rounds::{Found, NextAt, SavedPhases, locals_of, next_at};
+use session_state::search_rounds::{Found, NextAt, SavedPhases, StepCount, locals_of, next_at};
 use std::alloc::{AllocError, Global};
 use std::test::Fail;
 use translation::Translation;
@@ -48,6 +48,7 @@ fn searched(
 {
     let pool = Log::new(alloc);
     let mut leaning = SavedPhases::towards(alloc, false);
+    let mut count = StepCount::new();
     let next = next_at(
         alloc,
         made,
@@ -57,6 +58,7 @@ fn searched(
         copies,
         budget,
         &mut leaning,
+        &mut count,
     )?;
     Ok(next)
 }

@@ -10,6 +10,7 @@ use rel_formula::{Expression, Formula};
 use sample_problems::{bits_of, set_of};
 use samples::sample_translations::translation_of;
 use session_rules::{Refusal, Reply};
+use session_state::search_rounds::StepCount;
 use session_state::session_search::Session;
 use session_words::{AtomName, AtomNames, Step};
 use std::alloc::{AllocError, Global};
@@ -107,7 +108,8 @@ fn search(
     ensures few { OnOk result (length session.new.kept.state.shown ≤ length session.old.kept.state.shown + 1) }
 {
     let pool = Log::new(alloc);
-    let proposal = session.propose(alloc, made, &pool, &step)?;
+    let mut count = StepCount::new();
+    let proposal = session.propose(alloc, made, &pool, &step, &mut count)?;
     let told = told_of(proposal.reply());
     session.reserve(&proposal)?;
     session.apply(proposal);

@@ -7,3 +7,4 @@ pub mod Answering
 pub mod ShownTogether
 pub mod SessionStart
 pub mod SoFar
+pub mod Costs

@@ -3,3 +3,4 @@ pub mod Showing
 pub mod Seated
 pub mod Added
 pub mod Served
+pub mod Allowed

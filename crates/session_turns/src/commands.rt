@@ -6,6 +6,7 @@ ghost use Rattle.session_rules.specs.States.{top_floor};
 ghost use Rattle.session_turns.specs.Serving.{IsPrintable};
 ghost use Rattle.hub_turns.specs.Turned.{WentOn};
 ghost use Rattle.session_turns.specs.Added.{HasServed};
+ghost use Rattle.session_turns.specs.Allowed.{cost_of, MayLeave};
 ghost use Rattle.session_turns.specs.Seated.{IsSeated, BeginsPool};
 
 use crate::showing::show_all;
@@ -14,6 +15,7 @@ use hub_lock::{Pass, Turns};
 use hub_state::Hub;
 use refutation_check::Log;
 use session_rules::Reply;
+use session_state::search_rounds::StepCount;
 use session_state::session_search::Session;
 use session_words::Command;
 use std::alloc::Global;
@@ -26,7 +28,8 @@ use translation::Translation;
 /// command brings the whole pool, the later ones of `all` what came since.
 ///
 /// The session is one over the translation of its key, which the pass has seen, and has shown at most 20,000 scenarios with those
-/// that the command asks for. A budget is at most 100,000, and `all` asks for some scenario.
+/// that the command asks for. A budget is at most 100,000, and `all` asks for some scenario. Whatever comes of the command, its
+/// searches raise the count by no more than it may cost.
 pub fn command<R: Wait>(
     rt: &R,
     alloc: Global,
@@ -35,6 +38,7 @@ pub fn command<R: Wait>(
     session: &mut Session,
     translation: &Translation,
     command: &Command,
+    count: &mut StepCount,
 ) -> Reply
     requires seated { (shown : ℕ) × IsSeated lock.now translation.now shown pass.old session.old × (shown + asks command.now ≤ 20000) }
     requires allowed { IsAllowed command.now }
@@ -43,6 +47,8 @@ pub fn command<R: Wait>(
     ensures printable { IsPrintable translation.now (top_floor session.old.kept.state) result }
     ensures seated { (shown : ℕ) → IsSeated lock.now translation.now shown pass.old session.old → IsSeated lock.now translation.now (shown + asks command.now) pass.new session.new }
     ensures key { session.new.key ≡ session.old.key }
+    ensures spent { count.new ≤ count.old + cost_of session.old.kept.state.budget command.now }
+    ensures budget { MayLeave session.old.kept.state.budget command.now session.new.kept.state.budget }
 {
     let mut pool = Log::new(alloc);
     answer(
@@ -54,6 +60,7 @@ pub fn command<R: Wait>(
         &mut pool,
         translation,
         command,
+        count,
     )
 }
 
@@ -67,6 +74,7 @@ pub(crate) fn answer<R: Wait>(
     pool: &mut Log,
     translation: &Translation,
     command: &Command,
+    count: &mut StepCount,
 ) -> Reply
     requires seated { (shown : ℕ) × IsSeated lock.now translation.now shown pass.old session.old × (shown + asks command.now ≤ 20000) }
     requires allowed { IsAllowed command.now }
@@ -76,10 +84,32 @@ pub(crate) fn answer<R: Wait>(
     ensures printable { IsPrintable translation.now (top_floor session.old.kept.state) result }
     ensures seated { (shown : ℕ) → IsSeated lock.now translation.now shown pass.old session.old → IsSeated lock.now translation.now (shown + asks command.now) pass.new session.new }
     ensures key { session.new.key ≡ session.old.key }
+    ensures spent { count.new ≤ count.old + cost_of session.old.kept.state.budget command.now }
+    ensures budget { MayLeave session.old.kept.state.budget command.now session.new.kept.state.budget }
     ensures begins { BeginsPool pool.new pass.new session.new }
 {
     match command {
-        Command::Step(step) => take_step(rt, alloc, lock, pass, session, pool, translation, step),
-        Command::All(count) => show_all(rt, alloc, lock, pass, session, pool, translation, *count),
+        Command::Step(step) => take_step(
+            rt,
+            alloc,
+            lock,
+            pass,
+            session,
+            pool,
+            translation,
+            step,
+            count,
+        ),
+        Command::All(wanted) => show_all(
+            rt,
+            alloc,
+            lock,
+            pass,
+            session,
+            pool,
+            translation,
+            *wanted,
+            count,
+        ),
     }
 }

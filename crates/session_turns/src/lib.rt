@@ -13,3 +13,4 @@ mod steps;
 pub use crate::commands::command;
 pub use crate::opening::open_session;
 pub use crate::serving::serve_session;
+pub use session_state::search_rounds::StepCount;

@@ -1,5 +1,5 @@
 // `all`: the next scenario, again and again.
-ghost use Rattle.std.specs.Prelude.{◌≡◌, ◌≤◌, ◌<◌, ◌+◌, ◌==◌, ◌⊎◌, ◌++◌, ◌∷◌, [], ℕ, List, length, MatchOption, if◌then◌else◌, vec_len, vec_capacity};
+ghost use Rattle.std.specs.Prelude.{◌≡◌, ◌≤◌, ◌<◌, ◌+◌, ◌*◌, ◌==◌, ◌⊎◌, ◌++◌, ◌∷◌, [], ℕ, List, length, MatchOption, if◌then◌else◌, vec_len, vec_capacity};
 ghost use Rattle.hub_lock.specs.Passes.{PassView};
 ghost use Rattle.rel_formula.specs.Bounds.{Bounded};
 ghost use Rattle.session_words.specs.declared.commands.Command.TheVariants.{All};
@@ -21,6 +21,7 @@ use refutation_check::Log;
 use rel_formula::Scenario;
 use session_rules::laws::a_run_is_sound;
 use session_rules::{Reply, Scenarios};
+use session_state::search_rounds::StepCount;
 use session_state::session_search::Session;
 use session_words::Step;
 use std::alloc::Global;
@@ -43,27 +44,30 @@ pub(crate) fn show_all<R: Wait>(
     session: &mut Session,
     pool: &mut Log,
     translation: &Translation,
-    count: u32,
+    wanted: u32,
+    count: &mut StepCount,
 ) -> Reply
-    requires seated { (shown : ℕ) × IsSeated lock.now translation.now shown pass.old session.old × (shown + count ≤ 20000) }
-    requires some { 1 ≤ count }
+    requires seated { (shown : ℕ) × IsSeated lock.now translation.now shown pass.old session.old × (shown + wanted ≤ 20000) }
+    requires some { 1 ≤ wanted }
     requires begins { BeginsPool pool.old pass.old session.old }
     ensures goes { WentOn lock.now pass.old pass.new }
-    ensures served { HasServed translation.now pass.old pass.new session.old session.new (All count) result }
+    ensures served { HasServed translation.now pass.old pass.new session.old session.new (All wanted) result }
     ensures printable { IsPrintable translation.now (top_floor session.old.kept.state) result }
-    ensures seated { (shown : ℕ) → IsSeated lock.now translation.now shown pass.old session.old → IsSeated lock.now translation.now (shown + count) pass.new session.new }
+    ensures seated { (shown : ℕ) → IsSeated lock.now translation.now shown pass.old session.old → IsSeated lock.now translation.now (shown + wanted) pass.new session.new }
     ensures key { session.new.key ≡ session.old.key }
     ensures begins { BeginsPool pool.new pass.new session.new }
+    ensures spent { count.new ≤ count.old + wanted * session.old.kept.state.budget }
+    ensures budget { session.new.kept.state.budget ≡ session.old.kept.state.budget }
 {
     a_run_is_sound();
-    let Ok(scenarios) = Vec::with_capacity(alloc, count as usize) else {
+    let Ok(scenarios) = Vec::with_capacity(alloc, wanted as usize) else {
         return Reply::Memory;
     };
     let mut showing = Showing {
         first: 0,
         scenarios,
     };
-    for _time in 0..count {
+    for _time in 0..wanted {
         if let Some(reply) = show_one(
             rt,
             alloc,
@@ -73,6 +77,7 @@ pub(crate) fn show_all<R: Wait>(
             pool,
             translation,
             &mut showing,
+            count,
         ) {
             return reply;
         }
@@ -93,6 +98,7 @@ fn show_one<R: Wait>(
     pool: &mut Log,
     translation: &Translation,
     showing: &mut Showing,
+    count: &mut StepCount,
 ) -> Option<Reply>
     requires seated { IsSeated lock.now translation.now 19999 pass.old session.old }
     requires room { vec_len showing.old.scenarios < vec_capacity showing.old.scenarios }
@@ -107,6 +113,8 @@ fn show_one<R: Wait>(
     ensures seated { (shown : ℕ) → IsSeated lock.now translation.now shown pass.old session.old → IsSeated lock.now translation.now (shown + 1) pass.new session.new }
     ensures key { session.new.key ≡ session.old.key }
     ensures begins { BeginsPool pool.new pass.new session.new }
+    ensures spent { count.new ≤ count.old + session.old.kept.state.budget }
+    ensures budget { session.new.kept.state.budget ≡ session.old.kept.state.budget }
 {
     a_run_is_sound();
     match take_step(
@@ -118,6 +126,7 @@ fn show_one<R: Wait>(
         pool,
         translation,
         &Step::Next,
+        count,
     ) {
         Reply::Shown { number, scenario } => {
             showing.add(number, scenario);

@@ -10,6 +10,7 @@ ghost use Rattle.session_turns.specs.Serving.{IsPrintable};
 ghost use Rattle.hub_state.specs.Journal.Journal.{IsPublished};
 ghost use Rattle.hub_turns.specs.Turned.{IsIdle, WentOn};
 ghost use Rattle.session_turns.specs.Added.{HasBegun, HasProposed, HasAnswered};
+ghost use Rattle.session_turns.specs.Allowed.{cost_of_step};
 ghost use Rattle.session_turns.specs.Seated.{IsSeated, BeginsPool};
 
 use crate::settling::settle;
@@ -23,6 +24,7 @@ use session_rules::Reply;
 use session_rules::laws::{
     a_run_is_sound, memory_changes_nothing, nothing_done_is_work, one_floor_is_asked_for,
 };
+use session_state::search_rounds::StepCount;
 use session_state::session_search::{Proposal, Session};
 use session_words::Step;
 use std::alloc::{AllocError, Global};
@@ -40,6 +42,7 @@ pub(crate) fn take_step<R: Wait>(
     pool: &mut Log,
     translation: &Translation,
     step: &Step,
+    count: &mut StepCount,
 ) -> Reply
     requires seated { IsSeated lock.now translation.now 20000 pass.old session.old }
     requires begins { BeginsPool pool.old pass.old session.old }
@@ -49,12 +52,23 @@ pub(crate) fn take_step<R: Wait>(
     ensures printable { IsPrintable translation.now (top_floor session.old.kept.state) result }
     ensures seated { (shown : ℕ) → IsSeated lock.now translation.now shown pass.old session.old → IsSeated lock.now translation.now (shown + asks_step step.now) pass.new session.new }
     ensures key { session.new.key ≡ session.old.key }
+    ensures spent { count.new ≤ count.old + cost_of_step session.old.kept.state.budget step.now }
     ensures begins { BeginsPool pool.new pass.new session.new }
 {
     a_run_is_sound();
     memory_changes_nothing();
     covered_scenarios_are_cells();
-    match proposed(rt, alloc, lock, pass, session, pool, translation, step) {
+    match proposed(
+        rt,
+        alloc,
+        lock,
+        pass,
+        session,
+        pool,
+        translation,
+        step,
+        count,
+    ) {
         Ok(proposal) => settle(rt, alloc, lock, pass, session, step, proposal),
         Err(_) => Reply::Memory,
     }
@@ -70,6 +84,7 @@ fn proposed<R: Wait>(
     pool: &mut Log,
     translation: &Translation,
     step: &Step,
+    count: &mut StepCount,
 ) -> Result<Proposal, AllocError>
     requires idle { IsIdle lock.now pass.old }
     requires published { IsPublished pass.old.view.seen session.old.key translation.now }
@@ -83,12 +98,43 @@ fn proposed<R: Wait>(
     ensures proposal { IfOk result (HasProposed translation.now pass.new session.old step.now) }
     ensures same { session.new ≡ session.old }
     ensures begins { BeginsPool pool.new pass.new session.old }
+    ensures spent { count.new ≤ count.old + cost_of_step session.old.kept.state.budget step.now }
 {
     nothing_done_is_work();
     match step {
-        Step::Next => searched(rt, alloc, lock, pass, session, pool, translation, step),
-        Step::Offers => searched(rt, alloc, lock, pass, session, pool, translation, step),
-        Step::Augment { .. } => searched(rt, alloc, lock, pass, session, pool, translation, step),
+        Step::Next => searched(
+            rt,
+            alloc,
+            lock,
+            pass,
+            session,
+            pool,
+            translation,
+            step,
+            count,
+        ),
+        Step::Offers => searched(
+            rt,
+            alloc,
+            lock,
+            pass,
+            session,
+            pool,
+            translation,
+            step,
+            count,
+        ),
+        Step::Augment { .. } => searched(
+            rt,
+            alloc,
+            lock,
+            pass,
+            session,
+            pool,
+            translation,
+            step,
+            count,
+        ),
         Step::Back => session.propose_plain(alloc, step),
         Step::Budget(_) => session.propose_plain(alloc, step),
         Step::Proof => session.propose_plain(alloc, step),
@@ -106,6 +152,7 @@ fn searched<R: Wait>(
     pool: &mut Log,
     translation: &Translation,
     step: &Step,
+    count: &mut StepCount,
 ) -> Result<Proposal, AllocError>
     requires idle { IsIdle lock.now pass.old }
     requires published { IsPublished pass.old.view.seen session.old.key translation.now }
@@ -119,12 +166,13 @@ fn searched<R: Wait>(
     ensures proposal { IfOk result (HasProposed translation.now pass.new session.old step.now) }
     ensures same { session.new ≡ session.old }
     ensures begins { BeginsPool pool.new pass.new session.old }
+    ensures spent { count.new ≤ count.old + session.old.kept.state.budget }
 {
     one_floor_is_asked_for();
     let _ = translation.problem().relations(); // for the proof
     let key = session.key();
     import(rt, alloc, lock, pass, key, pool)?;
-    let proposal = session.propose(alloc, translation, pool, step)?;
+    let proposal = session.propose(alloc, translation, pool, step, count)?;
     share_parts(
         rt,
         alloc,

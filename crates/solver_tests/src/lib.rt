@@ -28,6 +28,8 @@ mod of_sat_core;
 #[cfg(test)]
 mod of_sat_trail;
 #[cfg(test)]
+mod of_step_count;
+#[cfg(test)]
 mod of_watch_lists;
 #[cfg(test)]
 mod of_watched_literals;

@@ -6,6 +6,7 @@ use augmenter::{Offers, Sought, offers, seek};
 use refutation_check::Log;
 use rel_formula::{Problem, Scenario, holds};
 use sample_problems::{bits_of, scenario_of};
+use sat_core::StepCount;
 use std::alloc::{AllocError, Global};
 use std::test::Fail;
 use translation::Translation;
@@ -31,7 +32,8 @@ fn offers_beside(
         return Ok(None);
     }
     let pool = Log::new(alloc);
-    let offered = offers(alloc, made, &pool, scenario, u64::from(budget))?;
+    let mut count = StepCount::new();
+    let offered = offers(alloc, made, &pool, scenario, u64::from(budget), &mut count)?;
     Ok(Some(told(&offered)))
 }
 
@@ -76,7 +78,8 @@ fn outcome(sought: &Sought) -> u32 {
 fn sought_in(alloc: Global, made: &Translation, bits: u32, budget: u16) -> Result<u32, AllocError> {
     let cells = scenario_of(alloc, made.problem(), bits)?;
     let pool = Log::new(alloc);
-    let sought = seek(alloc, made, &pool, &cells, u64::from(budget))?;
+    let mut count = StepCount::new();
+    let sought = seek(alloc, made, &pool, &cells, u64::from(budget), &mut count)?;
     Ok(outcome(&sought))
 }
 

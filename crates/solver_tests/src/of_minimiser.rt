@@ -9,6 +9,7 @@ use refutation_check::Log;
 use rel_formula::{Scenario, holds};
 use sample_problems::{bits_of, scenario_of};
 use samples::sample_translations::translated_sets;
+use sat_core::StepCount;
 use sat_trail::Trail;
 use std::alloc::{AllocError, Global};
 use std::test::Fail;
@@ -37,7 +38,16 @@ fn goes_down(
         return Ok(None);
     }
     let pool = Log::new(alloc);
-    let down = minimise(alloc, made, &pool, floor, start, u64::from(budget))?;
+    let mut count = StepCount::new();
+    let down = minimise(
+        alloc,
+        made,
+        &pool,
+        floor,
+        start,
+        u64::from(budget),
+        &mut count,
+    )?;
     Ok(Some(told(&down)))
 }
 
@@ -162,7 +172,10 @@ fn goes_down_on(
     }
     let pool = Log::new(alloc);
     let budget = u64::from(budget);
-    let down = minimise_on(alloc, made, base, trail, &pool, &floor, &start, budget)?;
+    let mut count = StepCount::new();
+    let down = minimise_on(
+        alloc, made, base, trail, &pool, &floor, &start, budget, &mut count,
+    )?;
     Ok(Some(told(&down)))
 }
 

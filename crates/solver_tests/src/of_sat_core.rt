@@ -6,7 +6,7 @@ ghost use Rattle.refutation_check.specs.Chain.{IsAccepted};
 use crate::clauses::clause;
 use cnf_core::{Clause, Cnf, Lit, Valuation};
 use refutation_check::{Hints, Log, Scratch, Step, Verdict, check};
-use sat_core::{Answer, Ending, SavedPhases, Trail, solve, solve_on};
+use sat_core::{Answer, Ending, SavedPhases, StepCount, Trail, solve, solve_on};
 use std::alloc::Global;
 use std::process::Abort;
 use std::test::Fail;
@@ -19,7 +19,7 @@ enum Kind {
     Spent,
 }
 
-fn formula(alloc: Global, vars: u32, clauses: &[&[i8]]) -> Result<Cnf, Fail>
+pub(crate) fn formula(alloc: Global, vars: u32, clauses: &[&[i8]]) -> Result<Cnf, Fail>
     requires vars { vars < 128 }
     requires few { length clauses.now < 1000 }
     ensures vars { IfOk result (λ f. f.vars ≡ vars) }
@@ -69,7 +69,8 @@ fn answer(alloc: Global, f: &Cnf, budget: u64) -> Result<(Kind, usize), Fail>
     requires budget { budget < 100000 }
 {
     let _vars = f.vars(); // for the proof
-    match solve(alloc, f, &Log::new(alloc), &[], budget)? {
+    let mut count = StepCount::new();
+    match solve(alloc, f, &Log::new(alloc), &[], budget, &mut count)? {
         Answer::Found { valuation, log } if is_satisfied(f, &valuation) => Ok((
             Kind::Found,
             log.steps().len(),
@@ -112,7 +113,8 @@ fn the_square_is_refuted_within_its_budget(rt: HostRuntime) -> Result<(), Fail> 
 fn found_values(alloc: Global, f: &Cnf) -> Result<(bool, bool), Fail>
     requires { length f.now.clauses < 1000 }
 {
-    let answer = solve(alloc, f, &Log::new(alloc), &[], 9)?;
+    let mut count = StepCount::new();
+    let answer = solve(alloc, f, &Log::new(alloc), &[], 9, &mut count)?;
     values_in(&answer)
 }
 
@@ -160,7 +162,8 @@ fn searched(
     requires budget { budget < 100000 }
 {
     let clauses = clauses_of(alloc, local)?;
-    match solve(alloc, f, pool, clauses.as_slice(), budget)? {
+    let mut count = StepCount::new();
+    match solve(alloc, f, pool, clauses.as_slice(), budget, &mut count)? {
         Answer::Found { log, .. } => Ok((Kind::Found, log)),
         Answer::Refuted { log } => Ok((Kind::Refuted, log)),
         Answer::Spent { log } => Ok((Kind::Spent, log)),
@@ -404,7 +407,15 @@ fn ended(alloc: Global, trail: &mut Trail, assumed: i8, budget: u64) -> Result<(
     ensures few { OnOk result (length trail.new.clauses ≤ length trail.old.clauses + budget) }
 {
     let leaning = SavedPhases::towards(alloc, false);
-    match solve_on(alloc, trail, &[literal(assumed)], budget, &leaning)? {
+    let mut count = StepCount::new();
+    match solve_on(
+        alloc,
+        trail,
+        &[literal(assumed)],
+        budget,
+        &leaning,
+        &mut count,
+    )? {
         Ending::Found { log, .. } => Ok((Kind::Found, log.steps().len())),
         Ending::Clash { log } => Ok((Kind::Refuted, log.steps().len())),
         Ending::Spent { log } => Ok((Kind::Spent, log.steps().len())),

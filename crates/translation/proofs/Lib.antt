@@ -4,3 +4,4 @@ pub mod Instances
 pub mod NeighbourCounts
 pub mod ProblemClauses
 pub mod SwapChains
+pub mod HighestVars

@@ -1,11 +1,11 @@
 -- The swaps of a translation, each with clauses over fresh variables of its own.
-use Rattle.std.specs.Prelude.{◌↔◌, ◌⊎◌, ◌+◌, ◌*◌, ◌<◌, ◌≤◌, ℕ, ⊤, List, [], ◌∷◌, length, Contains}
+use Rattle.std.specs.Prelude.{◌↔◌, ◌⊎◌, ◌+◌, ◌*◌, ◌<◌, ◌≤◌, ℕ, ⊤, List, [], ◌∷◌, map, max, length, Contains}
 use Rattle.tuple_core.specs.declared.atom.Atom.{Atom}
 use Rattle.cnf_core.specs.Formula.{Formula}
 use Rattle.refutation_check.specs.SearchLog.{IsVarOf}
 use Rattle.rel_formula.specs.Bounds.{Bounded, cells_of}
 use Rattle.swap_symmetry.specs.Swaps.{SwapIsEarlier}
-use Rattle.translation_rules.specs.Translation.{SwapClauses, IsSatisfiableAt, IsCellVar}
+use Rattle.translation_rules.specs.Translation.{SwapClauses, Translated, IsSatisfiableAt, IsCellVar}
 
 -- each pair of atoms with its clauses
 abbrev pub swaps_of : List (Atom × Atom) → List Formula → List SwapClauses
@@ -28,3 +28,12 @@ pub record IsNext (p : Bounded) (last : ℕ) (x : SwapClauses) : Type 0 where
 abbrev pub AreNumbered : Bounded → ℕ → List SwapClauses → Type 0
 AreNumbered p last [] = ⊤
 AreNumbered p last (x ∷ xs) = IsNext p last x × AreNumbered p x.cnf.vars xs
+
+-- the highest of this variable and of those that the formulas are over
+abbrev pub highest_var : ℕ → List Formula → ℕ
+highest_var var [] = var
+highest_var var (f ∷ fs) = max f.vars (highest_var var fs)
+
+-- the highest variable of the problem's clauses and of those of the swaps
+abbrev pub vars_of : Translated → ℕ
+vars_of t = highest_var t.cnf.vars (map (λ x. x.cnf) t.swaps)

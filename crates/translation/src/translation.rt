@@ -4,7 +4,7 @@ ghost use Rattle.rel_formula.specs.Bounds.{cells_of};
 ghost use Rattle.rel_formula.specs.Renaming.{IsSymmetric};
 ghost use Rattle.rel_terms.specs.Terms.{IsTranslatable};
 ghost use Rattle.translation_rules.specs.Translation.{SwapClauses};
-ghost use Rattle.translation.specs.Numbered.{pair_of};
+ghost use Rattle.translation.specs.Numbered.{pair_of, highest_var, vars_of};
 ghost use Rattle.translation.specs.Kept.{IsTranslation};
 
 use crate::swaps::clauses_of_pairs;
@@ -21,12 +21,23 @@ use tuple_core::Atom;
 /// that it makes nothing earlier.
 ///
 /// The variable of cell n is n + 1. Each swap has fresh variables of its own, behind those of the problem's clauses.
-#[derive(Drop)]
 pub struct Translation {
     problem: Problem,
     cnf: Cnf,
     pairs: Vec<(Atom, Atom)>,
     swaps: Vec<Cnf>,
+}
+
+// By hand, so that a caller's proof has one step wherever one is dropped.
+impl Drop for Translation {
+    fn drop(self) {
+        let Translation {
+            problem: _,
+            cnf: _,
+            pairs: _,
+            swaps: _,
+        } = self;
+    }
 }
 
 impl Model for Translation {
@@ -95,4 +106,25 @@ impl Translation {
     {
         &self.swaps[place as usize]
     }
+    /// The highest variable of all these clauses: of the problem's and of those of the swaps.
+    pub fn vars(&self) -> u32
+        ensures highest { result ≡ vars_of self.now }
+        ensures enough { self.now.cnf.vars ≤ result }
+        ensures few { result < 2 ^ 31 }
+    {
+        highest_of(self.cnf.vars(), self.swaps.as_slice())
+    }
+}
+
+// The highest of this variable and of those that the formulas are over.
+fn highest_of(var: u32, formulas: &[Cnf]) -> u32
+    requires { var < 2 ^ 31 }
+    ensures highest { result ≡ highest_var var formulas.now }
+    ensures few { result < 2 ^ 31 }
+{
+    let mut highest = var;
+    for formula in formulas {
+        highest = highest.max(formula.vars());
+    }
+    highest
 }

@@ -1,5 +1,6 @@
 pub mod Free
 pub mod Translation
+pub mod Imports
 pub mod Offers
 pub mod Locals
 pub mod Parts

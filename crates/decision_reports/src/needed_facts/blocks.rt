@@ -2,7 +2,7 @@
 ghost use Rattle.std.specs.Prelude.{◌≡◌, ◌≤◌, ◌<◌, MatchResult};
 ghost use Rattle.named_model.specs.View.{named_view};
 ghost use Rattle.rel_lower.specs.Lowered.{IsTyped};
-ghost use Rattle.lowering_rules.specs.declared.fault.LowerFault.TheVariants.{Memory};
+ghost use Rattle.lowering_rules.specs.Problem.{IsWant};
 ghost use Rattle.decision_reports.specs.FactSets.{IsCore};
 ghost use Rattle.decision_reports.specs.Trials.{HasWholeProblem, smaller};
 
@@ -25,7 +25,7 @@ pub fn narrowed(
     requires whole { HasWholeProblem (named_view model.now) command }
     requires core { IsCore (named_view model.now) command core }
     requires budget { budget ≤ 100000000 }
-    ensures { MatchResult result (IsCore (named_view model.now) command) (λ fault. fault ≡ Memory) }
+    ensures { MatchResult result (IsCore (named_view model.now) command) IsWant }
 {
     let mut size = core.facts.len();
     'sizes: while size > 2 {
@@ -49,7 +49,7 @@ fn without_blocks(
     requires core { IsCore (named_view model.now) command core }
     requires size { 0 < size }
     requires budget { budget ≤ 100000000 }
-    ensures { MatchResult result (IsCore (named_view model.now) command) (λ fault. fault ≡ Memory) }
+    ensures { MatchResult result (IsCore (named_view model.now) command) IsWant }
 {
     let facts = Vec::from_slice(alloc, &core.facts)?;
     for block in facts.chunks(size) {
@@ -71,7 +71,7 @@ fn without_block(
     requires whole { HasWholeProblem (named_view model.now) command }
     requires core { IsCore (named_view model.now) command core }
     requires budget { budget ≤ 100000000 }
-    ensures { MatchResult result (IsCore (named_view model.now) command) (λ fault. fault ≡ Memory) }
+    ensures { MatchResult result (IsCore (named_view model.now) command) IsWant }
 {
     let Some(first) = block.first() else {
         return Ok(core);

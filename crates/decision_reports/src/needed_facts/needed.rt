@@ -3,8 +3,7 @@ ghost use Rattle.std.specs.Prelude.{◌≡◌, ◌≤◌, MatchResult};
 ghost use Rattle.named_model.specs.View.{named_view};
 ghost use Rattle.rel_lower.specs.Lowered.{IsTyped};
 ghost use Rattle.lowering_rules.specs.Formula.{all_facts};
-ghost use Rattle.lowering_rules.specs.Problem.{IsRefusal};
-ghost use Rattle.lowering_rules.specs.declared.fault.LowerFault.TheVariants.{Memory};
+ghost use Rattle.lowering_rules.specs.Problem.{IsWant, IsRefusal};
 ghost use Rattle.decision_reports.specs.FactSets.{IsCore, IsFactSet};
 ghost use Rattle.decision_reports.specs.Trials.{HasWholeProblem, IsTrial};
 
@@ -21,7 +20,6 @@ use session_rules::Scenarios;
 use std::alloc::Global;
 
 /// What is known of the facts of a model under a command.
-#[derive(Drop)]
 pub enum FactSet {
     /// They can all be true, as in this scenario.
     Satisfiable { scenario: Scenario },
@@ -30,6 +28,20 @@ pub enum FactSet {
     Needs { core: Core, scenarios: Scenarios },
     /// A budget was spent: on all facts, or on all but one of some that can't all be true.
     Spent(SpentFacts),
+}
+
+// By hand, so that a caller's proof has one step wherever one is dropped.
+impl Drop for FactSet {
+    fn drop(self) {
+        match self {
+            FactSet::Satisfiable { scenario: _ } => {}
+            FactSet::Needs {
+                core: _,
+                scenarios: _,
+            } => {}
+            FactSet::Spent(_) => {}
+        }
+    }
 }
 
 /// Finds facts that can't all be true under the command of this number, from 1 on, or a scenario in which all are.
@@ -66,7 +78,7 @@ fn set_of(
     requires whole { HasWholeProblem (named_view model.now) command }
     requires trial { IsTrial (named_view model.now) command budget (all_facts (named_view model.now)) trial }
     requires budget { budget ≤ 100000000 }
-    ensures { MatchResult result (IsFactSet (named_view model.now) command budget) (λ fault. fault ≡ Memory) }
+    ensures { MatchResult result (IsFactSet (named_view model.now) command budget) IsWant }
 {
     match trial {
         Trial::Satisfied(scenario) => Ok(FactSet::Satisfiable { scenario }),
@@ -87,7 +99,7 @@ fn irreducible(
     requires whole { HasWholeProblem (named_view model.now) command }
     requires core { IsCore (named_view model.now) command core }
     requires budget { budget ≤ 100000000 }
-    ensures { MatchResult result (IsFactSet (named_view model.now) command budget) (λ fault. fault ≡ Memory) }
+    ensures { MatchResult result (IsFactSet (named_view model.now) command budget) IsWant }
 {
     let core = narrowed(alloc, model, command, core, budget)?;
     let facts = Vec::from_slice(alloc, &core.facts)?;
@@ -108,7 +120,7 @@ fn needed_of(
     requires core { IsCore (named_view model.now) command core }
     requires facts { facts.now ≡ core.facts.items }
     requires budget { budget ≤ 100000000 }
-    ensures { MatchResult result (IsFactSet (named_view model.now) command budget) (λ fault. fault ≡ Memory) }
+    ensures { MatchResult result (IsFactSet (named_view model.now) command budget) IsWant }
 {
     let mut tried = Tried {
         core,

@@ -2,7 +2,7 @@
 ghost use Rattle.std.specs.Prelude.{◌≡◌, ◌≤◌, ◌∷◌, ℕ, List, IfOk, MatchResult};
 ghost use Rattle.named_model.specs.View.{named_view};
 ghost use Rattle.rel_lower.specs.Lowered.{IsTyped};
-ghost use Rattle.lowering_rules.specs.declared.fault.LowerFault.TheVariants.{Memory};
+ghost use Rattle.lowering_rules.specs.Problem.{IsWant};
 ghost use Rattle.decision_reports.specs.FactSets.{IsCore};
 ghost use Rattle.decision_reports.specs.Trials.{AreTried, HasWholeProblem, IsNext, IsNextOf};
 
@@ -40,7 +40,7 @@ pub fn try_without(
     requires whole { HasWholeProblem (named_view model.now) command }
     requires core { IsCore (named_view model.now) command tried.core }
     requires budget { budget ≤ 100000000 }
-    ensures { MatchResult result (λ next. (rest : List ℕ) → AreTried (named_view model.now) command (fact ∷ rest) tried → IsNext (named_view model.now) command budget rest next) (λ fault. fault ≡ Memory) }
+    ensures { MatchResult result (λ next. (rest : List ℕ) → AreTried (named_view model.now) command (fact ∷ rest) tried → IsNext (named_view model.now) command budget rest next) IsWant }
 {
     let others = facts_without(alloc, &tried.core.facts, fact)?;
     let trial = try_some(alloc, model, command, others, budget)?;

@@ -6,8 +6,7 @@ ghost use Rattle.rel_formula.specs.Renaming.{IsSymmetric};
 ghost use Rattle.rel_lower.specs.Lowered.{IsTyped};
 ghost use Rattle.rel_terms.specs.Terms.{IsTranslatable};
 ghost use Rattle.lowering_rules.specs.Formula.{all_facts};
-ghost use Rattle.lowering_rules.specs.Problem.{ProblemOf};
-ghost use Rattle.lowering_rules.specs.declared.fault.LowerFault.TheVariants.{Memory};
+ghost use Rattle.lowering_rules.specs.Problem.{ProblemOf, IsWant};
 ghost use Rattle.decision_reports.specs.SomeFacts.{AreSomeOf};
 ghost use Rattle.decision_reports.specs.Trials.{HasWholeProblem, IsTrial, tried_by};
 
@@ -48,7 +47,7 @@ pub(crate) enum Trial {
 }
 
 /// Searches the problem of the command with these of its facts. As there is a problem with all facts, there is one with fewer: the
-/// fault is want of memory.
+/// fault is want of memory or of room.
 pub(crate) fn try_some(
     alloc: Global,
     model: &Named,
@@ -60,7 +59,7 @@ pub(crate) fn try_some(
     requires whole { HasWholeProblem (named_view model.now) command }
     requires some { AreSomeOf (all_facts (named_view model.now)) facts.items }
     requires budget { budget ≤ 100000000 }
-    ensures { MatchResult result (IsTrial (named_view model.now) command budget facts.items) (λ fault. fault ≡ Memory) }
+    ensures { MatchResult result (IsTrial (named_view model.now) command budget facts.items) IsWant }
 {
     problems_are_not_refused();
     problems_are_symmetric();

@@ -3,48 +3,37 @@ use Rattle.std.proofs.Common.{◌≡◌, ◌<◌, ◌≤◌, ◌+◌, ℕ, Bool,
 use Rattle.std.proofs.lemmas.List.Elements.{All-append, All-map}
 use Rattle.tuple_core.specs.declared.atom.Atom.{Atom}
 use Rattle.cnf_core.specs.declared.literal.Lit.{Lit}
+use Rattle.cnf_core.specs.Formula.{Formula}
 use Rattle.cnf_core.specs.Literal.{negation_of, HasVarsUpTo}
 use Rattle.rel_formula.specs.Bounds.{cells_of}
 use Rattle.rel_formula.specs.Instance.{AreCells}
-use Rattle.rel_formula.proofs.OpenCells.{cons_cases, filter_has}
+use Rattle.rel_formula.proofs.OpenCells.{cons_cases, filter_has, has_map}
 use Rattle.translation_rules.specs.Free.{is_free_of}
 use Rattle.translation_rules.specs.Translation.{SwapClauses, Translated, clauses_of_swaps}
 use Rattle.translation_rules.specs.Locals.{literal_of, units_of, absence_in}
 use Rattle.translation_rules.proofs.Tests.{flat_has, from_each}
 use Rattle.translation.specs.Kept.{IsTranslation}
+use Rattle.translation.specs.Numbered.{vars_of}
 use Rattle.translation.proofs.Chains.{member_next}
+use Rattle.translation.proofs.HighestVars.{least, each}
 use Rattle.session_rules.specs.Proofs.{locals_for}
 use Rattle.session_rules.specs.declared.end_proof.ProofKind.{ProofKind}
 use Rattle.session_rules.specs.declared.end_proof.ProofKind.TheVariants.{End, NoInstance}
-use Rattle.script_text.specs.Proofs.Printed.{most_vars}
-
-pub least_vars : (vars : ℕ) (xs : List SwapClauses) → vars ≤ most_vars vars xs
-least_vars vars [] = omega arith
-least_vars vars (x ∷ xs) = let rest = least_vars (max vars x.cnf.vars) xs in omega arith
-
-each_vars : (vars : ℕ) (xs : List SwapClauses) (x : SwapClauses) → Contains xs x → x.cnf.vars ≤ most_vars vars xs
-each_vars vars [] x c = absurd (let l = c.1 in omega arith)
-each_vars vars (y ∷ ys) x c = elim (cons_cases y ys x c) [
-  | inl same ↦ subst (λ (z : SwapClauses). z.cnf.vars ≤ most_vars vars (y ∷ ys)) same (let rest = least_vars (max vars y.cnf.vars) ys in omega arith)
-  | inr later ↦ each_vars (max vars y.cnf.vars) ys x later
-]
-
--- one swap more
-pub most_push : (vars : ℕ) (xs : List SwapClauses) (x : SwapClauses) → most_vars vars (xs ++ x ∷ []) ≡ max (most_vars vars xs) x.cnf.vars
-most_push vars [] x = refl
-most_push vars (y ∷ ys) x = most_push (max vars y.cnf.vars) ys x
 
 module _ (t : Translated) (is : IsTranslation t) where
   abbrev vars : ℕ
-  vars = most_vars t.cnf.vars t.swaps
+  vars = vars_of t
+
+  abbrev formulas : List Formula
+  formulas = map (λ (x : SwapClauses). x.cnf) t.swaps
 
   cells_within : length (cells_of t.problem) ≤ vars
-  cells_within = let least = least_vars t.cnf.vars t.swaps in let cells = is.cells in omega arith
+  cells_within = let lowest = least t.cnf.vars formulas in let cells = is.cells in omega arith
 
   swap_within : (x : SwapClauses) (clause : List Lit) → Contains t.swaps x → Contains x.cnf.clauses clause → HasVarsUpTo vars clause
   swap_within x clause there given = from_each (λ (l : Lit). l.var ≤ vars) clause (λ l member.
       let next = member_next t.problem t.cnf.vars t.swaps is.numbered x there in
-      let most = each_vars t.cnf.vars t.swaps x there in
+      let most = each t.cnf.vars formulas x.cnf (has_map (λ (y : SwapClauses). y.cnf) t.swaps x there) in
       elim (next.2.variables l.var (record { clause = clause; literal = l; given = given; member = member; same = refl })) [
         | inl cell ↦ let in' = cell.1 in let same = cell.2 in let within = cells_within in omega arith
         | inr fresh ↦ let below = fresh.1 in omega arith

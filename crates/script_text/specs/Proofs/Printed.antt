@@ -1,20 +1,17 @@
 -- The formula and the log that are printed of a proof, and what `check` answers to them.
-use Rattle.std.specs.Prelude.{◌≤◌, ◌++◌, ℕ, List, [], ◌∷◌, max, length, codes}
+use Rattle.std.specs.Prelude.{◌≤◌, ◌++◌, ℕ, List, length, codes}
 use Rattle.cnf_core.specs.declared.literal.Lit.{Lit}
 use Rattle.cnf_core.specs.Formula.{Formula, IsFormula}
 use Rattle.refutation_check.specs.declared.log.Step.{Step}
 use Rattle.refutation_check.specs.Log.{IsLog}
 use Rattle.refutation_check.specs.WrittenProof.{proof_text, HasHintsInRange}
+use Rattle.outside_io.specs.declared.status.Status.TheVariants.{Done}
 use Rattle.proof_command.specs.Answer.{IsAnswerTo}
-use Rattle.translation_rules.specs.Translation.{SwapClauses, Translated}
+use Rattle.translation_rules.specs.Translation.{Translated}
+use Rattle.translation.specs.Numbered.{vars_of}
 use Rattle.session_rules.specs.ProofOfEnd.{ProofOfEnd}
 use Rattle.session_rules.specs.Proofs.{whole_log, locals_for}
 use Rattle.session_rules.specs.declared.end_proof.ProofKind.{ProofKind}
-
--- the largest number of variables of some swaps, or this one
-abbrev pub most_vars : ℕ → List SwapClauses → ℕ
-most_vars vars [] = vars
-most_vars vars (x ∷ xs) = most_vars (max vars x.cnf.vars) xs
 
 -- the clauses of the translation, and then the proof's local ones
 abbrev pub clauses_of_proof : Translated → List ℕ → ProofKind → ProofOfEnd → List (List Lit)
@@ -22,7 +19,7 @@ clauses_of_proof t floor kind proof = t.cnf.clauses ++ locals_for t floor kind p
 
 -- these clauses, over the variables of the translation
 abbrev pub formula_of_proof : Translated → List ℕ → ProofKind → ProofOfEnd → Formula
-formula_of_proof t floor kind proof = record { vars = most_vars t.cnf.vars t.swaps; clauses = clauses_of_proof t floor kind proof }
+formula_of_proof t floor kind proof = record { vars = vars_of t; clauses = clauses_of_proof t floor kind proof }
 
 -- the imported steps, with room made for the local clauses, and then the proof's own
 abbrev pub log_of_proof : Translated → List ℕ → ProofKind → ProofOfEnd → List Step
@@ -34,7 +31,7 @@ text_of_proof t floor kind proof = proof_text (clauses_of_proof t floor kind pro
 
 -- the bytes are a proof text, and `check` accepts it
 abbrev pub IsAcceptedText : List ℕ → Type 0
-IsAcceptedText bytes = IsAnswerTo bytes 0 (codes "accepted\n")
+IsAcceptedText bytes = IsAnswerTo bytes Done (codes "accepted\n")
 
 -- what is printed of the proof is a formula, and a log whose hints are numbers of a proof text; where the lines are no longer
 -- than a proof text may be, they are accepted

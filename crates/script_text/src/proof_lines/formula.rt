@@ -1,7 +1,7 @@
 // The formula of a proof.
 ghost use Rattle.std.specs.Prelude.{◌≡◌, ◌<◌, ◌≤◌, ◌+◌, ◌^◌, ◌++◌, length, All, IfOk, OnOk};
 ghost use Rattle.cnf_core.specs.Literal.{HasVarsUpTo};
-ghost use Rattle.script_text.specs.Proofs.Printed.{most_vars};
+ghost use Rattle.translation.specs.Numbered.{vars_of};
 
 use cnf_core::{Clause, Cnf};
 use std::alloc::{AllocError, Global};
@@ -13,28 +13,14 @@ pub fn formula_with(
     translation: &Translation,
     local: &[Clause],
 ) -> Result<Cnf, AllocError>
-    requires within { All (HasVarsUpTo (most_vars translation.now.cnf.vars translation.now.swaps)) local.now }
+    requires within { All (HasVarsUpTo (vars_of translation.now)) local.now }
     requires few { length translation.now.cnf.clauses + length local.now < 2 ^ 30 }
-    ensures { IfOk result (λ f. f ≡ record { vars = most_vars translation.now.cnf.vars translation.now.swaps; clauses = translation.now.cnf.clauses ++ local.now }) }
+    ensures { IfOk result (λ f. f ≡ record { vars = vars_of translation.now; clauses = translation.now.cnf.clauses ++ local.now }) }
 {
-    let mut formula = Cnf::new(alloc, all_vars(translation));
+    let mut formula = Cnf::new(alloc, translation.vars());
     add_formula(alloc, &mut formula, translation.cnf())?;
     add_clauses(alloc, &mut formula, local)?;
     Ok(formula)
-}
-
-// The largest number of variables of the translation's formulas.
-fn all_vars(translation: &Translation) -> u32
-    ensures most { result ≡ most_vars translation.now.cnf.vars translation.now.swaps }
-    ensures few { result < 2 ^ 31 }
-    ensures within { translation.now.cnf.vars ≤ result }
-{
-    let _ = translation.problem(); // for the proof
-    let mut vars = translation.cnf().vars();
-    for place in 0..translation.pairs().len() {
-        vars = vars.max(translation.swap(place as u32).vars());
-    }
-    vars
 }
 
 // Adds the clauses of a formula that has no more variables.

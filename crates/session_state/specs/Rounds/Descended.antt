@@ -13,6 +13,11 @@ abbrev pub parts_of : DescentEnd → List Parted
 parts_of (Minimal scenario parts left) = parts.items
 parts_of (Spent parts) = parts.items
 
+-- what is left of the budget, where a minimal scenario was found
+abbrev pub left_of : DescentEnd → ℕ
+left_of (Minimal scenario parts left) = left
+left_of (Spent parts) = 0
+
 -- the scenario is minimal above the floor and lies in the start, and the novel steps leave so much of the budget; or they are
 -- all of it
 abbrev pub IsRightDescent : Translated → List LogStep → List ℕ → List ℕ → ℕ → DescentEnd → Type 0

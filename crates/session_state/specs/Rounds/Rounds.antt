@@ -21,6 +21,13 @@ parts_in (Copy scenario parts left) = parts.items
 parts_in (Refuted part) = part ∷ []
 parts_in (Spent parts) = parts.items
 
+-- what is left of the budget for the rounds to come
+abbrev pub left_in : RoundEnd → ℕ
+left_in (Due scenario parts) = 0
+left_in (Copy scenario parts left) = left
+left_in (Refuted part) = 0
+left_in (Spent parts) = 0
+
 -- the parts are those of a round with these scenarios blocked, over the translation and the pool, with at most so many novel
 -- steps
 pub record IsRoundAt (t : Translated) (pool : List LogStep) (floor : List ℕ) (blocked : List (List ℕ)) (budget : ℕ) (parts : List Parted) : Type 0 where

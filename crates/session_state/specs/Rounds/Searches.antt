@@ -15,6 +15,12 @@ part_of (Left start part left) = part
 part_of (Refuted part) = part
 part_of (Spent part) = part
 
+-- what is left of the budget, where an instance was left to be found
+abbrev pub left_of : SearchEnd → ℕ
+left_of (Left start part left) = left
+left_of (Refuted part) = 0
+left_of (Spent part) = 0
+
 -- the part is that of a search at the floor with these scenarios blocked, over the translation and the pool, of at most so
 -- many steps
 pub record IsSearchAt (t : Translated) (pool : List LogStep) (floor : List ℕ) (blocked : List (List ℕ)) (budget : ℕ) (part : Parted) : Type 0 where

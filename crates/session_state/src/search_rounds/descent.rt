@@ -1,17 +1,17 @@
 // The descent from what a search found.
-ghost use Rattle.std.specs.Prelude.{◌≡◌, ◌≤◌, length, IfOk, OnOk};
-ghost use Rattle.refutation_check.specs.Chain.{IsAccepted};
+ghost use Rattle.std.specs.Prelude.{◌≡◌, ◌≤◌, ◌+◌, IfOk, OnOk};
 ghost use Rattle.rel_formula.specs.Instance.{AreCells, IsInstance, Includes};
 ghost use Rattle.sat_trail.specs.Trailed.{IsBase};
+ghost use Rattle.translation_rules.specs.Imports.{IsImport};
 ghost use Rattle.minimiser.specs.Down.{IsDescent};
 ghost use Rattle.minimiser.specs.Lowering.{IsOver};
-ghost use Rattle.session_state.specs.Rounds.Descended.{parts_of, IsRightDescent, IsStoppedDescent};
+ghost use Rattle.session_state.specs.Rounds.Descended.{left_of, parts_of, IsRightDescent, IsStoppedDescent};
 
 use crate::search_rounds::novel::left_after;
 use minimiser::{Down, minimise_on};
 use refutation_check::{Log, Part, accepted_is_entailed};
 use rel_formula::Scenario;
-use sat_core::Trail;
+use sat_core::{StepCount, Trail};
 use std::alloc::{AllocError, Global};
 use translation::Translation;
 
@@ -41,11 +41,11 @@ pub(crate) fn go_down(
     floor: &Scenario,
     start: &Scenario,
     budget: u64,
+    count: &mut StepCount,
 ) -> Result<DescentEnd, AllocError>
     requires base { IsBase translation.now.cnf base.now }
     requires trail { IsOver translation.now.cnf trail.old }
-    requires pool { IsAccepted translation.now.cnf.clauses pool.now }
-    requires few_steps { length pool.now ≤ 20000 }
+    requires import { IsImport translation.now pool.now }
     requires floor { AreCells translation.now.problem floor.now }
     requires start { IsInstance translation.now.problem start.now }
     requires above { Includes start.now floor.now }
@@ -54,10 +54,22 @@ pub(crate) fn go_down(
     ensures parts { IfOk result (λ end. IsDescent translation.now pool.now floor.now start.now budget (parts_of end)) }
     ensures answer { IfOk result (IsRightDescent translation.now pool.now floor.now start.now budget) }
     ensures stopped { IfOk result (IsStoppedDescent translation.now pool.now) }
+    ensures spent { count.new ≤ count.old + budget }
+    ensures left { IfOk result (λ end. count.new + left_of end ≤ count.old + budget) }
 {
     accepted_is_entailed();
     let _ = translation.problem(); // for the proof
-    match minimise_on(alloc, translation, base, trail, pool, floor, start, budget)? {
+    match minimise_on(
+        alloc,
+        translation,
+        base,
+        trail,
+        pool,
+        floor,
+        start,
+        budget,
+        count,
+    )? {
         Down::Minimal { scenario, parts } => {
             let left = left_after(parts.as_slice(), budget);
             Ok(DescentEnd::Minimal {

@@ -1,10 +1,11 @@
 // The next scenario at a floor.
 ghost use Rattle.std.specs.Prelude.{◌≡◌, ◌≤◌, ◌<◌, ◌+◌, ◌^◌, ◌++◌, length, All, Contains, IfOk, OnOk};
-ghost use Rattle.refutation_check.specs.Chain.{IsAccepted};
+ghost use Rattle.refutation_check.specs.Pool.{most_pool_steps};
 ghost use Rattle.rel_formula.specs.Instance.{AreCells};
 ghost use Rattle.swap_symmetry.specs.Due.{IsDue};
 ghost use Rattle.sat_trail.specs.Trailed.{IsBase};
 ghost use Rattle.minimiser.specs.Lowering.{IsOver};
+ghost use Rattle.translation_rules.specs.Imports.{IsImport};
 ghost use Rattle.translation_rules.specs.Parts.{AreSearched};
 ghost use Rattle.session_rules.specs.Proofs.{IsCopy};
 ghost use Rattle.session_rules.specs.Work.{IsNextWork, units_in};
@@ -13,7 +14,7 @@ ghost use Rattle.session_state.specs.Rounds.Next.{IsAnswer, IsStopped};
 use crate::search_rounds::round::{RoundEnd, round_at};
 use refutation_check::{Log, Part};
 use rel_formula::Scenario;
-use sat_core::{SavedPhases, Trail};
+use sat_core::{SavedPhases, StepCount, Trail};
 use session_rules::laws::{a_proof_of_an_end_is_right, a_refuting_part_makes_a_proof};
 use session_rules::{EndProof, Parts, Scenarios};
 use std::alloc::{AllocError, Global};
@@ -44,7 +45,7 @@ pub enum Found {
 /// Each round searches for an instance that has the floor's cells, is settled beside the floor and has no blocked scenario in
 /// it, and goes down from what it finds. Blocked are the scenarios that were shown, the copies of them that are known, and
 /// those that this call comes upon; each round but the last comes upon a new copy. The call takes at most `budget` units, novel
-/// steps and new copies, and exactly so many where it answers `Spent`. The pool is an accepted log over the translation's clauses,
+/// steps and new copies, and exactly so many where it answers `Spent`; its searches raise the count by no more. The pool is an accepted log over the translation's clauses,
 /// of at most 20,000 steps; the blocked scenarios are at most 100,000,000, and so is the budget. The searches lean to the values
 /// that the last one found, which `leaning` hands on from call to call. The error comes only for want of memory.
 pub fn next_at(
@@ -56,9 +57,9 @@ pub fn next_at(
     copies: &[Scenario],
     budget: u64,
     leaning: &mut SavedPhases,
+    count: &mut StepCount,
 ) -> Result<NextAt, AllocError>
-    requires pool { IsAccepted translation.now.cnf.clauses pool.now }
-    requires few_steps { length pool.now ≤ 20000 }
+    requires import { IsImport translation.now pool.now }
     requires floor { AreCells translation.now.problem floor.now }
     requires shown { All (IsDue translation.now.problem floor.now) shown.now }
     requires copies { All (IsCopy translation.now.problem floor.now shown.now) copies.now }
@@ -70,8 +71,9 @@ pub fn next_at(
     ensures units { IfOk result (λ next. units_in translation.now pool.now next.parts next.copies ≤ budget) }
     ensures answer { IfOk result (λ next. IsAnswer translation.now pool.now floor.now shown.now copies.now budget next.parts next.copies next.found) }
     ensures stopped { IfOk result (λ next. IsStopped translation.now pool.now floor.now shown.now next.parts next.copies next.found) }
+    ensures spent { count.new ≤ count.old + budget }
 {
-    let base = Trail::over(alloc, translation.cnf(), all_vars(translation))?;
+    let base = Trail::over(alloc, translation.cnf(), translation.vars())?;
     let mut trail = base.copy(alloc)?;
     next_from(
         alloc,
@@ -84,6 +86,7 @@ pub fn next_at(
         copies,
         budget,
         leaning,
+        count,
     )
 }
 
@@ -99,11 +102,11 @@ fn next_from(
     copies: &[Scenario],
     budget: u64,
     leaning: &mut SavedPhases,
+    count: &mut StepCount,
 ) -> Result<NextAt, AllocError>
     requires base { IsBase translation.now.cnf base.now }
     requires trail { IsOver translation.now.cnf trail.old }
-    requires pool { IsAccepted translation.now.cnf.clauses pool.now }
-    requires few_steps { length pool.now ≤ 20000 }
+    requires import { IsImport translation.now pool.now }
     requires floor { AreCells translation.now.problem floor.now }
     requires shown { All (IsDue translation.now.problem floor.now) shown.now }
     requires copies { All (IsCopy translation.now.problem floor.now shown.now) copies.now }
@@ -115,6 +118,7 @@ fn next_from(
     ensures units { IfOk result (λ next. units_in translation.now pool.now next.parts next.copies ≤ budget) }
     ensures answer { IfOk result (λ next. IsAnswer translation.now pool.now floor.now shown.now copies.now budget next.parts next.copies next.found) }
     ensures stopped { IfOk result (λ next. IsStopped translation.now pool.now floor.now shown.now next.parts next.copies next.found) }
+    ensures spent { count.new ≤ count.old + budget }
 {
     a_refuting_part_makes_a_proof();
     a_proof_of_an_end_is_right();
@@ -135,6 +139,7 @@ fn next_from(
             blocked.as_slice(),
             left,
             leaning,
+            count,
         )? {
             RoundEnd::Due {
                 scenario,
@@ -166,18 +171,6 @@ fn next_from(
     }
 }
 
-/// The highest variable of the translation's formula and of the formulas of its swaps.
-pub fn all_vars(translation: &Translation) -> u32
-    ensures { result < 2 ^ 31 }
-{
-    let _ = translation.problem(); // for the proof
-    let mut vars = translation.cnf().vars();
-    for (place, _pair) in translation.pairs().iter().enumerate() {
-        vars = vars.max(translation.swap(place as u32).vars());
-    }
-    vars
-}
-
 // Puts parts behind others.
 fn add_parts(parts: &mut Vec<Part>, mut more: Vec<Part>) -> Result<(), AllocError>
     ensures { OnOk result (parts.new.items ≡ parts.old.items ++ more.items) }
@@ -205,7 +198,7 @@ pub fn proof_of(
     blocked: Vec<Scenario>,
     part: &Part,
 ) -> Result<EndProof, AllocError>
-    requires few_steps { length pool.now ≤ 20000 }
+    requires few_steps { length pool.now ≤ most_pool_steps }
     requires few { length blocked.items + length part.now.log ≤ 210000000 }
     ensures { IfOk result (λ proof. proof ≡ record { imported = length pool.now; blocked = blocked.items; pool = pool.now; log = part.now.log }) }
 {

@@ -1,22 +1,22 @@
 // One round: a search at a floor, and the descent from what it finds.
 ghost use Rattle.std.specs.Prelude.{◌≡◌, ◌≤◌, ◌+◌, ◌∷◌, ℕ, List, length, All, Contains, IfOk, OnOk};
 ghost use Rattle.refutation_check.specs.declared.log.Step.{Step as LogStep};
-ghost use Rattle.refutation_check.specs.Chain.{IsAccepted};
 ghost use Rattle.rel_formula.specs.Instance.{AreCells};
 ghost use Rattle.sat_trail.specs.Trailed.{IsBase};
 ghost use Rattle.minimiser.specs.Lowering.{IsOver};
+ghost use Rattle.translation_rules.specs.Imports.{IsImport};
 ghost use Rattle.translation_rules.specs.Translation.{Translated};
 ghost use Rattle.translation_rules.specs.Parts.{novel_in};
 ghost use Rattle.session_state.specs.Rounds.Classes.{IsRightClass};
-ghost use Rattle.session_state.specs.Rounds.Descended.{parts_of, IsStoppedDescent, LeadsToNew};
-ghost use Rattle.session_state.specs.Rounds.Rounds.{parts_in, IsCounted, IsRoundAt, IsRightRound, IsStoppedRound};
+ghost use Rattle.session_state.specs.Rounds.Descended.{left_of, parts_of, IsStoppedDescent, LeadsToNew};
+ghost use Rattle.session_state.specs.Rounds.Rounds.{left_in, parts_in, IsCounted, IsRoundAt, IsRightRound, IsStoppedRound};
 
 use crate::search_rounds::classes::{Class, class_of};
 use crate::search_rounds::descent::{DescentEnd, go_down};
 use crate::search_rounds::search::{SearchEnd, search_at};
 use refutation_check::{Log, Part};
 use rel_formula::Scenario;
-use sat_core::{SavedPhases, Trail};
+use sat_core::{SavedPhases, StepCount, Trail};
 use std::alloc::{AllocError, Global};
 use translation::Translation;
 
@@ -47,7 +47,8 @@ pub enum RoundEnd {
 /// Searches at a floor, with all that was shown and more scenarios blocked, and goes down from what was found. Searches begin from
 /// one trail of the translation's formula, and descents are made on another one, which serves again afterwards. The pool is an
 /// accepted log over the translation's clauses, of at most 20,000 steps. The round takes at most `budget` novel steps, and exactly
-/// so many where it answers `Spent`. The error comes only for want of memory.
+/// so many where it answers `Spent`; what its searches count, and what it leaves, are at most the budget. The error comes only for want
+/// of memory.
 pub fn round_at(
     alloc: Global,
     translation: &Translation,
@@ -59,11 +60,11 @@ pub fn round_at(
     blocked: &[Scenario],
     budget: u64,
     leaning: &mut SavedPhases,
+    count: &mut StepCount,
 ) -> Result<RoundEnd, AllocError>
     requires base { IsBase translation.now.cnf base.now }
     requires trail { IsOver translation.now.cnf trail.old }
-    requires pool { IsAccepted translation.now.cnf.clauses pool.now }
-    requires few_steps { length pool.now ≤ 20000 }
+    requires import { IsImport translation.now pool.now }
     requires floor { AreCells translation.now.problem floor.now }
     requires shown { All (Contains blocked.now) shown.now }
     requires blocked { All (AreCells translation.now.problem) blocked.now }
@@ -73,6 +74,8 @@ pub fn round_at(
     ensures parts { IfOk result (λ end. IsRoundAt translation.now pool.now floor.now blocked.now budget (parts_in end)) }
     ensures answer { IfOk result (IsRightRound translation.now pool.now floor.now shown.now blocked.now budget) }
     ensures stopped { IfOk result (IsStoppedRound translation.now pool.now floor.now shown.now blocked.now) }
+    ensures spent { count.new ≤ count.old + budget }
+    ensures left { IfOk result (λ end. count.new + left_in end ≤ count.old + budget) }
 {
     match search_at(
         alloc,
@@ -83,9 +86,20 @@ pub fn round_at(
         blocked,
         budget,
         leaning,
+        count,
     )? {
         SearchEnd::Left { start, part, left } => {
-            let descent = go_down(alloc, translation, base, trail, pool, floor, &start, left)?;
+            let descent = go_down(
+                alloc,
+                translation,
+                base,
+                trail,
+                pool,
+                floor,
+                &start,
+                left,
+                count,
+            )?;
             let end = round_of(alloc, translation, floor, shown, part, descent)?;
             Ok(end)
         }
@@ -112,6 +126,7 @@ fn round_of(
         → IsRightRound translation.now pool floor.now shown.now blocked budget end) }
     ensures stopped { IfOk result (λ end. (pool : List LogStep) (blocked : List (List ℕ)) (budget : ℕ) → IsCounted translation.now pool blocked budget part descent
         → IsStoppedDescent translation.now pool descent → IsStoppedRound translation.now pool floor.now shown.now blocked end) }
+    ensures left { IfOk result (λ end. left_in end ≤ left_of descent) }
 {
     let problem = translation.problem();
     match descent {
@@ -139,6 +154,7 @@ fn end_of(class: Class, parts: Vec<Part>, left: u64) -> RoundEnd
         → IsRightRound t pool floor shown blocked budget result }
     ensures stopped { (t : Translated) (pool : List LogStep) (floor : List ℕ) (shown blocked : List (List ℕ)) (minimal : List ℕ)
         → IsRightClass t.problem floor shown minimal class → ¬ Contains blocked minimal → IsStoppedRound t pool floor shown blocked result }
+    ensures left { left_in result ≤ left }
 {
     match class {
         Class::Due(scenario) => RoundEnd::Due { scenario, parts },

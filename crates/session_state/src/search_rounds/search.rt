@@ -1,17 +1,17 @@
 // One search at a floor.
 ghost use Rattle.std.specs.Prelude.{◌≡◌, ◌↔◌, ◌<◌, ◌≤◌, ◌+◌, ℕ, length, All, AllPairs, Contains, IsTrue, IfOk};
 ghost use Rattle.cnf_core.specs.Valuation.{value_of};
-ghost use Rattle.refutation_check.specs.Chain.{IsAccepted};
 ghost use Rattle.rel_formula.specs.Instance.{AreCells};
 ghost use Rattle.sat_trail.specs.Trailed.{IsBase};
+ghost use Rattle.translation_rules.specs.Imports.{IsImport};
 ghost use Rattle.translation_rules.specs.Translation.{var_of};
-ghost use Rattle.session_state.specs.Rounds.Searches.{part_of, IsSearchAt, IsRightSearch, IsStoppedSearch};
+ghost use Rattle.session_state.specs.Rounds.Searches.{left_of, part_of, IsSearchAt, IsRightSearch, IsStoppedSearch};
 
 use crate::search_rounds::locals::locals_of;
 use cnf_core::Valuation;
 use refutation_check::{Log, Part};
 use rel_formula::Scenario;
-use sat_core::{Answer, SavedPhases, Trail, solve_from};
+use sat_core::{Answer, SavedPhases, StepCount, Trail, solve_from};
 use std::alloc::{AllocError, Global};
 use translation::Translation;
 use translation_rules::laws::local_clauses_say_what_is_left;
@@ -45,16 +45,18 @@ pub(crate) fn search_at(
     blocked: &[Scenario],
     budget: u64,
     leaning: &mut SavedPhases,
+    count: &mut StepCount,
 ) -> Result<SearchEnd, AllocError>
     requires base { IsBase translation.now.cnf base.now }
-    requires pool { IsAccepted translation.now.cnf.clauses pool.now }
-    requires few_steps { length pool.now ≤ 20000 }
+    requires import { IsImport translation.now pool.now }
     requires floor { AreCells translation.now.problem floor.now }
     requires blocked { All (AreCells translation.now.problem) blocked.now }
     requires few { length blocked.now + budget ≤ 200000000 }
     ensures part { IfOk result (λ end. IsSearchAt translation.now pool.now floor.now blocked.now budget (part_of end)) }
     ensures answer { IfOk result (IsRightSearch translation.now pool.now floor.now blocked.now budget) }
     ensures stopped { IfOk result (IsStoppedSearch translation.now pool.now) }
+    ensures spent { count.new ≤ count.old + budget }
+    ensures left { IfOk result (λ end. count.new + left_of end ≤ count.old + budget) }
 {
     local_clauses_say_what_is_left();
     let problem = translation.problem();
@@ -69,6 +71,7 @@ pub(crate) fn search_at(
         local.as_slice(),
         budget,
         leaning,
+        count,
     )? {
         Answer::Found { valuation, log } => {
             let left = budget - log.steps().len() as u64;

@@ -1,18 +1,19 @@
 // The step that asks for the next scenario.
-ghost use Rattle.std.specs.Prelude.{◌≡◌, ◌≤◌, ◌<◌, ◌+◌, ◌^◌, List, ℕ, All, IfOk, IsTrue, length};
+ghost use Rattle.std.specs.Prelude.{◌≡◌, ◌≤◌, ◌<◌, ◌+◌, ◌^◌, [], List, ℕ, All, Contains, IfOk, IsTrue, length};
 ghost use Rattle.refutation_check.specs.declared.log.Step.{Step as LogStep};
-ghost use Rattle.refutation_check.specs.Chain.{IsAccepted};
 ghost use Rattle.rel_formula.specs.Instance.{AreCells};
 ghost use Rattle.swap_symmetry.specs.Due.{IsDue};
+ghost use Rattle.translation_rules.specs.Imports.{IsImport};
 ghost use Rattle.translation_rules.specs.Translation.{Translated};
 ghost use Rattle.session_rules.specs.States.{State, HasEndedWith, has_ended, shown_here, top_floor};
 ghost use Rattle.session_rules.specs.Proofs.{IsCopy};
 ghost use Rattle.session_words.specs.declared.steps.Step.TheVariants.{Next};
 ghost use Rattle.session_state.specs.Sessions.Fits.{FitsProblem, IsKept};
 ghost use Rattle.session_state.specs.Sessions.Proposed.{IsProposal};
+ghost use Rattle.session_state.specs.Store.Stored.{copies_at};
 ghost use Rattle.session_state.specs.Sessions.Replied.{reply_to};
 
-use crate::search_rounds::{Found, NextAt, SavedPhases, next_at};
+use crate::search_rounds::{Found, NextAt, SavedPhases, StepCount, next_at};
 use crate::session_search::answer::{Proposal, at_once, spent, with_copies};
 use crate::session_store::SessionStore;
 use refutation_check::Log;
@@ -29,13 +30,15 @@ pub(crate) fn next(
     translation: &Translation,
     pool: &Log,
     leaning: &mut SavedPhases,
+    count: &mut StepCount,
 ) -> Result<Proposal, AllocError>
     requires fits { FitsProblem translation.now.problem store.now }
     requires kept { IsKept store.now }
     requires room { length store.now.state.shown ≤ 99000000 }
-    requires pool { IsAccepted translation.now.cnf.clauses pool.now }
-    requires few { length pool.now ≤ 20000 }
-    ensures { IfOk result (IsProposal translation.now pool.now store.now.state Next) }
+    requires import { IsImport translation.now pool.now }
+    ensures proposal { IfOk result (IsProposal translation.now pool.now store.now.state Next) }
+    ensures new { IfOk result (λ p. All (λ copy. ¬ Contains (copies_at (top_floor store.now.state) store.now) copy) p.copies) }
+    ensures spent { count.new ≤ count.old + store.now.state.budget }
 {
     a_run_is_sound();
     let shown = store.shown_here(alloc)?;
@@ -52,6 +55,7 @@ pub(crate) fn next(
                 copies.as_slice(),
                 store.budget(),
                 leaning,
+                count,
             )
         }
     }
@@ -60,7 +64,8 @@ pub(crate) fn next(
 // The end of a floor that has ended with this proof, and at which these scenarios were shown.
 fn end_again(alloc: Global, shown: &[Scenario], proof: &EndProof) -> Result<Proposal, AllocError>
     requires { length shown.now < 2 ^ 32 }
-    ensures { IfOk result (λ p. (t : Translated) (pool : List LogStep) (s : State) → shown_here s ≡ shown.now → HasEndedWith s proof.now → IsProposal t pool s Next p) }
+    ensures proposal { IfOk result (λ p. (t : Translated) (pool : List LogStep) (s : State) → shown_here s ≡ shown.now → HasEndedWith s proof.now → IsProposal t pool s Next p) }
+    ensures none { IfOk result (λ p. p.copies ≡ []) }
 {
     nothing_done_is_work();
     let number = shown.len() as u32;
@@ -78,15 +83,17 @@ fn look_for(
     copies: &[Scenario],
     budget: u32,
     leaning: &mut SavedPhases,
+    count: &mut StepCount,
 ) -> Result<Proposal, AllocError>
-    requires pool { IsAccepted translation.now.cnf.clauses pool.now }
-    requires few_steps { length pool.now ≤ 20000 }
+    requires import { IsImport translation.now pool.now }
     requires floor { AreCells translation.now.problem floor.now }
     requires shown { All (IsDue translation.now.problem floor.now) shown.now }
     requires copies { All (IsCopy translation.now.problem floor.now shown.now) copies.now }
     requires few { length shown.now + length copies.now ≤ 100000000 }
     requires budget { budget ≤ 100000 }
-    ensures { IfOk result (λ p. (s : State) → ¬ IsTrue (has_ended (top_floor s) s) → top_floor s ≡ floor.now → shown_here s ≡ shown.now → s.budget ≡ budget → IsProposal translation.now pool.now s Next p) }
+    ensures proposal { IfOk result (λ p. (s : State) → ¬ IsTrue (has_ended (top_floor s) s) → top_floor s ≡ floor.now → shown_here s ≡ shown.now → s.budget ≡ budget → IsProposal translation.now pool.now s Next p) }
+    ensures new { IfOk result (λ p. All (λ copy. ¬ Contains copies.now copy) p.copies) }
+    ensures spent { count.new ≤ count.old + budget }
 {
     let next = next_at(
         alloc,
@@ -97,6 +104,7 @@ fn look_for(
         copies,
         budget as u64,
         leaning,
+        count,
     )?;
     proposal_of(alloc, shown.len() as u32, budget, next)
 }

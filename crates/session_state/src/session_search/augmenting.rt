@@ -1,8 +1,9 @@
 // The step that fixes the current scenario with one tuple more.
-ghost use Rattle.std.specs.Prelude.{◌≡◌, ◌<◌, ◌≤◌, ◌∷◌, [], List, ℕ, IfOk, length};
-ghost use Rattle.refutation_check.specs.Chain.{IsAccepted};
+ghost use Rattle.std.specs.Prelude.{◌≡◌, ◌<◌, ◌≤◌, ◌+◌, ◌∷◌, [], List, ℕ, IfOk, length};
+ghost use Rattle.refutation_check.specs.Pool.{most_pool_steps};
 ghost use Rattle.rel_formula.specs.Bounds.{cells_of};
 ghost use Rattle.rel_formula.specs.Instance.{AreCells};
+ghost use Rattle.translation_rules.specs.Imports.{IsImport};
 ghost use Rattle.session_rules.specs.Naming.{NamesCell};
 ghost use Rattle.session_rules.specs.States.{State, IsCurrent};
 ghost use Rattle.session_rules.specs.Steps.{AsksFor};
@@ -11,6 +12,7 @@ ghost use Rattle.session_words.specs.declared.steps.Step.TheVariants.{Augment};
 ghost use Rattle.session_state.specs.Sessions.Fits.{FitsProblem, IsKept};
 ghost use Rattle.session_state.specs.Sessions.Proposed.{IsProposal};
 
+use crate::search_rounds::StepCount;
 use crate::session_search::answer::{Proposal, at_once, searched, spent};
 use crate::session_store::SessionStore;
 use crate::tuple_names::{Named, what_is_named};
@@ -35,12 +37,13 @@ pub(crate) fn augment(
     pool: &Log,
     relation: &Name,
     tuple: &AtomNames,
+    count: &mut StepCount,
 ) -> Result<Proposal, AllocError>
     requires fits { FitsProblem translation.now.problem store.now }
     requires kept { IsKept store.now }
-    requires pool { IsAccepted translation.now.cnf.clauses pool.now }
-    requires few { length pool.now ≤ 20000 }
-    ensures { IfOk result (IsProposal translation.now pool.now store.now.state (Augment relation.now tuple.now)) }
+    requires import { IsImport translation.now pool.now }
+    ensures proposal { IfOk result (IsProposal translation.now pool.now store.now.state (Augment relation.now tuple.now)) }
+    ensures spent { count.new ≤ count.old + store.now.state.budget }
 {
     a_run_is_sound();
     nothing_done_is_work();
@@ -50,7 +53,7 @@ pub(crate) fn augment(
         Some(current) => match named {
             Named::Nothing => Ok(at_once(alloc, Reply::Refused(Refusal::UnknownTuple))),
             Named::Always => Ok(at_once(alloc, Reply::Refused(Refusal::Present))),
-            Named::Cell(cell) => add_cell(alloc, store, translation, pool, current, cell),
+            Named::Cell(cell) => add_cell(alloc, store, translation, pool, current, cell, count),
         },
     }
 }
@@ -63,14 +66,15 @@ fn add_cell(
     pool: &Log,
     current: &Scenario,
     cell: u32,
+    count: &mut StepCount,
 ) -> Result<Proposal, AllocError>
     requires kept { IsKept store.now }
-    requires pool { IsAccepted translation.now.cnf.clauses pool.now }
-    requires few { length pool.now ≤ 20000 }
+    requires import { IsImport translation.now pool.now }
     requires current { IsCurrent store.now.state current.now }
     requires cells { AreCells translation.now.problem current.now }
     requires cell { cell < length (cells_of translation.now.problem) }
-    ensures { IfOk result (λ p. (name : List ℕ) (names : List AtomName) → NamesCell translation.now.problem name names cell → IsProposal translation.now pool.now store.now.state (Augment name names) p) }
+    ensures proposal { IfOk result (λ p. (name : List ℕ) (names : List AtomName) → NamesCell translation.now.problem name names cell → IsProposal translation.now pool.now store.now.state (Augment name names) p) }
+    ensures spent { count.new ≤ count.old + store.now.state.budget }
 {
     nothing_done_is_work();
     if current.has(cell) {
@@ -81,7 +85,7 @@ fn add_cell(
     }
     let mut floor = current.copy(alloc)?;
     floor.insert(cell)?;
-    go_up(alloc, translation, pool, floor, store.budget())
+    go_up(alloc, translation, pool, floor, store.budget(), count)
 }
 
 // What is proposed where this floor is asked for, and there is room for one more.
@@ -91,15 +95,16 @@ fn go_up(
     pool: &Log,
     floor: Scenario,
     budget: u32,
+    count: &mut StepCount,
 ) -> Result<Proposal, AllocError>
-    requires pool { IsAccepted translation.now.cnf.clauses pool.now }
-    requires few { length pool.now ≤ 20000 }
+    requires import { IsImport translation.now pool.now }
     requires floor { AreCells translation.now.problem floor }
     requires budget { budget ≤ 100000 }
-    ensures { IfOk result (λ p. (s : State) (name : List ℕ) (names : List AtomName) → AsksFor translation.now.problem s name names floor → length s.above < 64 → s.budget ≡ budget → IsProposal translation.now pool.now s (Augment name names) p) }
+    ensures proposal { IfOk result (λ p. (s : State) (name : List ℕ) (names : List AtomName) → AsksFor translation.now.problem s name names floor → length s.above < 64 → s.budget ≡ budget → IsProposal translation.now pool.now s (Augment name names) p) }
+    ensures spent { count.new ≤ count.old + budget }
 {
     a_refuting_part_makes_a_proof();
-    let sought = seek(alloc, translation, pool, &floor, budget as u64)?;
+    let sought = seek(alloc, translation, pool, &floor, budget as u64, count)?;
     match sought {
         Sought::Possible {
             valuation: _valuation,
@@ -131,7 +136,7 @@ fn only(alloc: Global, part: Part) -> Result<Parts, AllocError>
 
 // The proof that a search makes whose log ends with the empty clause.
 fn refuting(alloc: Global, pool: &Log, part: &Part) -> Result<EndProof, AllocError>
-    requires few_steps { length pool.now ≤ 20000 }
+    requires few_steps { length pool.now ≤ most_pool_steps }
     requires few { length part.now.log ≤ 100000 }
     ensures { IfOk result (λ proof. proof ≡ record { imported = length pool.now; blocked = []; pool = pool.now; log = part.now.log }) }
 {

@@ -1,12 +1,13 @@
 // The step that asks for the cells that the current scenario can be given.
-ghost use Rattle.std.specs.Prelude.{◌≡◌, ◌≤◌, IfOk, length};
-ghost use Rattle.refutation_check.specs.Chain.{IsAccepted};
+ghost use Rattle.std.specs.Prelude.{◌≡◌, ◌≤◌, ◌+◌, IfOk};
 ghost use Rattle.rel_formula.specs.Instance.{IsInstance};
+ghost use Rattle.translation_rules.specs.Imports.{IsImport};
 ghost use Rattle.session_rules.specs.States.{State, IsCurrent};
 ghost use Rattle.session_words.specs.declared.steps.Step.TheVariants.{Offers as AsksForOffers};
 ghost use Rattle.session_state.specs.Sessions.Fits.{FitsProblem, IsKept};
 ghost use Rattle.session_state.specs.Sessions.Proposed.{IsProposal};
 
+use crate::search_rounds::StepCount;
 use crate::session_search::answer::{Proposal, at_once, searched, spent};
 use crate::session_store::SessionStore;
 use augmenter::{Offers, offers};
@@ -23,17 +24,18 @@ pub(crate) fn offer(
     store: &SessionStore,
     translation: &Translation,
     pool: &Log,
+    count: &mut StepCount,
 ) -> Result<Proposal, AllocError>
     requires fits { FitsProblem translation.now.problem store.now }
     requires kept { IsKept store.now }
-    requires pool { IsAccepted translation.now.cnf.clauses pool.now }
-    requires few { length pool.now ≤ 20000 }
-    ensures { IfOk result (IsProposal translation.now pool.now store.now.state AsksForOffers) }
+    requires import { IsImport translation.now pool.now }
+    ensures proposal { IfOk result (IsProposal translation.now pool.now store.now.state AsksForOffers) }
+    ensures spent { count.new ≤ count.old + store.now.state.budget }
 {
     a_run_is_sound();
     nothing_done_is_work();
     match store.current() {
-        Some(current) => offers_of(alloc, translation, pool, current, store.budget()),
+        Some(current) => offers_of(alloc, translation, pool, current, store.budget(), count),
         None => Ok(at_once(alloc, Reply::Refused(Refusal::NoScenario))),
     }
 }
@@ -45,14 +47,15 @@ fn offers_of(
     pool: &Log,
     current: &Scenario,
     budget: u32,
+    count: &mut StepCount,
 ) -> Result<Proposal, AllocError>
-    requires pool { IsAccepted translation.now.cnf.clauses pool.now }
-    requires few { length pool.now ≤ 20000 }
+    requires import { IsImport translation.now pool.now }
     requires current { IsInstance translation.now.problem current.now }
     requires budget { budget ≤ 100000 }
-    ensures { IfOk result (λ p. (s : State) → IsCurrent s current.now → s.budget ≡ budget → IsProposal translation.now pool.now s AsksForOffers p) }
+    ensures proposal { IfOk result (λ p. (s : State) → IsCurrent s current.now → s.budget ≡ budget → IsProposal translation.now pool.now s AsksForOffers p) }
+    ensures spent { count.new ≤ count.old + budget }
 {
-    let told = offers(alloc, translation, pool, current, budget as u64)?;
+    let told = offers(alloc, translation, pool, current, budget as u64, count)?;
     match told {
         Offers::Exactly { cells, parts } => {
             let cells = CellNumbers::of(cells);

@@ -1,17 +1,17 @@
 // Sessions.
-ghost use Rattle.std.specs.Prelude.{◌≡◌, ◌≤◌, ◌<◌, [], List, length, IfOk, OnOk, OnErr};
-ghost use Rattle.refutation_check.specs.Chain.{IsAccepted};
+ghost use Rattle.std.specs.Prelude.{◌≡◌, ◌≤◌, ◌<◌, ◌+◌, [], List, length, All, Contains, IfOk, OnOk, OnErr};
 ghost use Rattle.refutation_check.specs.declared.log.Step.{Step as LogStep};
 ghost use Rattle.rel_formula.specs.Bounds.{Bounded};
+ghost use Rattle.translation_rules.specs.Imports.{IsImport};
 ghost use Rattle.translation_rules.specs.Translation.{Translated};
 ghost use Rattle.session_words.specs.declared.steps.Step.{Step as StepType};
 ghost use Rattle.session_rules.specs.States.{Start, top_floor, after};
 ghost use Rattle.session_rules.specs.Transcripts.{ListsShown};
-ghost use Rattle.session_state.specs.Store.Stored.{copies_after};
+ghost use Rattle.session_state.specs.Store.Stored.{copies_after, copies_at};
 ghost use Rattle.session_state.specs.Sessions.Fits.{FitsProblem};
 ghost use Rattle.session_state.specs.Sessions.Proposed.{IsProposal, NeedsTranslation, IsPlain, IsPlainProposal};
 
-use crate::search_rounds::SavedPhases;
+use crate::search_rounds::{SavedPhases, StepCount};
 use crate::session_search::answer::Proposal;
 use crate::session_search::asking::next;
 use crate::session_search::augmenting::augment;
@@ -97,29 +97,39 @@ impl Session {
         in_order(alloc, shown.as_slice())
     }
 
-    /// What the session answers to `next`, `offers` or `augment`, with what stands behind it; the session stays as it is. It
-    /// fits the translation's problem, and has shown at most 99,000,000 scenarios. The pool is an accepted log over the
-    /// translation's clauses, of at most 20,000 steps. The error comes only for want of memory.
+    /// What the session answers to `next`, `offers` or `augment`, with what stands behind it; the session stays as it is. Whatever
+    /// comes of it, the searches raise the count by no more than the session's budget; and they come upon no copy that the session
+    /// knows at its top floor. It fits the translation's problem, and has shown at most 99,000,000 scenarios. The pool is an accepted
+    /// log over the translation's clauses, of at most 20,000 steps. The error comes only for want of memory.
     pub fn propose(
         &mut self,
         alloc: Global,
         translation: &Translation,
         pool: &Log,
         step: &Step,
+        count: &mut StepCount,
     ) -> Result<Proposal, AllocError>
         requires fits { FitsProblem translation.now.problem self.old.kept }
         requires room { length self.old.kept.state.shown ≤ 99000000 }
-        requires pool { IsAccepted translation.now.cnf.clauses pool.now }
-        requires few { length pool.now ≤ 20000 }
+        requires import { IsImport translation.now pool.now }
         requires asked { NeedsTranslation step.now }
         ensures proposal { IfOk result (IsProposal translation.now pool.now self.old.kept.state step.now) }
         ensures same { self.new ≡ self.old }
+        ensures new { IfOk result (λ p. All (λ copy. ¬ Contains (copies_at (top_floor self.old.kept.state) self.old.kept) copy) p.copies) }
+        ensures spent { count.new ≤ count.old + self.old.kept.state.budget }
     {
         match step {
-            Step::Next => next(alloc, &self.kept, translation, pool, &mut self.leaning),
-            Step::Offers => offer(alloc, &self.kept, translation, pool),
+            Step::Next => next(
+                alloc,
+                &self.kept,
+                translation,
+                pool,
+                &mut self.leaning,
+                count,
+            ),
+            Step::Offers => offer(alloc, &self.kept, translation, pool, count),
             Step::Augment { relation, tuple } => {
-                augment(alloc, &self.kept, translation, pool, relation, tuple)
+                augment(alloc, &self.kept, translation, pool, relation, tuple, count)
             }
             Step::Back => unreachable!(),
             Step::Budget(_) => unreachable!(),

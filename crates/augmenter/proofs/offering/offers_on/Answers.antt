@@ -1,4 +1,4 @@
-use Rattle.std.proofs.Common.{◌≡◌, ◌<◌, ◌+◌, ◌-◌, ◌∙◌, ◌++◌, ◌∷◌, [], ℕ, Bool, true, false, List, length, replicate, get_or, Contains, IsTrue, ◌↔◌, ◌⊎◌, refl, sym, subst, ap, arith}
+use Rattle.std.proofs.Common.{◌≡◌, ◌<◌, ◌≤◌, ◌+◌, ◌-◌, ◌∙◌, ◌++◌, ◌∷◌, [], ℕ, Bool, true, false, List, length, replicate, get_or, Contains, IsTrue, ◌↔◌, ◌⊎◌, refl, sym, subst, ap, arith}
 use Rattle.std.proofs.lemmas.List.{get_or_default}
 use Rattle.cnf_core.specs.Valuation.{value_of}
 use Rattle.refutation_check.specs.Part.{Parted}
@@ -10,7 +10,7 @@ use Rattle.translation_rules.specs.Parts.{GoesOn, LastGoesOn, novel_in}
 use Rattle.augmenter.specs.declared.search.Sought.{Sought}
 use Rattle.augmenter.specs.Search.{part_in, IsSearchFor, IsRightFor, IsStoppedFor}
 use Rattle.augmenter.specs.Offering.{AreTrials}
-use Rattle.augmenter.proofs.OfferSearches.{Trying, set_out, skipped, spent_trials, spent_all, refused, given, all_offers, others_refuted}
+use Rattle.augmenter.proofs.OfferSearches.{Trying, counted, set_out, skipped, spent_trials, spent_all, refused, given, all_offers, others_refuted}
 use Rattle.augmenter.proofs.MarkedCells.{written_back}
 use Rattle.augmenter.proofs.offering.offers_on.Goals.{then-has-via-then-has, then-has-via-else-has+then-index, in-Possible+in_ok-push-in-Possible, in-Impossible+in_ok-push-in-Impossible}
 use Rattle.augmenter.proofs.offering.offers_on.Goals as goal
@@ -27,6 +27,7 @@ loop-cell-init c =
           subst (λ (marks : List Bool). Trying t pool scenario c.args.budget 0 marks c.new-parts.result.items c.args.budget) (sym (c.in_ok-possible.ensures.items_if_clones_equal (λ y h. cc)))
           (subst (λ (parts : List Parted). Trying t pool scenario c.args.budget 0 (replicate n false) parts c.args.budget) (sym c.new-parts.ensures.items)
           (set_out t pool scenario c.args.budget n count));
+      counted = omega arith;
       serves = c.requires.trail;
     }
 
@@ -42,6 +43,7 @@ loop-cell-preserved-then-has c =
     ] in
     record {
       trying = skipped c.args.translation.now c.args.pool.now c.args.scenario.now c.args.budget c.loop-cell.cell marks c.loop-cell.parts.items c.loop-cell.left c.loop-cell.invariant.trying known;
+      counted = c.loop-cell.invariant.counted;
       serves = c.loop-cell.invariant.serves;
     }
 
@@ -103,6 +105,14 @@ loop-cell-preserved c =
     let absent : Contains scenario cell → ⊥ = λ there. let yes : c.has.result ≡ true = c.has.ensures.1 there in let no = c.if-has.false in absurd cc in
     record {
       serves = c.in_ok-valuation.ensures.trail;
+      counted = elim c.match-branch-3.branch [
+        | in-Possible+in_ok-push-in-Possible w ↦
+            let rose = subst (λ (s : Sought). c.seek_on.new.count ≤ c.loop-cell.count + novel_in t pool (part_in s ∷ [])) w.in-Possible.is c.in_ok-valuation.ensures.novel in
+            rw (w.parts-is, w.in_ok-push-in-Possible.ensures.items) (counted t pool c.loop-cell.parts.items w.in-Possible.part c.args.count.now c.loop-cell.count c.seek_on.new.count rose c.loop-cell.invariant.counted)
+        | in-Impossible+in_ok-push-in-Impossible w ↦
+            let rose = subst (λ (s : Sought). c.seek_on.new.count ≤ c.loop-cell.count + novel_in t pool (part_in s ∷ [])) w.in-Impossible.is c.in_ok-valuation.ensures.novel in
+            rw (w.parts-is, w.in_ok-push-in-Impossible.ensures.items) (counted t pool c.loop-cell.parts.items w.in-Impossible.part c.args.count.now c.loop-cell.count c.seek_on.new.count rose c.loop-cell.invariant.counted)
+      ];
       trying = elim c.match-branch-3.branch [
         | in-Possible+in_ok-push-in-Possible w ↦
             let part : Parted = w.in-Possible.part in
@@ -140,3 +150,16 @@ returns-clause-answer c =
       all_offers t c.args.pool.now c.args.scenario.now c.args.budget c.loop-cell.cell c.loop-cell.possible.items c.loop-cell.parts.items c.loop-cell.left c.loop-cell.invariant.trying end c.in_ok-cells.cells.items exactly c.in_ok-cells.ensures.rising,
       others_refuted t c.args.pool.now c.args.scenario.now c.args.budget c.loop-cell.cell c.loop-cell.possible.items c.loop-cell.parts.items c.loop-cell.left c.loop-cell.invariant.trying end c.in_ok-cells.cells.items exactly,
     )
+
+pub returns-in-Spent-clause-novel : goal.returns-in-Spent-clause-novel
+returns-in-Spent-clause-novel c =
+    let t = c.args.translation.now in
+    let pool = c.args.pool.now in
+    let rose = subst (λ (s : Sought). c.seek_on.new.count ≤ c.loop-cell.count + novel_in t pool (part_in s ∷ [])) c.in-Spent.is c.in_ok-valuation.ensures.novel in
+    rw c.in_ok-push-in-Spent.ensures.items (counted t pool c.loop-cell.parts.items c.in-Spent.part c.args.count.now c.loop-cell.count c.seek_on.new.count rose c.loop-cell.invariant.counted)
+
+pub returns-in-Spent-clause-spent : goal.returns-in-Spent-clause-spent
+returns-in-Spent-clause-spent c = omega (arith, c.seek_on.ensures.spent, c.loop-cell.invariant.counted, c.loop-cell.invariant.trying.spent)
+
+pub returns-clause-spent : goal.returns-clause-spent
+returns-clause-spent c = omega (arith, c.loop-cell.invariant.counted, c.loop-cell.invariant.trying.spent)

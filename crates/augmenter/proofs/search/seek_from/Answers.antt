@@ -1,4 +1,4 @@
-use Rattle.std.proofs.Common.{◌≡◌, ◌≤◌, ◌∙◌, ◌++◌, List, All, length, sym, subst, ap, arith}
+use Rattle.std.proofs.Common.{◌≡◌, ◌≤◌, ◌+◌, ◌-◌, ◌∙◌, ◌++◌, ◌∷◌, [], List, All, length, sym, subst, ap, arith}
 use Rattle.cnf_core.specs.declared.literal.Lit.{Lit}
 use Rattle.cnf_core.specs.Literal.{IsVariable}
 use Rattle.cnf_core.specs.Formula.{Formula}
@@ -8,13 +8,15 @@ use Rattle.refutation_check.specs.SearchLog.{IsAllNovel, HasNoEmpty}
 use Rattle.rel_formula.specs.Bounds.{cells_of}
 use Rattle.sat_trail.specs.Trailed.{IsBase}
 use Rattle.sat_core.specs.declared.search.Answer.{Answer}
-use Rattle.sat_core.specs.Answers.{IsStopped}
+use Rattle.sat_core.specs.declared.search.Answer.TheVariants.{Found, Refuted, Spent}
+use Rattle.sat_core.specs.Answers.{learnt_in, IsStopped}
+use Rattle.sat_core.specs.Count.{raised}
 use Rattle.translation_rules.specs.Translation.{var_of}
 use Rattle.translation_rules.specs.Locals.{units_of}
-use Rattle.translation_rules.specs.Parts.{GoesOn, given_to}
+use Rattle.translation_rules.specs.Parts.{GoesOn, given_to, novel_in}
 use Rattle.translation_rules.proofs.Locals.Cells.{few_cells}
 use Rattle.augmenter.specs.Search.{IsSearchFor}
-use Rattle.augmenter.proofs.Seeking.{Known, Told, told, told_stopped, variables, as_many, found_part, found_answer, spent_part, spent_goes_on, refuted_part, refuted_answer}
+use Rattle.augmenter.proofs.Seeking.{Known, Told, counted, told, told_stopped, variables, as_many, found_part, found_answer, spent_part, spent_goes_on, refuted_part, refuted_answer}
 use Rattle.augmenter.proofs.search.seek_from.Goals as goal
 
 pub units_of-requires : goal.units_of-requires
@@ -45,7 +47,7 @@ solve_from-requires-clause-few c =
     let most = terms.2 in
     let given : length c.cnf.result.now.clauses ≡ length t.cnf.clauses = ap (λ (f : Formula). length f.clauses) c.cnf.ensures in
     let asked : length c.as_slice.result.now ≡ length items = ap length c.as_slice.ensures.value in
-    let pool_few = c.requires.few in
+    let pool_few = c.requires.import.few in
     let most_budget = c.requires.budget in
     omega arith
 
@@ -64,7 +66,7 @@ of-part-requires c =
     let known : Known t pool cells = record {
       says = c.units_say_what_is_possible.ensures t.problem t c.problem.ensures.well.stands;
       named = c.accepted_hints_name_members.ensures.named;
-      entailed = c.accepted_is_entailed.ensures.entailed t.cnf.clauses pool c.requires.pool;
+      entailed = c.accepted_is_entailed.ensures.entailed t.cnf.clauses pool c.requires.import.accepted;
       satisfiable = λ s is. (c.problem.ensures.well.stands.instances s is.scenario).0 is;
       cells_in = c.requires.cells;
     } in
@@ -90,7 +92,7 @@ of-part-requires-in-Refuted c =
     let known : Known t pool cells = record {
       says = c.units_say_what_is_possible.ensures t.problem t c.problem.ensures.well.stands;
       named = c.accepted_hints_name_members.ensures.named;
-      entailed = c.accepted_is_entailed.ensures.entailed t.cnf.clauses pool c.requires.pool;
+      entailed = c.accepted_is_entailed.ensures.entailed t.cnf.clauses pool c.requires.import.accepted;
       satisfiable = λ s is. (c.problem.ensures.well.stands.instances s is.scenario).0 is;
       cells_in = c.requires.cells;
     } in
@@ -116,7 +118,7 @@ of-part-requires-in-Spent c =
     let known : Known t pool cells = record {
       says = c.units_say_what_is_possible.ensures t.problem t c.problem.ensures.well.stands;
       named = c.accepted_hints_name_members.ensures.named;
-      entailed = c.accepted_is_entailed.ensures.entailed t.cnf.clauses pool c.requires.pool;
+      entailed = c.accepted_is_entailed.ensures.entailed t.cnf.clauses pool c.requires.import.accepted;
       satisfiable = λ s is. (c.problem.ensures.well.stands.instances s is.scenario).0 is;
       cells_in = c.requires.cells;
     } in
@@ -142,7 +144,7 @@ returns-in-Found-clause-part c =
     let known : Known t pool cells = record {
       says = c.units_say_what_is_possible.ensures t.problem t c.problem.ensures.well.stands;
       named = c.accepted_hints_name_members.ensures.named;
-      entailed = c.accepted_is_entailed.ensures.entailed t.cnf.clauses pool c.requires.pool;
+      entailed = c.accepted_is_entailed.ensures.entailed t.cnf.clauses pool c.requires.import.accepted;
       satisfiable = λ s is. (c.problem.ensures.well.stands.instances s is.scenario).0 is;
       cells_in = c.requires.cells;
     } in
@@ -168,7 +170,7 @@ returns-in-Found-clause-answer c =
     let known : Known t pool cells = record {
       says = c.units_say_what_is_possible.ensures t.problem t c.problem.ensures.well.stands;
       named = c.accepted_hints_name_members.ensures.named;
-      entailed = c.accepted_is_entailed.ensures.entailed t.cnf.clauses pool c.requires.pool;
+      entailed = c.accepted_is_entailed.ensures.entailed t.cnf.clauses pool c.requires.import.accepted;
       satisfiable = λ s is. (c.problem.ensures.well.stands.instances s is.scenario).0 is;
       cells_in = c.requires.cells;
     } in
@@ -195,7 +197,7 @@ returns-in-Refuted-clause-part c =
     let known : Known t pool cells = record {
       says = c.units_say_what_is_possible.ensures t.problem t c.problem.ensures.well.stands;
       named = c.accepted_hints_name_members.ensures.named;
-      entailed = c.accepted_is_entailed.ensures.entailed t.cnf.clauses pool c.requires.pool;
+      entailed = c.accepted_is_entailed.ensures.entailed t.cnf.clauses pool c.requires.import.accepted;
       satisfiable = λ s is. (c.problem.ensures.well.stands.instances s is.scenario).0 is;
       cells_in = c.requires.cells;
     } in
@@ -221,7 +223,7 @@ returns-in-Refuted-clause-answer c =
     let known : Known t pool cells = record {
       says = c.units_say_what_is_possible.ensures t.problem t c.problem.ensures.well.stands;
       named = c.accepted_hints_name_members.ensures.named;
-      entailed = c.accepted_is_entailed.ensures.entailed t.cnf.clauses pool c.requires.pool;
+      entailed = c.accepted_is_entailed.ensures.entailed t.cnf.clauses pool c.requires.import.accepted;
       satisfiable = λ s is. (c.problem.ensures.well.stands.instances s is.scenario).0 is;
       cells_in = c.requires.cells;
     } in
@@ -248,7 +250,7 @@ returns-clause-part c =
     let known : Known t pool cells = record {
       says = c.units_say_what_is_possible.ensures t.problem t c.problem.ensures.well.stands;
       named = c.accepted_hints_name_members.ensures.named;
-      entailed = c.accepted_is_entailed.ensures.entailed t.cnf.clauses pool c.requires.pool;
+      entailed = c.accepted_is_entailed.ensures.entailed t.cnf.clauses pool c.requires.import.accepted;
       satisfiable = λ s is. (c.problem.ensures.well.stands.instances s is.scenario).0 is;
       cells_in = c.requires.cells;
     } in
@@ -274,7 +276,7 @@ returns-clause-answer c =
     let known : Known t pool cells = record {
       says = c.units_say_what_is_possible.ensures t.problem t c.problem.ensures.well.stands;
       named = c.accepted_hints_name_members.ensures.named;
-      entailed = c.accepted_is_entailed.ensures.entailed t.cnf.clauses pool c.requires.pool;
+      entailed = c.accepted_is_entailed.ensures.entailed t.cnf.clauses pool c.requires.import.accepted;
       satisfiable = λ s is. (c.problem.ensures.well.stands.instances s is.scenario).0 is;
       cells_in = c.requires.cells;
     } in
@@ -303,3 +305,54 @@ returns-clause-stopped c =
     let asked = told_stopped t pool cells c.cnf.result.now c.as_slice.result.now a c.cnf.ensures (c.as_slice.ensures.value ∙ are) c.in_ok-valuation.ensures.stopped in
     let stopped = subst (IsStopped (t.cnf.clauses ++ units_of cells) pool) c.in-Spent.is asked in
     subst (GoesOn t pool) (sym made) (spent_goes_on t pool cells budget log here stopped)
+
+pub returns-in-Found-clause-novel : goal.returns-in-Found-clause-novel
+returns-in-Found-clause-novel c =
+    let t = c.args.translation.now in
+    let pool = c.args.pool.now in
+    let cells = c.args.cells.now in
+    let budget = c.args.budget in
+    let items : List (List Lit) = c.in_ok-local.local.items in
+    let are : items ≡ units_of cells = c.in_ok-local.ensures ∙ ap units_of c.numbers.ensures.value in
+    let a : Answer = c.in_ok-valuation.field-0 in
+    let said : Told t pool cells budget a = told t pool cells budget c.cnf.result.now c.as_slice.result.now a c.cnf.ensures (c.as_slice.ensures.value ∙ are) c.in_ok-valuation.ensures.log c.in_ok-valuation.ensures.budget c.in_ok-valuation.ensures.units c.in_ok-valuation.ensures.last c.in_ok-valuation.ensures.answer in
+    let log = c.in-Found.log in
+    let here = subst (Told t pool cells budget) c.in-Found.is said in
+    let part : Parted = record { local = units_of cells; log = log } in
+    let made : c.of-part.result ≡ part = c.of-part.ensures ∙ ap (λ (ls : List (List Lit)). let p : Parted = record { local = ls; log = log } in p) are in
+    let rose : c.solve_from.new.count ≡ raised c.args.count.now (length log) = c.in_ok-valuation.ensures.count ∙ ap (λ (x : Answer). raised c.args.count.now (learnt_in x)) c.in-Found.is in
+    subst (λ (p : Parted). c.solve_from.new.count ≤ c.args.count.now + novel_in t pool (p ∷ [])) (sym made) (counted t pool cells budget (Found c.in-Found.valuation log) c.args.count.now c.solve_from.new.count here rose)
+
+pub returns-in-Refuted-clause-novel : goal.returns-in-Refuted-clause-novel
+returns-in-Refuted-clause-novel c =
+    let t = c.args.translation.now in
+    let pool = c.args.pool.now in
+    let cells = c.args.cells.now in
+    let budget = c.args.budget in
+    let items : List (List Lit) = c.in_ok-local.local.items in
+    let are : items ≡ units_of cells = c.in_ok-local.ensures ∙ ap units_of c.numbers.ensures.value in
+    let a : Answer = c.in_ok-valuation.field-0 in
+    let said : Told t pool cells budget a = told t pool cells budget c.cnf.result.now c.as_slice.result.now a c.cnf.ensures (c.as_slice.ensures.value ∙ are) c.in_ok-valuation.ensures.log c.in_ok-valuation.ensures.budget c.in_ok-valuation.ensures.units c.in_ok-valuation.ensures.last c.in_ok-valuation.ensures.answer in
+    let log = c.in-Refuted.log in
+    let here = subst (Told t pool cells budget) c.in-Refuted.is said in
+    let part : Parted = record { local = units_of cells; log = log } in
+    let made : c.of-part-in-Refuted.result ≡ part = c.of-part-in-Refuted.ensures ∙ ap (λ (ls : List (List Lit)). let p : Parted = record { local = ls; log = log } in p) are in
+    let rose : c.solve_from.new.count ≡ raised c.args.count.now (length log - 1) = c.in_ok-valuation.ensures.count ∙ ap (λ (x : Answer). raised c.args.count.now (learnt_in x)) c.in-Refuted.is in
+    subst (λ (p : Parted). c.solve_from.new.count ≤ c.args.count.now + novel_in t pool (p ∷ [])) (sym made) (counted t pool cells budget (Refuted log) c.args.count.now c.solve_from.new.count here rose)
+
+pub returns-clause-novel : goal.returns-clause-novel
+returns-clause-novel c =
+    let t = c.args.translation.now in
+    let pool = c.args.pool.now in
+    let cells = c.args.cells.now in
+    let budget = c.args.budget in
+    let items : List (List Lit) = c.in_ok-local.local.items in
+    let are : items ≡ units_of cells = c.in_ok-local.ensures ∙ ap units_of c.numbers.ensures.value in
+    let a : Answer = c.in_ok-valuation.field-0 in
+    let said : Told t pool cells budget a = told t pool cells budget c.cnf.result.now c.as_slice.result.now a c.cnf.ensures (c.as_slice.ensures.value ∙ are) c.in_ok-valuation.ensures.log c.in_ok-valuation.ensures.budget c.in_ok-valuation.ensures.units c.in_ok-valuation.ensures.last c.in_ok-valuation.ensures.answer in
+    let log = c.in-Spent.log in
+    let here = subst (Told t pool cells budget) c.in-Spent.is said in
+    let part : Parted = record { local = units_of cells; log = log } in
+    let made : c.of-part-in-Spent.result ≡ part = c.of-part-in-Spent.ensures ∙ ap (λ (ls : List (List Lit)). let p : Parted = record { local = ls; log = log } in p) are in
+    let rose : c.solve_from.new.count ≡ raised c.args.count.now (length log) = c.in_ok-valuation.ensures.count ∙ ap (λ (x : Answer). raised c.args.count.now (learnt_in x)) c.in-Spent.is in
+    subst (λ (p : Parted). c.solve_from.new.count ≤ c.args.count.now + novel_in t pool (p ∷ [])) (sym made) (counted t pool cells budget (Spent log) c.args.count.now c.solve_from.new.count here rose)

@@ -35,7 +35,7 @@ empty_step-requires-clause-few c =
     let clauses = (c.problem.ensures.well.small terms.0 terms.1).clauses in
     let most = terms.2 in
     let asked : length c.as_slice.result.now ≡ length items = ap length c.as_slice.ensures.value in
-    let pool_few = c.requires.few in
+    let pool_few = c.requires.import.few in
     omega arith
 
 pub of-part-requires : goal.of-part-requires
@@ -78,7 +78,7 @@ returns-clause-part c =
     let known : Known t pool cells = record {
       says = c.units_say_what_is_possible.ensures t.problem t c.problem.ensures.well.stands;
       named = c.accepted_hints_name_members.ensures.named;
-      entailed = c.accepted_is_entailed.ensures.entailed t.cnf.clauses pool c.requires.pool;
+      entailed = c.accepted_is_entailed.ensures.entailed t.cnf.clauses pool c.requires.import.accepted;
       satisfiable = λ s is. (c.problem.ensures.well.stands.instances s is.scenario).0 is;
       cells_in = c.requires.cells;
     } in
@@ -87,7 +87,7 @@ returns-clause-part c =
     let asked = subst (λ (o : Option LogStep). IfSome o (λ s. IsChain (members_of (t.cnf.clauses ++ c.as_slice.result.now) pool) s.clause s.hints)) c.in-Some.is c.in_ok-step.ensures.chain in
     let chain = subst (λ (ls : List (List Lit)). IsChain (members_of (t.cnf.clauses ++ ls) pool) step.clause step.hints) (c.as_slice.ensures.value ∙ are) asked in
     let all : c.push.new.self ≡ step ∷ [] = c.in_ok-push.ensures.ok ∙ ap (λ (l : List LogStep). l ++ step ∷ []) c.new-log.ensures in
-    let here = told_of t pool cells budget (Refuted (step ∷ [])) (refuted_at_once t pool cells budget step empty chain c.requires.pool (let b = c.if-budget-eq0.false in omega arith)) in
+    let here = told_of t pool cells budget (Refuted (step ∷ [])) (refuted_at_once t pool cells budget step empty chain c.requires.import.accepted (let b = c.if-budget-eq0.false in omega arith)) in
     let part : Parted = record { local = units_of cells; log = step ∷ [] } in
     let made : c.of-part-2.result ≡ part = c.of-part-2.ensures ∙ (ap (λ (ls : List (List Lit)). let p : Parted = record { local = ls; log = c.push.new.self } in p) are ∙ ap (λ (steps : List LogStep). let p : Parted = record { local = units_of cells; log = steps } in p) all) in
     subst (IsSearchFor t pool cells budget) (sym made) (refuted_part t pool cells budget known (step ∷ []) here)
@@ -103,7 +103,7 @@ returns-clause-answer c =
     let known : Known t pool cells = record {
       says = c.units_say_what_is_possible.ensures t.problem t c.problem.ensures.well.stands;
       named = c.accepted_hints_name_members.ensures.named;
-      entailed = c.accepted_is_entailed.ensures.entailed t.cnf.clauses pool c.requires.pool;
+      entailed = c.accepted_is_entailed.ensures.entailed t.cnf.clauses pool c.requires.import.accepted;
       satisfiable = λ s is. (c.problem.ensures.well.stands.instances s is.scenario).0 is;
       cells_in = c.requires.cells;
     } in
@@ -112,7 +112,7 @@ returns-clause-answer c =
     let asked = subst (λ (o : Option LogStep). IfSome o (λ s. IsChain (members_of (t.cnf.clauses ++ c.as_slice.result.now) pool) s.clause s.hints)) c.in-Some.is c.in_ok-step.ensures.chain in
     let chain = subst (λ (ls : List (List Lit)). IsChain (members_of (t.cnf.clauses ++ ls) pool) step.clause step.hints) (c.as_slice.ensures.value ∙ are) asked in
     let all : c.push.new.self ≡ step ∷ [] = c.in_ok-push.ensures.ok ∙ ap (λ (l : List LogStep). l ++ step ∷ []) c.new-log.ensures in
-    let here = told_of t pool cells budget (Refuted (step ∷ [])) (refuted_at_once t pool cells budget step empty chain c.requires.pool (let b = c.if-budget-eq0.false in omega arith)) in
+    let here = told_of t pool cells budget (Refuted (step ∷ [])) (refuted_at_once t pool cells budget step empty chain c.requires.import.accepted (let b = c.if-budget-eq0.false in omega arith)) in
     let part : Parted = record { local = units_of cells; log = step ∷ [] } in
     let made : c.of-part-2.result ≡ part = c.of-part-2.ensures ∙ (ap (λ (ls : List (List Lit)). let p : Parted = record { local = ls; log = c.push.new.self } in p) are ∙ ap (λ (steps : List LogStep). let p : Parted = record { local = units_of cells; log = steps } in p) all) in
     let is = refuted_answer t pool cells budget known (step ∷ []) here in

@@ -1,7 +1,8 @@
-use Rattle.std.proofs.Common.{◌≡◌, ◌≤◌, ◌+◌, [], ℕ, List, length, All, Contains, sym, subst}
+use Rattle.std.proofs.Common.{◌≡◌, ◌≤◌, ◌+◌, [], ℕ, List, length, All, Contains, sym, subst, arith}
 use Rattle.refutation_check.specs.declared.log.Step.{Step as LogStep}
 use Rattle.refutation_check.specs.Part.{Parted}
 use Rattle.rel_formula.specs.Bounds.{IsProblem}
+use Rattle.translation_rules.specs.Imports.{IsImport}
 use Rattle.translation_rules.specs.Parts.{AreSearched}
 use Rattle.session_rules.specs.Proofs.{IsCopy}
 use Rattle.session_rules.specs.Work.{IsNextWork, units_in}
@@ -9,6 +10,9 @@ use Rattle.session_state.specs.Rounds.Next.{IsAnswer, IsStopped}
 use Rattle.decision_reports.specs.Decided.{IsDecision}
 use Rattle.decision_reports.proofs.FirstFound.{decided}
 use Rattle.decision_reports.proofs.decision.decide.Goals as goal
+
+pub next_at-requires-clause-import : goal.next_at-requires-clause-import
+next_at-requires-clause-import c = subst (IsImport c.args.translation.now) (sym c.new-pool.ensures) (record { accepted = λ i d less. absurd (omega arith); few = omega arith })
 
 pub returns : goal.returns
 returns c =

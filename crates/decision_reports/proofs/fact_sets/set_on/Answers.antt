@@ -8,8 +8,8 @@ use Rattle.decision_reports.specs.Reports.{command_front}
 use Rattle.decision_reports.specs.FactReports.{IsFactSetOn, set_text}
 use Rattle.decision_reports.proofs.fact_sets.set_on.Goals as goal
 
-pub memory_in-requires : goal.memory_in-requires
-memory_in-requires c =
+pub stop_of-requires : goal.stop_of-requires
+stop_of-requires c =
     let m = named_view c.args.model.now in
     let p = c.requires.problem in
     let few = p.1.lowered.translatable.few_terms in

@@ -1,7 +1,9 @@
 use Rattle.std.proofs.Common.{◌≡◌, ◌+◌, ℕ, All, length, take, arith, ap, subst, sym, ◌∙◌, length-append}
 use Rattle.unit_propagation.specs.Assignments.Trail.{falses_of}
 use Rattle.sat_core.specs.Assuming.{IsClash}
+use Rattle.sat_core.specs.Count.{raised}
 use Rattle.sat_core.specs.Search.{IsDeadEnd, IsStuck, IsVarIn}
+use Rattle.sat_core.proofs.Counts.{raised_none, raised_more, raised_within}
 use Rattle.sat_core.proofs.Descents.{closed_no_chain}
 use Rattle.sat_core.proofs.Searches.{searching_start, searching_more, learnt_more, members_long, found_model, clash_so_far}
 use Rattle.sat_core.proofs.lent.solve_on.Goals as goal
@@ -10,6 +12,7 @@ pub learning-init : goal.learning-init
 learning-init c = record {
   searching = searching_start _ _ _ _ c.new-log.ensures c.back_to.ensures.clauses c.back_to.ensures.vars c.requires.in_range c.level.ensures.trail c.back_to.ensures.assigned;
   few = omega (arith, ap length c.new-log.ensures);
+  counted = raised_none c.args.count.now c.steps.ensures.most ∙ ap (raised c.args.count.now) (sym (ap length c.new-log.ensures));
 }
 
 pub learning-preserved : goal.learning-preserved
@@ -20,13 +23,14 @@ learning-preserved c =
     let more : length c.keep.new.log ≡ length c.learning.log + 1 = ap length kept.log ∙ length-append c.learning.log _ in
     record {
       searching = searching_more _ _ _ _ _ _ c.learning.invariant.searching _ now.clauses now.vars now.trail _ stuck _ c.in_ok-step-in-Conflict.ensures _ _ _ now.first kept.trail kept.log;
-      few = omega (arith, more, ap length c.steps.ensures.steps, c.learning.invariant.few, c.if-steps-budget.false);
+      few = omega (arith, more, ap length c.steps-in-Conflict.ensures.steps, c.learning.invariant.few, c.if-steps-budget.false);
+      counted = c.rise.ensures ∙ ap (λ n. raised n 1) c.learning.invariant.counted ∙ raised_more c.args.count.now (length c.learning.log) ∙ ap (raised c.args.count.now) (sym more);
     }
 
 pub learning-smaller : goal.learning-smaller
 learning-smaller c =
     let more : length c.keep.new.log ≡ length c.learning.log + 1 = ap length c.in_ok-keep-in-Conflict.ensures.log ∙ length-append c.learning.log _ in
-    omega (arith, more, ap length c.steps.ensures.steps, c.learning.invariant.few, c.if-steps-budget.false)
+    omega (arith, more, ap length c.steps-in-Conflict.ensures.steps, c.learning.invariant.few, c.if-steps-budget.false)
 
 pub decide_to_end-requires-clause-in_range : goal.decide_to_end-requires-clause-in_range
 decide_to_end-requires-clause-in_range c =
@@ -66,13 +70,13 @@ keep-requires-clause-closed_below c =
     stuck.closed_below
 
 pub keep-requires-clause-log : goal.keep-requires-clause-log
-keep-requires-clause-log c = omega (arith, c.requires.few, ap length c.steps.ensures.steps, c.learning.invariant.few, c.if-steps-budget.false)
+keep-requires-clause-log c = omega (arith, c.requires.few, ap length c.steps-in-Conflict.ensures.steps, c.learning.invariant.few, c.if-steps-budget.false)
 
 pub keep-requires-clause-clauses : goal.keep-requires-clause-clauses
 keep-requires-clause-clauses c =
     let now = c.in-Some.ensures in
     let long = members_long _ _ _ _ _ _ c.learning.invariant.searching c.decide_to_end.new.trail now.clauses now.vars now.trail in
-    omega (arith, long, c.requires.few, ap length c.steps.ensures.steps, c.learning.invariant.few, c.if-steps-budget.false)
+    omega (arith, long, c.requires.few, ap length c.steps-in-Conflict.ensures.steps, c.learning.invariant.few, c.if-steps-budget.false)
 
 pub returns-in_default-clause-vars : goal.returns-in_default-clause-vars
 returns-in_default-clause-vars c = c.in_default.ensures.vars ∙ c.learning.invariant.searching.vars_are
@@ -108,7 +112,7 @@ returns-then-steps-budget-clause-end c =
     let now = c.in-Some.ensures in
     let stuck : IsStuck _ c.decide_to_end.new.trail c.in-Conflict.number = subst (IsDeadEnd _ c.decide_to_end.new.trail) c.in-Conflict.is now.end in
     let more = learnt_more _ _ _ _ _ _ c.learning.invariant.searching _ now.clauses now.vars now.trail _ stuck _ c.in_ok-step-in-Conflict.ensures in
-    (omega (arith, ap length c.steps.ensures.steps, c.if-steps-budget.true), c.in_ok-step-in-Conflict.step, more)
+    (omega (arith, ap length c.steps-in-Conflict.ensures.steps, c.if-steps-budget.true), c.in_ok-step-in-Conflict.step, more)
 
 pub returns-in-Clash-clause-vars : goal.returns-in-Clash-clause-vars
 returns-in-Clash-clause-vars c = c.in-Some.ensures.vars ∙ c.learning.invariant.searching.vars_are
@@ -127,3 +131,21 @@ returns-in-Clash-clause-end c =
     let now = c.in-Some.ensures in
     let clash : IsClash c.decide_to_end.new.trail.clauses _ = subst (IsDeadEnd _ c.decide_to_end.new.trail) c.in-Clash.is now.end in
     clash_so_far _ _ _ _ _ _ c.learning.invariant.searching _ now.clauses now.vars now.trail clash
+
+pub returns-in_default-clause-count : goal.returns-in_default-clause-count
+returns-in_default-clause-count c = c.learning.invariant.counted
+
+pub returns-in_default-clause-spent : goal.returns-in_default-clause-spent
+returns-in_default-clause-spent c = rw c.learning.invariant.counted (raised_within c.args.count.now (length c.learning.log) c.args.budget c.learning.invariant.few)
+
+pub returns-then-steps-budget-clause-count : goal.returns-then-steps-budget-clause-count
+returns-then-steps-budget-clause-count c = c.learning.invariant.counted
+
+pub returns-then-steps-budget-clause-spent : goal.returns-then-steps-budget-clause-spent
+returns-then-steps-budget-clause-spent c = rw c.learning.invariant.counted (raised_within c.args.count.now (length c.learning.log) c.args.budget c.learning.invariant.few)
+
+pub returns-in-Clash-clause-count : goal.returns-in-Clash-clause-count
+returns-in-Clash-clause-count c = c.learning.invariant.counted
+
+pub returns-in-Clash-clause-spent : goal.returns-in-Clash-clause-spent
+returns-in-Clash-clause-spent c = rw c.learning.invariant.counted (raised_within c.args.count.now (length c.learning.log) c.args.budget c.learning.invariant.few)

@@ -66,8 +66,8 @@ pub log-requires-in-Spent-clause-places : goal.log-requires-in-Spent-clause-plac
 log-requires-in-Spent-clause-places c =
     subst (λ (n : ℕ). All (λ place. place ≤ n) c.args.locals.now.numbering.places.items) (sym c.requires.local) (places_within c.args.local.now _ c.args.locals.now.others.items _ c.requires.split)
 
-pub returns-in_ok-log-in-Found : goal.returns-in_ok-log-in-Found
-returns-in_ok-log-in-Found c =
+pub returns-in_ok-log-in-Found-clause-answer : goal.returns-in_ok-log-in-Found-clause-answer
+returns-in_ok-log-in-Found-clause-answer c =
     let f = c.args.f.now in
     let local = c.args.local.now in
     let pool = c.args.pool.now in
@@ -83,8 +83,8 @@ returns-in_ok-log-in-Found c =
     subst (λ (steps : List Step). IsAnswerTo f local pool c.args.budget (Found c.in-Found.valuation steps)) (sym are)
     (found_answer f local assumed others places pool c.args.budget c.requires.split log c.args.trail.now.vars c.in-Found.valuation learnt few end c.requires.vars (subst (λ (n : ℕ). n < 2 ^ 31) c.vars.ensures.vars c.vars.ensures.small))
 
-pub returns-in_ok-log-in-Spent : goal.returns-in_ok-log-in-Spent
-returns-in_ok-log-in-Spent c =
+pub returns-in_ok-log-in-Spent-clause-answer : goal.returns-in_ok-log-in-Spent-clause-answer
+returns-in_ok-log-in-Spent-clause-answer c =
     let f = c.args.f.now in
     let local = c.args.local.now in
     let pool = c.args.pool.now in
@@ -147,3 +147,18 @@ refuted-requires-clause-clash c =
     let end = subst (IsEnding c.args.trail.now.vars (members_of (f.clauses ++ others) pool) assumed c.args.budget) c.in-Clash.is c.requires.end in
     let are : c.in_ok-log-in-Clash.log ≡ map (numbered (number_of (length f.clauses) (length local) places)) log = c.in_ok-log-in-Clash.ensures ∙ ap₂ (λ (n m : ℕ). map (numbered (number_of n m places)) log) c.requires.formula c.requires.local in
     λ falses closed. clash_given f local assumed others places pool c.args.budget c.requires.split log end falses (subst (λ (steps : List Step). IsClosed (members_of (members_of (f.clauses ++ local) pool) steps) falses) are closed)
+
+pub returns-in_ok-log-in-Found-clause-learnt : goal.returns-in_ok-log-in-Found-clause-learnt
+returns-in_ok-log-in-Found-clause-learnt c =
+    let number : ℕ → ℕ = number_of c.args.locals.now.numbering.clauses c.args.locals.now.numbering.local c.args.locals.now.numbering.places.items in
+    ap length c.in_ok-log-in-Found.ensures ∙ length-map c.in-Found.log (numbered number) ∙ sym (ap (λ (e : Ending). length (steps_of e)) c.in-Found.is)
+
+pub returns-in_ok-log-in-Spent-clause-learnt : goal.returns-in_ok-log-in-Spent-clause-learnt
+returns-in_ok-log-in-Spent-clause-learnt c =
+    let number : ℕ → ℕ = number_of c.args.locals.now.numbering.clauses c.args.locals.now.numbering.local c.args.locals.now.numbering.places.items in
+    ap length c.in_ok-log-in-Spent.ensures ∙ length-map c.in-Spent.log (numbered number) ∙ sym (ap (λ (e : Ending). length (steps_of e)) c.in-Spent.is)
+
+pub returns-in_ok-answer-in-Clash-clause-learnt : goal.returns-in_ok-answer-in-Clash-clause-learnt
+returns-in_ok-answer-in-Clash-clause-learnt c =
+    let number : ℕ → ℕ = number_of c.args.locals.now.numbering.clauses c.args.locals.now.numbering.local c.args.locals.now.numbering.places.items in
+    c.in_ok-answer-in-Clash.ensures.learnt ∙ ap length c.in_ok-log-in-Clash.ensures ∙ length-map c.in-Clash.log (numbered number) ∙ sym (ap (λ (e : Ending). length (steps_of e)) c.in-Clash.is)

@@ -14,13 +14,13 @@ last_step-requires-clause-vars c = c.requires.so_far.vars
 pub push-requires : goal.push-requires
 push-requires c = omega (arith, c.requires.few, c.requires.budget, ap length c.steps.ensures.steps, c.if-steps-budget.false)
 
-pub returns-then-steps-budget : goal.returns-then-steps-budget
-returns-then-steps-budget c =
+pub returns-then-steps-budget-clause-answer : goal.returns-then-steps-budget-clause-answer
+returns-then-steps-budget-clause-answer c =
     let made = c.in_ok-step.ensures in
     stopped_answer c.args.f.now c.args.local.now c.args.pool.now c.args.budget c.args.steps c.requires.so_far c.in_ok-step.step made.empty made.chain (omega (arith, ap length c.steps.ensures.steps, c.if-steps-budget.true))
 
-pub returns : goal.returns
-returns c =
+pub returns-clause-answer : goal.returns-clause-answer
+returns-clause-answer c =
     let made = c.in_ok-step.ensures in
     refuted_answer c.args.f.now c.args.local.now c.args.pool.now c.args.budget c.args.steps c.requires.so_far c.in_ok-step.step made.empty made.chain _ c.requires.pool
     (omega (arith, c.requires.budget, ap length c.steps.ensures.steps, c.if-steps-budget.false)) c.in_ok-push.ensures.ok

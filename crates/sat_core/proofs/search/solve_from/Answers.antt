@@ -1,6 +1,7 @@
 use Rattle.std.proofs.Common.{◌≤◌, ◌++◌, ◌∙◌, ℕ, List, All, arith, ap, length, subst, sym}
 use Rattle.cnf_core.specs.declared.literal.Lit.{Lit}
 use Rattle.refutation_check.specs.Chain.{members_of}
+use Rattle.sat_core.specs.Count.{raised}
 use Rattle.sat_core.specs.Lent.{IsEnding, IsLearnt, steps_of}
 use Rattle.sat_core.specs.Search.{IsVarIn}
 use Rattle.sat_core.proofs.Answered.{given_count}
@@ -37,25 +38,28 @@ answer_of-requires-clause-end c =
     (subst (λ (ls : List Lit). IsEnding c.in_ok-trail.trail.vars c.in_ok-trail.trail.clauses ls c.args.budget c.in_ok-ending.ending) c.as_slice-assumed.ensures.value c.in_ok-ending.ensures.end))
 
 pub follow-requires : goal.follow-requires
-follow-requires c = c.in_ok-answer.ensures.small
+follow-requires c = c.in_ok-answer.ensures.answer.small
 
 pub returns-clause-log : goal.returns-clause-log
-returns-clause-log c = c.in_ok-answer.ensures.log
+returns-clause-log c = c.in_ok-answer.ensures.answer.log
 
 pub returns-clause-in_range : goal.returns-clause-in_range
-returns-clause-in_range c = c.in_ok-answer.ensures.in_range
+returns-clause-in_range c = c.in_ok-answer.ensures.answer.in_range
 
 pub returns-clause-budget : goal.returns-clause-budget
-returns-clause-budget c = c.in_ok-answer.ensures.few
+returns-clause-budget c = c.in_ok-answer.ensures.answer.few
 
 pub returns-clause-answer : goal.returns-clause-answer
-returns-clause-answer c = c.in_ok-answer.ensures.right
+returns-clause-answer c = c.in_ok-answer.ensures.answer.right
 
 pub returns-clause-stopped : goal.returns-clause-stopped
-returns-clause-stopped c = c.in_ok-answer.ensures.stopped
+returns-clause-stopped c = c.in_ok-answer.ensures.answer.stopped
 
 pub returns-clause-units : goal.returns-clause-units
-returns-clause-units c = c.in_ok-answer.ensures.units
+returns-clause-units c = c.in_ok-answer.ensures.answer.units
 
 pub returns-clause-last : goal.returns-clause-last
-returns-clause-last c = c.in_ok-answer.ensures.last
+returns-clause-last c = c.in_ok-answer.ensures.answer.last
+
+pub returns-clause-count : goal.returns-clause-count
+returns-clause-count c = c.in_ok-ending.ensures.count ∙ ap (raised c.args.count.now) (sym c.in_ok-answer.ensures.learnt)

@@ -1,6 +1,5 @@
 use Rattle.std.proofs.Common.{◌≡◌, ◌<◌, ◌≤◌, ◌++◌, [], ℕ, List, All, length, sym, ap, subst, arith}
-use Rattle.refutation_check.specs.Chain.{IsAccepted}
-use Rattle.refutation_check.specs.declared.log.Step.{Step}
+use Rattle.translation_rules.specs.Imports.{IsImport}
 use Rattle.rel_formula.specs.Instance.{AreCells}
 use Rattle.session_rules.specs.ProofOfEnd.{ProofOfEnd}
 use Rattle.session_rules.specs.Proofs.{Proves}
@@ -9,10 +8,10 @@ use Rattle.session_state.specs.declared.search_rounds.next.Found.{Found}
 use Rattle.session_state.specs.Rounds.Next.{IsAnswer, IsEndAt}
 use Rattle.session_tests.proofs.of_proof_lines.ended.Goals as goal
 
-pub next_at-requires-clause-pool : goal.next_at-requires-clause-pool
-next_at-requires-clause-pool c =
-    let none : IsAccepted c.args.made.now.cnf.clauses [] = λ i d l. absurd (omega arith) in
-    subst (λ (steps : List Step). IsAccepted c.args.made.now.cnf.clauses steps) (sym c.new-pool.ensures) none
+pub next_at-requires-clause-import : goal.next_at-requires-clause-import
+next_at-requires-clause-import c =
+    let none : IsImport c.args.made.now [] = record { accepted = λ i d l. absurd (omega arith); few = omega arith } in
+    subst (IsImport c.args.made.now) (sym c.new-pool.ensures) none
 
 pub next_at-requires-clause-floor : goal.next_at-requires-clause-floor
 next_at-requires-clause-floor c =

@@ -11,6 +11,8 @@ use Rattle.session_turns.specs.Seated.{IsSeated, BeginsPool}
 use Rattle.session_turns.specs.Served.{IsServedScript}
 use Rattle.session_turns.proofs.Transcribed.{asked_more, asked_few}
 use Rattle.session_turns.proofs.SoFar.{IsSoFar, so_far_none, so_far_more, served_whole}
+use Rattle.session_turns.specs.Allowed.{allowed}
+use Rattle.session_turns.proofs.Costs.{spent_on}
 use Rattle.session_turns.proofs.serving.serve_session.Goals as goal
 
 pub loop-number-init : goal.loop-number-init
@@ -29,6 +31,7 @@ loop-number-init g c =
       floors = c.in_ok-floors.ensures.len;
       room = let e = c.in_ok-replies.ensures.exact in omega arith;
       floor_room = let e = c.in_ok-floors.ensures.exact in omega arith;
+      spent = omega arith;
     }
 
 pub answer-requires-clause-seated : goal.answer-requires-clause-seated
@@ -72,6 +75,7 @@ loop-number-preserved g c =
       floors = c.push_reserved.ensures.len ∙ ap (λ n. n + 1) before.floors;
       room = omega (arith, before.room, c.push_reserved-in-loop-number.ensures.capacity);
       floor_room = omega (arith, before.floor_room, c.push_reserved.ensures.capacity);
+      spent = spent_on cs i asked c.loop-number-test.true c.index-commands-number.is y.kept.state.budget z.kept.state.budget c.answer.ensures.budget c.args.count.now c.loop-number.count c.answer.new.count (allowed x.kept.state.budget cs) before.spent c.answer.ensures.spent;
     }
 
 pub returns-clause-served : goal.returns-clause-served
@@ -88,3 +92,6 @@ returns-clause-served g c problems key budget base opened =
     let served = served_whole c.args.lock.now t a b x y (asked_by (take c.loop-number.number cs)) so.goes so.seated problems base key budget opened so.key cs c.loop-number.replies.items c.loop-number.floors.items whole in
     subst (λ (rs : List Reply). IsServedScript problems b.view.seen t b.view.number key budget cs (record { replies = rs; floors = c.of-2.result })) (sym c.of.ensures)
     (subst (λ (fs : List (List ℕ)). IsServedScript problems b.view.seen t b.view.number key budget cs (record { replies = c.loop-number.replies.items; floors = fs })) (sym c.of-2.ensures) served)
+
+pub returns-clause-spent : goal.returns-clause-spent
+returns-clause-spent g c = let s = c.loop-number.invariant.spent in omega arith

@@ -1,6 +1,7 @@
-use Rattle.std.proofs.Common.{◌≡◌, ◌≤◌, length, take, vec_len, vec_capacity}
+use Rattle.std.proofs.Common.{◌≡◌, ◌≤◌, ◌+◌, length, take, drop, vec_len, vec_capacity}
 use Rattle.script_format.specs.Limits.{asked_by}
 use Rattle.hub_turns.specs.Turned.{WentOn}
+use Rattle.session_turns.specs.Allowed.{allowed}
 use Rattle.session_turns.specs.Seated.{IsSeated, BeginsPool}
 use Rattle.session_turns.proofs.SoFar.{IsSoFar}
 use Rattle.session_turns.proofs.serving.serve_session.Given as goal
@@ -16,4 +17,5 @@ invariant-loop-number g l = record {
   floors : vec_len l.floors ≡ l.number;
   room : length l.commands ≤ vec_capacity l.replies;
   floor_room : length l.commands ≤ vec_capacity l.floors;
+  spent : l.count + allowed l.session.kept.state.budget (drop l.number l.commands) ≤ l.fn.count + allowed l.fn.session.kept.state.budget l.commands;
 }

@@ -1,4 +1,4 @@
-use Rattle.std.proofs.Common.{◌≡◌, ◌≤◌, ◌+◌, ℕ, length, vec_len, vec_capacity}
+use Rattle.std.proofs.Common.{◌≡◌, ◌≤◌, ◌+◌, ◌*◌, ℕ, length, vec_len, vec_capacity}
 use Rattle.session_turns.specs.Showing.{IsFirst}
 use Rattle.hub_turns.specs.Turned.{WentOn}
 use Rattle.session_turns.specs.Added.{HasShownAll}
@@ -12,8 +12,10 @@ invariant-loop-time g l = record {
   first : IsFirst l.fn.session.kept.state l.showing.scenarios.items l.showing.first;
   count : length l.showing.scenarios.items ≡ l._time;
   len : vec_len l.showing.scenarios ≡ l._time;
-  room : l.count ≤ vec_capacity l.showing.scenarios;
+  room : l.wanted ≤ vec_capacity l.showing.scenarios;
   seated : (shown : ℕ) → IsSeated l.lock l.translation shown l.fn.pass l.fn.session → IsSeated l.lock l.translation (shown + l._time) l.pass l.session;
   key : l.session.key ≡ l.fn.session.key;
   begins : BeginsPool l.pool l.pass l.session;
+  spent : l.count ≤ l.fn.count + l._time * l.fn.session.kept.state.budget;
+  budget : l.session.kept.state.budget ≡ l.fn.session.kept.state.budget;
 }

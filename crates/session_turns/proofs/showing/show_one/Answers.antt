@@ -10,7 +10,14 @@ use Rattle.session_turns.proofs.Stepping.{list_printable}
 use Rattle.session_turns.specs.Added.{HasServed, HasShownAll}
 use Rattle.session_turns.proofs.Answering.{seated_wider}
 use Rattle.session_turns.proofs.ShownTogether.{shown_all_more, lists_all, ends_without_memory, comes_to_other}
+use Rattle.session_turns.proofs.Costs.{left_by_next}
 use Rattle.session_turns.proofs.showing.show_one.Goals as goal
+
+pub returns-in-Shown-clause-budget : goal.returns-in-Shown-clause-budget
+returns-in-Shown-clause-budget g c = left_by_next c.args.translation.now.problem c.args.session.now.kept.state c.take_step.new.session.kept.state c.take_step.result c.take_step.ensures.answered.machine
+
+pub returns-in-End-clause-budget : goal.returns-in-End-clause-budget
+returns-in-End-clause-budget g c = left_by_next c.args.translation.now.problem c.args.session.now.kept.state c.take_step.new.session.kept.state c.take_step.result c.take_step.ensures.answered.machine
 
 pub take_step-requires-clause-seated : goal.take_step-requires-clause-seated
 take_step-requires-clause-seated g c = seated_wider c.args.lock.now c.args.translation.now 19999 20000 c.args.pass.now c.args.session.now (omega arith) c.requires.seated
@@ -66,4 +73,6 @@ returns-in_default g c = record {
   seated = c.take_step.ensures.seated;
   key = c.take_step.ensures.key;
   begins = c.take_step.ensures.begins;
+  spent = c.take_step.ensures.spent;
+  budget = left_by_next c.args.translation.now.problem c.args.session.now.kept.state c.take_step.new.session.kept.state c.take_step.result c.take_step.ensures.answered.machine;
 }

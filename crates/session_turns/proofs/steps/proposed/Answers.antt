@@ -1,7 +1,18 @@
-use Rattle.std.proofs.Common.{inl, refl, sym, subst}
+use Rattle.std.proofs.Common.{◌≤◌, ◌+◌, inl, refl, sym, subst}
+use Rattle.session_words.specs.declared.steps.Step.{Step}
 use Rattle.hub_turns.proofs.Onward.{went_none}
 use Rattle.session_turns.proofs.Answering.{IsPlainStep, on_ok, begun_plain, plain_proposed}
+use Rattle.session_turns.specs.Allowed.{cost_of_step}
 use Rattle.session_turns.proofs.steps.proposed.Goals as goal
+
+pub returns-in-Next-clause-spent : goal.returns-in-Next-clause-spent
+returns-in-Next-clause-spent g c = subst (λ (s : Step). c.searched.new.count ≤ c.args.count.now + cost_of_step c.args.session.now.kept.state.budget s) (sym c.in-Next.is) c.searched.ensures.spent
+
+pub returns-in-Offers-clause-spent : goal.returns-in-Offers-clause-spent
+returns-in-Offers-clause-spent g c = subst (λ (s : Step). c.searched-in-Offers.new.count ≤ c.args.count.now + cost_of_step c.args.session.now.kept.state.budget s) (sym c.in-Offers.is) c.searched-in-Offers.ensures.spent
+
+pub returns-in-Augment-clause-spent : goal.returns-in-Augment-clause-spent
+returns-in-Augment-clause-spent g c = subst (λ (s : Step). c.searched-in-Augment.new.count ≤ c.args.count.now + cost_of_step c.args.session.now.kept.state.budget s) (sym c.in-Augment.is) c.searched-in-Augment.ensures.spent
 
 pub returns-in-Back-clause-goes : goal.returns-in-Back-clause-goes
 returns-in-Back-clause-goes g c = went_none c.args.lock.now c.args.pass.now c.requires.idle

@@ -42,15 +42,11 @@ returns-in_err-proposal-clause-cut g c =
     let none = shares_none b x.key in
     inr (begun_search a b b c.args.step.now x (length c.import.new.have) none.0 (same_number c.args.lock.now a b c.in_ok-import.ensures.goes) added none.1 none.2 c.requires.asked)
 
-pub propose-requires-clause-pool : goal.propose-requires-clause-pool
-propose-requires-clause-pool g c =
+pub propose-requires-clause-import : goal.propose-requires-clause-import
+propose-requires-clause-import g c =
     let t = c.args.translation.now in
-    (c.in_ok-import.ensures.imported t (subst (λ (k : ℕ). IsPublished c.args.pass.now.view.seen k t) (sym c.key-key.ensures) c.requires.published)).1.accepted
-
-pub propose-requires-clause-few : goal.propose-requires-clause-few
-propose-requires-clause-few g c =
-    let t = c.args.translation.now in
-    (c.in_ok-import.ensures.imported t (subst (λ (k : ℕ). IsPublished c.args.pass.now.view.seen k t) (sym c.key-key.ensures) c.requires.published)).1.limits.few_steps
+    let pool = (c.in_ok-import.ensures.imported t (subst (λ (k : ℕ). IsPublished c.args.pass.now.view.seen k t) (sym c.key-key.ensures) c.requires.published)).1 in
+    record { accepted = pool.accepted; few = pool.limits.few_steps }
 
 pub share_parts-requires-clause-imported : goal.share_parts-requires-clause-imported
 share_parts-requires-clause-imported g c =

@@ -1,4 +1,4 @@
-use Rattle.std.proofs.Common.{◌≡◌, ℕ, List, length, sym, ap, ◌∙◌, subst, arith}
+use Rattle.std.proofs.Common.{◌≡◌, inl, inr, ℕ, List, length, sym, ap, ◌∙◌, subst, arith}
 use Rattle.std.specs.List.{range_with_len}
 use Rattle.std.proofs.lemmas.List.{length-map}
 use Rattle.std.proofs.lemmas.Result.{err_from_is_err_and}
@@ -32,4 +32,7 @@ pub returns-in_err-set_of : goal.returns-in_err-set_of
 returns-in_err-set_of c =
     let m = named_view c.args.model.now in
     let p = err_from_is_err_and c.from_residual-in_err-set_of.result c.from_residual-in_err-set_of.ensures.1 in
-    rw (p.1, p.2) (subst (IsRefusal m c.args.command (all_facts m)) (sym c.in_err-set_of.ensures) tt)
+    rw (p.1, p.2) (elim c.in_err-set_of.ensures [
+      | inl memory ↦ subst (IsRefusal m c.args.command (all_facts m)) (sym memory) tt
+      | inr large ↦ subst (IsRefusal m c.args.command (all_facts m)) (sym large) (c.in_ok-problem.problem, c.relations.ensures.well, c.in_ok-problem.ensures.is)
+    ])

@@ -8,7 +8,7 @@ use Rattle.refutation_check.specs.Lift.{lifted_hint, lifted, HasRoomToLift}
 use Rattle.refutation_check.specs.WrittenProof.{HasHintsInRange}
 use Rattle.rel_formula.specs.Bounds.{Bounded, cells_of}
 use Rattle.session_rules.specs.Proofs.{whole_log, locals_for}
-use Rattle.script_text.specs.Proofs.Printed.{most_vars}
+use Rattle.translation.specs.Numbered.{vars_of}
 use Rattle.script_text.proofs.Proofs.Hints.{written_hints, room_to_lift}
 use Rattle.script_text.proofs.Proofs.Sizes.{few_local, few_clauses}
 use Rattle.script_text.proofs.Proofs.Vars.{locals_within}
@@ -21,7 +21,7 @@ formula_with-requires-clause-within c =
     let kind = c.args.kind in
     let blocked = c.args.proof.now.blocked in
     let same : c.as_slice-clauses.result.now ≡ locals_for t floor kind blocked = c.as_slice-clauses.ensures.value ∙ c.in_ok-local.ensures ∙ ap (locals_for t floor kind) c.blocked.ensures in
-    subst (All (HasVarsUpTo (most_vars t.cnf.vars t.swaps))) (sym same) (locals_within t c.problem-problem.ensures.well floor c.requires.floor kind blocked c.requires.blocked)
+    subst (All (HasVarsUpTo (vars_of t))) (sym same) (locals_within t c.problem-problem.ensures.well floor c.requires.floor kind blocked c.requires.blocked)
 
 pub formula_with-requires-clause-few : goal.formula_with-requires-clause-few
 formula_with-requires-clause-few c =

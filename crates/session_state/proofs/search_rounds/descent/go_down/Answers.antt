@@ -26,7 +26,7 @@ returns-in-Minimal-clause-answer c =
     let stands = c.problem.ensures.well.stands in
     let sat = (stands.instances start c.requires.start.scenario).0 c.requires.start in
     let full : All (λ (l : List Lit). l ≢ []) t.cnf.clauses = none_empty sat.valuation t.cnf.clauses sat.satisfied in
-    let later : HasNoEmpty pool = none_empty_after sat.valuation t.cnf.clauses sat.satisfied pool (c.accepted_is_entailed.ensures.entailed t.cnf.clauses pool c.requires.pool) in
+    let later : HasNoEmpty pool = none_empty_after sat.valuation t.cnf.clauses sat.satisfied pool (c.accepted_is_entailed.ensures.entailed t.cnf.clauses pool c.requires.import.accepted) in
     let same : c.as_slice.result.now ≡ parts = c.as_slice.ensures.value in
     let left = subst (λ (ps : List Parted). AreSearched t pool ps → novel_in t pool ps ≤ budget → novel_in t pool ps + c.left_after-left.result ≡ budget) same (c.left_after-left.ensures t pool full later) in
     (answer.0, answer.1, left descent.searched descent.few)
@@ -42,3 +42,11 @@ returns-in-Spent-clause-answer c =
 
 pub returns-in-Spent-clause-stopped : goal.returns-in-Spent-clause-stopped
 returns-in-Spent-clause-stopped c = subst (IsStopped c.args.translation.now c.args.pool.now) c.in-Spent.is c.in_ok-scenario.ensures.stopped
+
+pub returns-in-Minimal-clause-left : goal.returns-in-Minimal-clause-left
+returns-in-Minimal-clause-left c =
+    let t = c.args.translation.now in
+    let pool = c.args.pool.now in
+    let counted = subst (λ (d : Down). c.minimise_on.new.count ≤ c.args.count.now + novel_in t pool (parts_of d)) c.in-Minimal.is c.in_ok-scenario.ensures.novel in
+    let left = (returns-in-Minimal-clause-answer c).2 in
+    omega arith

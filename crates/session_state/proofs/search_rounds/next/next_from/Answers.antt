@@ -8,7 +8,7 @@ use Rattle.session_state.specs.declared.search_rounds.next.NextAt.{NextAt}
 use Rattle.session_state.specs.declared.search_rounds.next.Found.{Found}
 use Rattle.session_state.specs.declared.search_rounds.next.Found.TheVariants.{Shown, Ended, Spent}
 use Rattle.session_state.specs.declared.search_rounds.round.RoundEnd.{RoundEnd}
-use Rattle.session_state.specs.Rounds.Rounds.{parts_in, IsRoundAt, IsRightRound, IsStoppedRound}
+use Rattle.session_state.specs.Rounds.Rounds.{left_in, parts_in, IsRoundAt, IsRightRound, IsStoppedRound}
 use Rattle.session_state.specs.Rounds.Next.{IsEndAt}
 use Rattle.session_state.proofs.Rounds.SearchedRounds.{novel_more, novel_none}
 use Rattle.session_state.proofs.Rounds.RoundStates.{Going, Answered, set_out, covered_later, cells_of_blocked, shown_are_blocked, few_blocked, done, spent_all, stopped, next, ended}
@@ -27,6 +27,7 @@ rounds-init c =
       going = subst (λ (b : List (List ℕ)). Going t pool floor shown copies budget b c.new-parts.result.items c.new-found.result.items budget) (sym c.in_ok-blocked.ensures)
           (subst (λ (ps : List Parted). Going t pool floor shown copies budget (shown ++ copies) ps c.new-found.result.items budget) (sym c.new-parts.ensures.items)
           (subst (λ (fs : List (List ℕ)). Going t pool floor shown copies budget (shown ++ copies) [] fs budget) (sym c.new-found.ensures.items) (set_out t pool floor shown copies budget)));
+      spent = omega arith;
     }
 
 pub round_at-requires-clause-shown : goal.round_at-requires-clause-shown
@@ -107,6 +108,8 @@ rounds-preserved c =
       going = subst (λ (b : List (List ℕ)). Going t pool floor shown copies budget b c.add_parts-in-Copy.new.parts.items c.push.new.self.items c.in-Copy.rest) (sym blocked_now)
           (subst (λ (ps : List Parted). Going t pool floor shown copies budget (blocked ++ copy ∷ []) ps c.push.new.self.items c.in-Copy.rest) (sym parts_now)
           (subst (λ (fs : List (List ℕ)). Going t pool floor shown copies budget (blocked ++ copy ∷ []) (parts ++ more) fs c.in-Copy.rest) (sym found_now) on));
+      spent =
+          (let l = subst (λ (e : RoundEnd). c.round_at.new.count + left_in e ≤ c.rounds.count + left) c.in-Copy.is c.in_ok-scenario.ensures.left in let s = c.rounds.invariant.spent in omega arith);
     }
 
 pub returns-in-Due : goal.returns-in-Due
@@ -131,7 +134,7 @@ returns-in-Due c =
     let told : Answered t pool floor shown copies budget c.next_of.result =
     subst (Answered t pool floor shown copies budget) (sym c.next_of.ensures)
     (subst (λ (ps : List Parted). Answered t pool floor shown copies budget (record { found = what; parts = ps; copies = found })) (sym c.in_ok-add_parts-in-Due.ensures) (record { done = finished; answer = right; stopped = tt })) in
-    record { searched = told.done.searched; work = told.done.work; copies = told.done.new; units = told.done.few; answer = told.answer; stopped = told.stopped }
+    record { searched = told.done.searched; work = told.done.work; copies = told.done.new; units = told.done.few; answer = told.answer; stopped = told.stopped; spent = (let s = c.in_ok-scenario.ensures.spent in let i = c.rounds.invariant.spent in omega arith) }
 
 pub returns-in-Spent : goal.returns-in-Spent
 returns-in-Spent c =
@@ -161,7 +164,7 @@ returns-in-Spent c =
       answer = spent_all t pool floor shown copies budget blocked parts found left going more round right;
       stopped = stopped t pool floor shown copies budget blocked parts found left going more round c.requires.copies on;
     })) in
-    record { searched = told.done.searched; work = told.done.work; copies = told.done.new; units = told.done.few; answer = told.answer; stopped = told.stopped }
+    record { searched = told.done.searched; work = told.done.work; copies = told.done.new; units = told.done.few; answer = told.answer; stopped = told.stopped; spent = (let s = c.in_ok-scenario.ensures.spent in let i = c.rounds.invariant.spent in omega arith) }
 
 pub proof_of-requires-clause-few : goal.proof_of-requires-clause-few
 proof_of-requires-clause-few c =
@@ -213,7 +216,7 @@ returns-in-Refuted c =
     let finished = done t pool floor shown copies budget blocked parts found left going more round c.requires.copies in
     let ends : IsEndAt t pool floor shown (shown ++ copies ++ found) (parts ++ part ∷ []) (record { imported = length pool; blocked = blocked; pool = pool; log = part.log }) =
     ended t pool floor shown copies budget blocked parts found left going
-    (λ blocked part log empty. c.a_refuting_part_makes_a_proof.ensures t pool part blocked c.requires.pool log empty)
+    (λ blocked part log empty. c.a_refuting_part_makes_a_proof.ensures t pool part blocked c.requires.import.accepted log empty)
     (λ proof proves covered x due. c.a_proof_of_an_end_is_right.ensures t.problem t c.problem.ensures.well.stands floor shown c.requires.shown proof proves covered x due)
     c.requires.copies part (round.searched 0 part (omega arith)) right.0 right.1 in
     let proof : ProofOfEnd = c.in_ok-proof-in-Refuted.proof in
@@ -222,4 +225,4 @@ returns-in-Refuted c =
     subst (Answered t pool floor shown copies budget) (sym c.next_of-in-Refuted.ensures)
     (subst (λ (ps : List Parted). Answered t pool floor shown copies budget (record { found = what; parts = ps; copies = found })) (sym c.in_ok-push-in-Refuted.ensures.items)
     (record { done = finished; answer = subst (IsEndAt t pool floor shown (shown ++ copies ++ found) (parts ++ part ∷ [])) (sym c.in_ok-proof-in-Refuted.ensures) ends; stopped = tt })) in
-    record { searched = told.done.searched; work = told.done.work; copies = told.done.new; units = told.done.few; answer = told.answer; stopped = told.stopped }
+    record { searched = told.done.searched; work = told.done.work; copies = told.done.new; units = told.done.few; answer = told.answer; stopped = told.stopped; spent = (let s = c.in_ok-scenario.ensures.spent in let i = c.rounds.invariant.spent in omega arith) }

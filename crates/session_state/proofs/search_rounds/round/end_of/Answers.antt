@@ -9,6 +9,7 @@ returns-in-Due c = record {
   parts = refl;
   answer = λ t pool floor shown blocked budget minimal class out units. subst (IsRightClass t.problem floor shown minimal) c.in-Due.is class;
   stopped = λ t pool floor shown blocked minimal class out. tt;
+  left = omega arith;
 }
 
 pub returns-then-left-eq0 : goal.returns-then-left-eq0
@@ -18,6 +19,7 @@ returns-then-left-eq0 c = record {
   stopped = λ t pool floor shown blocked minimal class out.
       let copy = subst (IsRightClass t.problem floor shown minimal) c.in-Copy.is class in
       inr (c.in-Copy.scenario, copy.1, subst (λ (s : List ℕ). ¬ Contains blocked s) (sym copy.0) out);
+  left = omega arith;
 }
 
 pub returns-else-left-eq0 : goal.returns-else-left-eq0
@@ -27,4 +29,5 @@ returns-else-left-eq0 c = record {
       let copy = subst (IsRightClass t.problem floor shown minimal) c.in-Copy.is class in
       (copy.1, subst (λ (s : List ℕ). ¬ Contains blocked s) (sym copy.0) out, omega arith);
   stopped = λ t pool floor shown blocked minimal class out. tt;
+  left = omega arith;
 }

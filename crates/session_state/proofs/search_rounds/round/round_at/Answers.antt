@@ -2,7 +2,7 @@ use Rattle.std.proofs.Common.{◌≡◌, inl, ◌≤◌, ◌+◌, ◌∷◌, [],
 use Rattle.refutation_check.specs.Part.{Parted}
 use Rattle.translation_rules.specs.Parts.{GoesOn, LastGoesOn, novel_in}
 use Rattle.session_state.specs.declared.search_rounds.search.SearchEnd.{SearchEnd}
-use Rattle.session_state.specs.Rounds.Searches.{part_of, IsSearchAt, IsRightSearch, IsStoppedSearch}
+use Rattle.session_state.specs.Rounds.Searches.{left_of, part_of, IsSearchAt, IsRightSearch, IsStoppedSearch}
 use Rattle.session_state.specs.Rounds.Rounds.{IsRoundAt}
 use Rattle.session_state.proofs.Rounds.SearchedRounds.{search_alone, units_alone, leads, counted, round_here}
 use Rattle.session_state.proofs.search_rounds.round.round_at.Goals as goal
@@ -94,4 +94,31 @@ returns-in-Refuted c =
       parts = search_alone t pool floor blocked budget part search;
       answer = (search.local, right);
       stopped = tt;
+      spent = c.in_ok-start.ensures.spent;
+      left = (let s = c.in_ok-start.ensures.spent in omega arith);
     }
+
+pub returns-in_ok-end-in-Left-clause-left : goal.returns-in_ok-end-in-Left-clause-left
+returns-in_ok-end-in-Left-clause-left c =
+    let search = subst (λ (s : SearchEnd). c.search_at.new.count + left_of s ≤ c.args.count.now + c.args.budget) c.in-Left.is c.in_ok-start.ensures.left in
+    let descent = c.in_ok-descent-in-Left.ensures.left in
+    let end = c.in_ok-end-in-Left.ensures.left in
+    omega arith
+
+pub returns-in_ok-end-in-Left-clause-spent : goal.returns-in_ok-end-in-Left-clause-spent
+returns-in_ok-end-in-Left-clause-spent c =
+    let search = subst (λ (s : SearchEnd). c.search_at.new.count + left_of s ≤ c.args.count.now + c.args.budget) c.in-Left.is c.in_ok-start.ensures.left in
+    let descent = c.in_ok-descent-in-Left.ensures.spent in
+    omega arith
+
+pub returns-in_err-descent-in-Left-clause-spent : goal.returns-in_err-descent-in-Left-clause-spent
+returns-in_err-descent-in-Left-clause-spent c =
+    let search = subst (λ (s : SearchEnd). c.search_at.new.count + left_of s ≤ c.args.count.now + c.args.budget) c.in-Left.is c.in_ok-start.ensures.left in
+    let descent = c.in_err-descent-in-Left.ensures.spent in
+    omega arith
+
+pub returns-in_err-end-in-Left-clause-spent : goal.returns-in_err-end-in-Left-clause-spent
+returns-in_err-end-in-Left-clause-spent c =
+    let search = subst (λ (s : SearchEnd). c.search_at.new.count + left_of s ≤ c.args.count.now + c.args.budget) c.in-Left.is c.in_ok-start.ensures.left in
+    let descent = c.in_ok-descent-in-Left.ensures.spent in
+    omega arith

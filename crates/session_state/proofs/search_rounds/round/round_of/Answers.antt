@@ -1,4 +1,4 @@
-use Rattle.std.proofs.Common.{◌≡◌, inl, ◌+◌, ◌∷◌, [], ℕ, List, refl, sym, ◌∙◌, ap, subst}
+use Rattle.std.proofs.Common.{◌≡◌, ◌≤◌, inl, ◌+◌, ◌∷◌, [], ℕ, List, refl, sym, ◌∙◌, ap, subst}
 use Rattle.refutation_check.specs.declared.log.Step.{Step as LogStep}
 use Rattle.refutation_check.specs.Part.{Parted}
 use Rattle.rel_formula.specs.Bounds.{Bounded}
@@ -7,8 +7,8 @@ use Rattle.rel_formula.specs.Renaming.{IsSymmetric}
 use Rattle.translation_rules.specs.Parts.{LastGoesOn, novel_in}
 use Rattle.session_state.specs.declared.search_rounds.descent.DescentEnd.{DescentEnd}
 use Rattle.session_state.specs.Rounds.Classes.{IsRightClass}
-use Rattle.session_state.specs.Rounds.Descended.{parts_of, IsStoppedDescent, LeadsToNew}
-use Rattle.session_state.specs.Rounds.Rounds.{IsCounted}
+use Rattle.session_state.specs.Rounds.Descended.{left_of, parts_of, IsStoppedDescent, LeadsToNew}
+use Rattle.session_state.specs.Rounds.Rounds.{left_in, IsCounted}
 use Rattle.session_state.proofs.Rounds.SearchedRounds.{goes_on_behind}
 use Rattle.session_state.proofs.search_rounds.round.round_of.Goals as goal
 
@@ -41,3 +41,6 @@ returns-in_ok-all-in-Spent-clause-stopped c = λ pool blocked budget is on.
     let part : Parted = c.args.part in
     let goes : LastGoesOn t pool c.in-Spent.parts.items = subst (IsStoppedDescent t pool) c.in-Spent.is on in
     inl (subst (LastGoesOn t pool) (sym c.in_ok-all-in-Spent.ensures) (goes_on_behind t pool (part ∷ []) c.in-Spent.parts.items goes))
+
+pub returns-in_ok-all-in-Minimal-clause-left : goal.returns-in_ok-all-in-Minimal-clause-left
+returns-in_ok-all-in-Minimal-clause-left c = subst (λ (d : DescentEnd). left_in c.end_of.result ≤ left_of d) (sym c.in-Minimal.is) c.end_of.ensures.left

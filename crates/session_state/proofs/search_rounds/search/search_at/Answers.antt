@@ -9,7 +9,8 @@ use Rattle.refutation_check.proofs.Novelty.{novel_all}
 use Rattle.rel_formula.specs.Bounds.{cells_of}
 use Rattle.sat_trail.specs.Trailed.{IsBase}
 use Rattle.sat_core.specs.declared.search.Answer.{Answer}
-use Rattle.sat_core.specs.Answers.{IsStopped}
+use Rattle.sat_core.specs.Answers.{learnt_in, log_of, IsStopped}
+use Rattle.sat_core.specs.Count.{raised}
 use Rattle.translation_rules.specs.Locals.{IsLeft, locals_of}
 use Rattle.translation_rules.specs.Parts.{GoesOn, given_to}
 use Rattle.translation_rules.proofs.Locals.Cells.{few_cells}
@@ -41,7 +42,7 @@ solve_from-requires-clause-few c =
     let most = terms.2 in
     let given : length c.cnf.result.now.clauses ≡ length t.cnf.clauses = ap (λ (f : Formula). length f.clauses) c.cnf.ensures in
     let asked : length c.as_slice.result.now ≡ length items = ap length c.as_slice.ensures.value in
-    let pool_few = c.requires.few_steps in
+    let pool_few = c.requires.import.few in
     omega arith
 
 pub of-part-requires : goal.of-part-requires
@@ -227,3 +228,10 @@ returns-in-Spent-clause-stopped c =
     let made : c.of-in-Spent.result ≡ part = c.of-in-Spent.ensures ∙ ap (λ (ls : List (List Lit)). let p : Parted = record { local = ls; log = log } in p) are in
     let stopped = subst (IsStopped (c.cnf.result.now.clauses ++ c.as_slice.result.now) pool) c.in-Spent.is c.in_ok-valuation.ensures.stopped in
     subst (GoesOn t pool) (sym made) (goes_on t pool c.cnf.result.now c.as_slice.result.now local log c.cnf.ensures (c.as_slice.ensures.value ∙ are) here.answer.2 stopped)
+
+pub returns-in_ok-start-in-Found-clause-left : goal.returns-in_ok-start-in-Found-clause-left
+returns-in_ok-start-in-Found-clause-left c =
+    let learnt = subst (λ (a : Answer). c.solve_from.new.count ≡ raised c.args.count.now (learnt_in a)) c.in-Found.is c.in_ok-valuation.ensures.count in
+    let few = subst (λ (a : Answer). length (log_of a) ≤ c.args.budget) c.in-Found.is c.in_ok-valuation.ensures.budget in
+    let steps : length c.steps.result.now ≡ length c.in-Found.log = ap length c.steps.ensures.steps in
+    omega arith

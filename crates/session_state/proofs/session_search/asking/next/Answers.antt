@@ -1,10 +1,13 @@
-use Rattle.std.proofs.Common.{◌≡◌, ◌≤◌, ◌∙◌, ℕ, List, All, length, sym, ap, subst, arith}
+use Rattle.std.proofs.Common.{◌≡◌, ◌≤◌, ◌∙◌, ℕ, List, All, Contains, IfOk, length, sym, ap, subst, arith}
 use Rattle.rel_formula.specs.Instance.{AreCells}
 use Rattle.swap_symmetry.specs.Due.{IsDue}
 use Rattle.session_rules.specs.States.{shown_here, top_floor}
 use Rattle.session_rules.specs.Proofs.{IsCopy}
 use Rattle.session_state.specs.Store.Stored.{copies_at}
 use Rattle.session_state.proofs.Sessions.TopFloors.{floor_here, copies_here, few_at}
+use Rattle.std.proofs.lemmas.Result.{IfOk-weaker}
+use Rattle.std.proofs.lemmas.List.Elements.{All-nil}
+use Rattle.session_state.specs.Sessions.Proposed.{Proposed}
 use Rattle.session_state.proofs.session_search.asking.next.Goals as goal
 
 pub end_again-requires : goal.end_again-requires
@@ -50,3 +53,12 @@ look_for-requires-clause-few c =
     let room = c.requires.room in
     let most = c.requires.kept.few_copies in
     omega arith
+
+pub returns-in-Some-clause-new : goal.returns-in-Some-clause-new
+returns-in-Some-clause-new c =
+    let known = copies_at (top_floor c.args.store.now.state) c.args.store.now in
+    IfOk-weaker c.end_again.result _ _ (λ p none. subst (All (λ (copy : List ℕ). ¬ Contains known copy)) (sym none) (All-nil (λ (copy : List ℕ). ¬ Contains known copy))) c.end_again.ensures.none
+
+pub returns-clause-new : goal.returns-clause-new
+returns-clause-new c =
+    subst (λ (known : List (List ℕ)). IfOk c.look_for.result (λ (p : Proposed). All (λ (copy : List ℕ). ¬ Contains known copy) p.copies)) (c.as_slice-in-None-2.ensures.value ∙ c.in_ok-copies-in-None.ensures) c.look_for.ensures.new

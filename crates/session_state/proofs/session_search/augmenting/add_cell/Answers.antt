@@ -9,8 +9,8 @@ use Rattle.session_state.proofs.Sessions.IdleReplies.{refused}
 use Rattle.session_state.proofs.Sessions.FloorProposals.{cells_with}
 use Rattle.session_state.proofs.session_search.augmenting.add_cell.Goals as goal
 
-pub returns-then-height-ge-MOST_FLOORS : goal.returns-then-height-ge-MOST_FLOORS
-returns-then-height-ge-MOST_FLOORS c = λ name names named.
+pub returns-then-height-ge-MOST_FLOORS-clause-proposal : goal.returns-then-height-ge-MOST_FLOORS-clause-proposal
+returns-then-height-ge-MOST_FLOORS-clause-proposal c = λ name names named.
     let t = c.args.translation.now in
     let pool = c.args.pool.now in
     let s = c.args.store.now.state in
@@ -28,8 +28,8 @@ go_up-requires-clause-floor c =
     let floor_is = c.in_ok-insert.ensures.value ∙ ap (with_cell c.args.cell) c.in_ok-floor.ensures in
     subst (AreCells p) (sym floor_is) (cells_with p c.args.cell c.args.current.now c.requires.cells c.requires.cell)
 
-pub returns : goal.returns
-returns c =
+pub returns-clause-proposal : goal.returns-clause-proposal
+returns-clause-proposal c =
     let t = c.args.translation.now in
     let s = c.args.store.now.state in
     let current = c.args.current.now in
@@ -38,4 +38,4 @@ returns c =
     let floor_is : c.insert.new.self ≡ with_cell cell current = c.in_ok-insert.ensures.value ∙ ap (with_cell cell) c.in_ok-floor.ensures in
     let room : length s.above < 64 = let e = c.height.ensures in omega arith in
     IfOk-weaker c.go_up.result _ _ (λ p h name names named.
-    h s name names (record { current = current; is_current = c.requires.current; cell = cell; named = named; absent = absent; floor_is = floor_is }) room (sym c.budget.ensures)) c.go_up.ensures
+    h s name names (record { current = current; is_current = c.requires.current; cell = cell; named = named; absent = absent; floor_is = floor_is }) room (sym c.budget.ensures)) c.go_up.ensures.proposal

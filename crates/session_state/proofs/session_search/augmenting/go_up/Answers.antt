@@ -11,8 +11,8 @@ use Rattle.session_state.specs.Sessions.Proposed.{IsProposal}
 use Rattle.session_state.proofs.Sessions.FloorProposals.{goes_up, goes_nowhere, spent_on_floor}
 use Rattle.session_state.proofs.session_search.augmenting.go_up.Goals as goal
 
-pub returns-in_ok-parts-in-Possible : goal.returns-in_ok-parts-in-Possible
-returns-in_ok-parts-in-Possible c = λ s name names asked room most.
+pub returns-in_ok-parts-in-Possible-clause-proposal : goal.returns-in_ok-parts-in-Possible-clause-proposal
+returns-in_ok-parts-in-Possible-clause-proposal c = λ s name names asked room most.
     let t = c.args.translation.now in
     let pool = c.args.pool.now in
     let floor : List ℕ = c.args.floor in
@@ -24,8 +24,8 @@ returns-in_ok-parts-in-Possible c = λ s name names asked room most.
     (subst (λ (ps : List Parted). IsProposal t pool s (Augment name names) (record { reply = Augmented floor; parts = ps; copies = [] })) (sym c.in_ok-parts-in-Possible.ensures)
     (goes_up t pool s name names floor budget part asked most search c.in-Possible._valuation room right.0))
 
-pub returns-in_ok-parts-in-Impossible : goal.returns-in_ok-parts-in-Impossible
-returns-in_ok-parts-in-Impossible c = λ s name names asked room most.
+pub returns-in_ok-parts-in-Impossible-clause-proposal : goal.returns-in_ok-parts-in-Impossible-clause-proposal
+returns-in_ok-parts-in-Impossible-clause-proposal c = λ s name names asked room most.
     let t = c.args.translation.now in
     let pool = c.args.pool.now in
     let floor : List ℕ = c.args.floor in
@@ -34,13 +34,13 @@ returns-in_ok-parts-in-Impossible c = λ s name names asked room most.
     let proof = c.in_ok-proof-in-Impossible.proof in
     let search : IsSearchFor t pool floor budget part = subst (λ (told : Sought). IsSearchFor t pool floor budget (part_in told)) c.in-Impossible.is c.in_ok-sought.ensures.part in
     let right = subst (IsRightFor t pool floor budget) c.in-Impossible.is c.in_ok-sought.ensures.answer in
-    let refutes = c.a_refuting_part_makes_a_proof.ensures t pool part [] c.requires.pool search.searched right.1 in
+    let refutes = c.a_refuting_part_makes_a_proof.ensures t pool part [] c.requires.import.accepted search.searched right.1 in
     subst (IsProposal t pool s (Augment name names)) (sym c.searched-in-Impossible.ensures)
     (subst (λ (ps : List Parted). IsProposal t pool s (Augment name names) (record { reply = Refused (NoInstance proof); parts = ps; copies = [] })) (sym c.in_ok-parts-in-Impossible.ensures)
     (goes_nowhere t pool s name names floor budget part asked most search proof room right.0 refutes c.in_ok-proof-in-Impossible.ensures))
 
-pub returns-in_ok-parts-in-Spent : goal.returns-in_ok-parts-in-Spent
-returns-in_ok-parts-in-Spent c =
+pub returns-in_ok-parts-in-Spent-clause-proposal : goal.returns-in_ok-parts-in-Spent-clause-proposal
+returns-in_ok-parts-in-Spent-clause-proposal c =
     let t = c.args.translation.now in
     let pool = c.args.pool.now in
     let floor : List ℕ = c.args.floor in

@@ -11,8 +11,8 @@ use Rattle.session_state.specs.Sessions.Proposed.{IsProposal}
 use Rattle.session_state.proofs.Sessions.OfferProposals.{offered, spent_on_offers}
 use Rattle.session_state.proofs.session_search.offering.offers_of.Goals as goal
 
-pub returns-in-Exactly : goal.returns-in-Exactly
-returns-in-Exactly c = λ s is most.
+pub returns-in-Exactly-clause-proposal : goal.returns-in-Exactly-clause-proposal
+returns-in-Exactly-clause-proposal c = λ s is most.
     let t = c.args.translation.now in
     let pool = c.args.pool.now in
     let current = c.args.current.now in
@@ -25,8 +25,8 @@ returns-in-Exactly c = λ s is most.
     (subst (λ (ps : List Parted). IsProposal t pool s Offers (record { reply = OffersAre cells; parts = ps; copies = [] })) (sym c.of-parts.ensures)
     (offered t pool s current budget c.in-Exactly.parts.items is most trials cells right.0)))
 
-pub returns-in-Spent : goal.returns-in-Spent
-returns-in-Spent c =
+pub returns-in-Spent-clause-proposal : goal.returns-in-Spent-clause-proposal
+returns-in-Spent-clause-proposal c =
     let t = c.args.translation.now in
     let pool = c.args.pool.now in
     let current = c.args.current.now in
