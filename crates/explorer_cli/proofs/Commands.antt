@@ -1,10 +1,12 @@
 -- The command that the words say, its numbers, and the statuses of its answers.
 use Rattle.std.proofs.Common.{◌≡◌, ◌≤◌, ◌⊎◌, inl, inr, ℕ, List, Option, Some, None, subst, arith}
 use Rattle.std.specs.Prelude.{IfSome, IfNone}
+use Rattle.outside_io.specs.declared.status.Status.{Status}
+use Rattle.outside_io.specs.declared.status.Status.TheVariants.{Done, WordsRefused, InputRefused, ModelRefused, SourceFailed, SinkFailed, NoMemory}
 use Rattle.command_words.specs.declared.reading.Command.{Command}
 use Rattle.command_words.specs.declared.reading.Command.TheVariants.{Run, Distinct, Check, Assert, Facts, Load, Crew}
 use Rattle.command_words.specs.Words.{Says, SaysNone, AreOfLoad, AreOptions, IsBudgetAlone}
-use Rattle.explorer_cli.specs.Outcome.{HasNumbersInRange, HasFailed, IsStatusOf, IsStatus}
+use Rattle.explorer_cli.specs.Outcome.{HasNumbersInRange, HasFailed, IsStatusOf}
 
 -- the numbers of the words
 numbers_of_options : (words : List (List ℕ)) (workers budget : ℕ) → AreOptions words workers budget → (1 ≤ workers) × (workers ≤ 16) × (budget ≤ 100000)
@@ -39,31 +41,42 @@ some_said words said command e h = subst (λ (s : Option Command). IfSome s (Say
 pub none_said : (words : List (List ℕ)) (said : Option Command) → said ≡ None → IfNone said (SaysNone words) → SaysNone words
 none_said words said e h = subst (λ (s : Option Command). IfNone s (SaysNone words)) e h
 
--- a command's statuses are such that the program may end with, and none of them is that of refused words
-pub is_status : (command : Command) (n : ℕ) → HasFailed n ⊎ IsStatusOf command n → IsStatus n
-is_status (Run workers budget) n is = grind arith
-is_status (Distinct workers budget) n is = grind arith
-is_status Check n is = grind arith
-is_status (Assert budget) n is = grind arith
-is_status (Facts budget) n is = grind arith
-is_status (Load number workers) n is = grind arith
-is_status (Crew workers budget) n is = grind arith
+-- no answer's status tells that something failed, or that the words are refused
+abbrev IsOther : Status → Type 0
+IsOther status = (status ≡ Done) ⊎ (status ≡ InputRefused) ⊎ (status ≡ ModelRefused)
 
-pub never_two : (command : Command) (n : ℕ) → HasFailed n ⊎ IsStatusOf command n → n ≡ 2 → ⊥
-never_two (Run workers budget) n is two = grind arith
-never_two (Distinct workers budget) n is two = grind arith
-never_two Check n is two = grind arith
-never_two (Assert budget) n is two = grind arith
-never_two (Facts budget) n is two = grind arith
-never_two (Load number workers) n is two = grind arith
-never_two (Crew workers budget) n is two = grind arith
+abbrev IsAnswered : Status → Type 0
+IsAnswered status = (HasFailed status → ⊥) × (status ≡ WordsRefused → ⊥)
 
--- the statuses of answers are low ones
-pub low_status : (command : Command) (n : ℕ) → IsStatusOf command n → n ≤ 4
-low_status (Run workers budget) n is = grind arith
-low_status (Distinct workers budget) n is = grind arith
-low_status Check n is = grind arith
-low_status (Assert budget) n is = grind arith
-low_status (Facts budget) n is = grind arith
-low_status (Load number workers) n is = grind arith
-low_status (Crew workers budget) n is = grind arith
+unlike_failed : (status : Status) → (status ≡ SourceFailed → ⊥) → (status ≡ SinkFailed → ⊥) → (status ≡ NoMemory → ⊥) → HasFailed status → ⊥
+unlike_failed status source sink memory (inl failed) = source failed
+unlike_failed status source sink memory (inr (inl failed)) = sink failed
+unlike_failed status source sink memory (inr (inr failed)) = memory failed
+
+checked : (status : Status) → IsStatusOf Check status → IsAnswered status
+checked status (inl done) = (unlike_failed status (λ e. cc) (λ e. cc) (λ e. cc), λ e. cc)
+checked status (inr (inl done)) = (unlike_failed status (λ e. cc) (λ e. cc) (λ e. cc), λ e. cc)
+checked status (inr (inr done)) = (unlike_failed status (λ e. cc) (λ e. cc) (λ e. cc), λ e. cc)
+
+other : (status : Status) → IsOther status → IsAnswered status
+other status (inl done) = (unlike_failed status (λ e. cc) (λ e. cc) (λ e. cc), λ e. cc)
+other status (inr (inl done)) = (unlike_failed status (λ e. cc) (λ e. cc) (λ e. cc), λ e. cc)
+other status (inr (inr done)) = (unlike_failed status (λ e. cc) (λ e. cc) (λ e. cc), λ e. cc)
+
+answered : (command : Command) (status : Status) → IsStatusOf command status → IsAnswered status
+answered (Run workers budget) status is = other status is
+answered (Distinct workers budget) status is = other status is
+answered Check status is = checked status is
+answered (Assert budget) status is = other status is
+answered (Facts budget) status is = other status is
+answered (Load number workers) status is = other status is
+answered (Crew workers budget) status is = other status is
+
+pub not_failed : (command : Command) (status : Status) → IsStatusOf command status → HasFailed status → ⊥
+not_failed command status is = (answered command status is).0
+
+pub not_refused_words : (command : Command) (status : Status) → HasFailed status ⊎ IsStatusOf command status → status ≡ WordsRefused → ⊥
+not_refused_words command status (inl (inl source)) refused = cc
+not_refused_words command status (inl (inr (inl sink))) refused = cc
+not_refused_words command status (inl (inr (inr memory))) refused = cc
+not_refused_words command status (inr is) refused = (answered command status is).1 refused

@@ -2,6 +2,7 @@
 use Rattle.std.proofs.Common.{ℕ, ◌≤◌, inl, inr, List, take, length, subst, arith}
 use Rattle.std.proofs.lemmas.Bool.{cases_lt}
 use Rattle.std.proofs.lemmas.List.{take_all, length-take-le}
+use Rattle.outside_io.specs.declared.status.Status.{Status}
 use Rattle.script_format.specs.declared.fault.ScriptFault.{ScriptFault}
 use Rattle.script_format.specs.declared.entries.Script.{Script}
 use Rattle.script_format.specs.Script.{HasFault}
@@ -23,7 +24,7 @@ long_fault bytes f more fault =
     ]
 
 -- a shorter front is the whole
-script_whole : (AnswersScript : Script → ℕ → List ℕ → Type 0) (bytes : List ℕ) (status : ℕ) (text : List ℕ)
+script_whole : (AnswersScript : Script → Status → List ℕ → Type 0) (bytes : List ℕ) (status : Status) (text : List ℕ)
     → IsAnswerBy AnswersScript (take 1048577 bytes) status text → IsAnswerBy AnswersScript bytes status text
 script_whole AnswersScript bytes status text answer = elim (cases_lt (length bytes) 1048577) [
   | inl less ↦ subst (λ (xs : List ℕ). IsAnswerBy AnswersScript xs status text) (take_all 1048577 bytes (omega arith)) answer
@@ -36,7 +37,7 @@ script_whole AnswersScript bytes status text answer = elim (cases_lt (length byt
 ]
 
 -- what answers the bytes that a command reads answers all of them
-pub answers_whole : (command : Command) (bytes : List ℕ) (status : ℕ) (text : List ℕ) → IsAnswerTo command (take (limit_of command) bytes) status text → IsAnswerTo command bytes status text
+pub answers_whole : (command : Command) (bytes : List ℕ) (status : Status) (text : List ℕ) → IsAnswerTo command (take (limit_of command) bytes) status text → IsAnswerTo command bytes status text
 answers_whole (Run workers budget) bytes status text answer = script_whole (IsAnswerOfRuns Lists budget) bytes status text answer
 answers_whole (Distinct workers budget) bytes status text answer = script_whole (IsAnswerOfRuns Classes budget) bytes status text answer
 answers_whole Check bytes status text answer = proof_whole bytes status text answer

@@ -1,10 +1,9 @@
 -- The problems of commands under their keys.
-use Rattle.std.proofs.Common.{◌≡◌, ◌≢◌, ◌≤◌, ◌<◌, ◌+◌, ◌*◌, ◌==◌, ◌∙◌, ℕ, Bool, true, false, cond, Option, None, Some, List, [], ◌∷◌, ◌++◌, map, length, take, get_or, All, AllPairs, Contains, inl, inr, sym, ap, subst, arith, length-append, append-nil, append_assoc}
-use Rattle.std.specs.Prelude.{slice_get, nat_lt}
-use Rattle.std.specs.List.{position, position_or_len}
+use Rattle.std.proofs.Common.{◌≡◌, ◌≢◌, ◌≤◌, ◌<◌, ◌+◌, ◌*◌, ◌==◌, ◌∙◌, ℕ, Bool, true, false, Option, Some, List, [], ◌∷◌, ◌++◌, map, length, take, get_or, All, AllPairs, Contains, inl, inr, sym, ap, subst, arith, length-append, append-nil, append_assoc}
+use Rattle.std.specs.Prelude.{slice_get}
+use Rattle.std.specs.List.{position_or_len}
 use Rattle.std.specs.Global.{Vec}
 use Rattle.std.proofs.lemmas.Bool.{cases_lt, eqb-true, eq-eqb}
-use Rattle.std.proofs.lemmas.Bool.Decides.{nat_tests}
 use Rattle.std.proofs.lemmas.Option.{get_or_from_slice_get, slice_get_within}
 use Rattle.std.proofs.lemmas.List.{length-map, get_or-map, map-append, take_more}
 use Rattle.std.proofs.lemmas.Grind.{flat_map-append}
@@ -38,12 +37,6 @@ module _ {X : Type 0} (test : X → Bool) (xs : List X) (c : X) (in' : Contains 
         let both : true ≡ false = sym passes ∙ ap test (sym in'.2) ∙ fails in
         absurd (cc)
   ]
-
-  pub position_is : position test xs ≡ Some (position_or_len test xs)
-  position_is =
-      let l = within in
-      let less : nat_lt (position_or_len test xs) (length xs) ≡ true = grind (arith, nat_tests) in
-      ap (λ (b : Bool). cond b (Some (position_or_len test xs)) None) less
 
 -- ---- lists of problems, as they are made and counted
 
@@ -91,12 +84,6 @@ count_few models i made l item =
 
 -- ---- the key of a session's command
 
-same_place : (m n : ℕ) → Some m ≡ Some n → m ≡ n
-same_place m n e = cc
-
-none_is_some : (n : ℕ) → None ≡ Some n → ⊥
-none_is_some n e = absurd (cc)
-
 module _ (models : List (Vec ServedCommand)) (x : SessionEntry) where
   abbrev is_asked : ServedCommand → Bool
   is_asked d = d.number == x.number
@@ -106,7 +93,6 @@ module _ (models : List (Vec ServedCommand)) (x : SessionEntry) where
     pub inside : x.model < length models
     pub item : get_or models x.model made ≡ made
     pub key : key_of models x.model x.number ≡ length (problems_of (take x.model models)) + place_of x.number made.items
-    pub there : position is_asked made.items ≡ Some (place_of x.number made.items)
     pub within : place_of x.number made.items < length made.items
 
   is_on : (made : Vec ServedCommand) (c : ServedCommand) → slice_get models x.model ≡ Some made → Contains made.items c → c.number ≡ x.number → IsOn made
@@ -116,7 +102,6 @@ module _ (models : List (Vec ServedCommand)) (x : SessionEntry) where
         inside = slice_get_within models x.model made at;
         item = get_or_from_slice_get models x.model made made at;
         key = ap (λ (found : Option (Vec ServedCommand)). length (problems_of (take x.model models)) + place_in x.number found) at;
-        there = position_is is_asked made.items c in' passes;
         within = within is_asked made.items c in' passes;
       }
 
@@ -133,23 +118,11 @@ module _ (models : List (Vec ServedCommand)) (x : SessionEntry) where
   pub key_within : IsServed models x → key_of models x.model x.number < length (problems_of models)
   key_within (p, (made, at, (c, in', number, problem))) = let on = is_on made c at in' number in omega (arith, before_key made on, on.key, on.within)
 
-  -- the place that is found among the commands of the model makes the key
-  pub key_found : (made : Vec ServedCommand) → get_or models x.model made ≡ made → IsServed models x
-      → (position is_asked made.items ≡ Some (place_of x.number made.items)) × (key_of models x.model x.number ≡ length (problems_of (take x.model models)) + place_of x.number made.items)
-  key_found made item (p, (own, at, (c, in', number, problem))) =
+  -- the place among the commands of the model makes the key
+  pub key_is : (made : Vec ServedCommand) → get_or models x.model made ≡ made → IsServed models x → length (problems_of (take x.model models)) + place_of x.number made.items ≡ key_of models x.model x.number
+  key_is made item (p, (own, at, (c, in', number, problem))) =
       let same : own ≡ made = sym (get_or_from_slice_get models x.model own made at) ∙ item in
-      let on = subst IsOn same (is_on own c at in' number) in
-      (on.there, on.key)
-
-  pub key_is : (made : Vec ServedCommand) (before place : ℕ) → get_or models x.model made ≡ made → IsServed models x → before ≡ length (problems_of (take x.model models)) → Some place ≡ position is_asked made.items
-      → before + place ≡ key_of models x.model x.number
-  key_is made before place item on is at =
-      let found = key_found made item on in
-      let same : place ≡ place_of x.number made.items = same_place place (place_of x.number made.items) (at ∙ found.0) in
-      omega (arith, is, same, found.1)
-
-  pub never_missing : (made : Vec ServedCommand) → get_or models x.model made ≡ made → IsServed models x → None ≡ position is_asked made.items → ⊥
-  never_missing made item on at = none_is_some (place_of x.number made.items) (at ∙ (key_found made item on).0)
+      sym (subst IsOn same (is_on own c at in' number)).key
 
   -- the problem under the key is served to the session
   pub problem_there : (p : Bounded) → IsServed models x → slice_get (problems_of models) (key_of models x.model x.number) ≡ Some p → IsServedAt models x p

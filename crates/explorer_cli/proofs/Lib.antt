@@ -7,6 +7,7 @@ pub mod FewCommands
 pub mod FloorsBehind
 pub mod Fronts
 pub mod KeyedProblems
+pub mod Learning
 pub mod OneCrew
 pub mod OneOrder
 pub mod OneOutput

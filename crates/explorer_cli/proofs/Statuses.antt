@@ -1,5 +1,7 @@
 -- Which status and text the answers to bytes have.
 use Rattle.std.proofs.Common.{◌≡◌, ◌⊎◌, ℕ, List, ap, subst, ◌∙◌, inl, inr}
+use Rattle.outside_io.specs.declared.status.Status.{Status}
+use Rattle.outside_io.specs.declared.status.Status.TheVariants.{Done, InputRefused, ModelRefused}
 use Rattle.script_format.specs.declared.entries.Script.{Script}
 use Rattle.script_format.specs.declared.entries.ModelEntry.{ModelEntry}
 use Rattle.script_format.specs.declared.entries.SessionEntry.{SessionEntry}
@@ -24,32 +26,32 @@ abbrev pub NotBoth : Type 0
 NotBoth = (purpose : Purpose) (sessions : List SessionEntry) (entries : List ModelEntry) (ms : List NamedTree) (name words : List ℕ) → AreUsable purpose sessions 0 entries ms → IsFirstRefused purpose sessions entries name words → ⊥
 
 -- a script is answered with its first model that can't be used for this, or with what is told of it on its models
-abbrev pub IsToldOn : Purpose → (Script → List NamedTree → List ℕ → Type 0) → Script → ℕ → List ℕ → Type 0
+abbrev pub IsToldOn : Purpose → (Script → List NamedTree → List ℕ → Type 0) → Script → Status → List ℕ → Type 0
 IsToldOn purpose IsTold s status text =
-    IsModelAnswer (IsFirstRefused purpose s.sessions s.models) status text ⊎ ((status ≡ 0) × ((models : List NamedTree) × AreUsable purpose s.sessions 0 s.models models × IsTold s models text))
+    IsModelAnswer (IsFirstRefused purpose s.sessions s.models) status text ⊎ ((status ≡ Done) × ((models : List NamedTree) × AreUsable purpose s.sessions 0 s.models models × IsTold s models text))
 
 module _ (one_list : OneList) (one_first_refused : OneFirstRefused) (not_both : NotBoth) (purpose : Purpose) (IsTold : Script → List NamedTree → List ℕ → Type 0) where
-  model_of : (s : Script) (name words : List ℕ) (status : ℕ) (text : List ℕ) → IsFirstRefused purpose s.sessions s.models name words → IsToldOn purpose IsTold s status text
-      → (status ≡ 4) × (text ≡ model_line name words)
+  model_of : (s : Script) (name words : List ℕ) (status : Status) (text : List ℕ) → IsFirstRefused purpose s.sessions s.models name words → IsToldOn purpose IsTold s status text
+      → (status ≡ ModelRefused) × (text ≡ model_line name words)
   model_of s name words status text first (inl model) =
       let same = one_first_refused purpose s.sessions s.models model.1.0 model.1.1 name words model.1.2 first in
       (model.0, model.1.3 ∙ ap (λ (n : List ℕ). model_line n model.1.1) same.0 ∙ ap (model_line name) same.1)
   model_of s name words status text first (inr told) = absurd (not_both purpose s.sessions s.models told.1.0 name words told.1.1 first)
 
-  told_of : (s : Script) (models : List NamedTree) (status : ℕ) (text : List ℕ) → AreUsable purpose s.sessions 0 s.models models → IsToldOn purpose IsTold s status text → (status ≡ 0) × IsTold s models text
+  told_of : (s : Script) (models : List NamedTree) (status : Status) (text : List ℕ) → AreUsable purpose s.sessions 0 s.models models → IsToldOn purpose IsTold s status text → (status ≡ Done) × IsTold s models text
   told_of s models status text are (inl model) = absurd (not_both purpose s.sessions s.models models model.1.0 model.1.1 are model.1.2)
   told_of s models status text are (inr told) =
       (told.0, subst (λ (ms : List NamedTree). IsTold s ms text) (one_list purpose s.sessions s.models told.1.0 models told.1.1 are) told.1.2)
 
-  pub fault_answer : (bytes : List ℕ) (f : ScriptFault) (status : ℕ) (text : List ℕ) → HasFault bytes f → IsAnswerBy (IsToldOn purpose IsTold) bytes status text → (status ≡ 3) × (text ≡ script_line (fault_words f))
+  pub fault_answer : (bytes : List ℕ) (f : ScriptFault) (status : Status) (text : List ℕ) → HasFault bytes f → IsAnswerBy (IsToldOn purpose IsTold) bytes status text → (status ≡ InputRefused) × (text ≡ script_line (fault_words f))
   fault_answer bytes f status text has answer = fault_by (IsToldOn purpose IsTold) bytes f status text has answer
 
-  pub model_answer : (bytes : List ℕ) (s : Script) (name words : List ℕ) (status : ℕ) (text : List ℕ) → IsScript bytes s → IsFirstRefused purpose s.sessions s.models name words
-      → IsAnswerBy (IsToldOn purpose IsTold) bytes status text → (status ≡ 4) × (text ≡ model_line name words)
+  pub model_answer : (bytes : List ℕ) (s : Script) (name words : List ℕ) (status : Status) (text : List ℕ) → IsScript bytes s → IsFirstRefused purpose s.sessions s.models name words
+      → IsAnswerBy (IsToldOn purpose IsTold) bytes status text → (status ≡ ModelRefused) × (text ≡ model_line name words)
   model_answer bytes s name words status text is first answer = model_of s name words status text first (to_script (IsToldOn purpose IsTold) bytes s status text is answer)
 
-  pub told_answer : (bytes : List ℕ) (s : Script) (models : List NamedTree) (status : ℕ) (text : List ℕ) → IsScript bytes s → AreUsable purpose s.sessions 0 s.models models
-      → IsAnswerBy (IsToldOn purpose IsTold) bytes status text → (status ≡ 0) × IsTold s models text
+  pub told_answer : (bytes : List ℕ) (s : Script) (models : List NamedTree) (status : Status) (text : List ℕ) → IsScript bytes s → AreUsable purpose s.sessions 0 s.models models
+      → IsAnswerBy (IsToldOn purpose IsTold) bytes status text → (status ≡ Done) × IsTold s models text
   told_answer bytes s models status text is are answer = told_of s models status text are (to_script (IsToldOn purpose IsTold) bytes s status text is answer)
 
 -- bytes that are one script say one list of models that can be used

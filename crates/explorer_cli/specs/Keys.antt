@@ -7,6 +7,7 @@ use Rattle.session_rules.specs.declared.script.SessionScript.{SessionScript}
 use Rattle.proof_command.specs.declared.answer.Answer.{Answer}
 use Rattle.script_format.specs.declared.entries.Script.{Script}
 use Rattle.script_format.specs.declared.entries.SessionEntry.{SessionEntry}
+use Rattle.script_format.specs.Reading.{most_commands, most_asked}
 use Rattle.script_format.specs.Script.{IsScript}
 use Rattle.script_format.specs.Limits.{IsAllowed, asked_by, asked_in}
 use Rattle.served_models.specs.declared.commands.ServedCommand.{ServedCommand}
@@ -53,7 +54,7 @@ pub record WereServed (models : List (Vec ServedCommand)) (budget : ℕ) (sessio
 pub record CanBeServed (models : List (Vec ServedCommand)) (x : SessionEntry) : Type 0 where
   pub on : IsServed models x
   pub allowed : All IsAllowed x.commands
-  pub asked : asked_by x.commands ≤ 20000
+  pub asked : asked_by x.commands ≤ most_asked
   pub few : length x.commands < 2 ^ 32
 
 -- the script keeps to the limits
@@ -63,8 +64,8 @@ pub record KeepsToLimits (s : Script) : Type 0 where
   pub named : All (λ x. x.model < length s.models) s.sessions
   pub small : All (λ m. length m.text ≤ 1048576) s.models
   pub allowed : All (λ x. All IsAllowed x.commands) s.sessions
-  pub asked : asked_in s.sessions ≤ 20000
-  pub commands : All (λ x. length x.commands ≤ 4096) s.sessions
+  pub asked : asked_in s.sessions ≤ most_asked
+  pub commands : All (λ x. length x.commands ≤ most_commands) s.sessions
 
 -- ---- what is read
 

@@ -1,6 +1,7 @@
 pub mod Outcome
 pub mod Runs
 pub mod Load
+pub mod Learnt
 pub mod Tallies
 pub mod Keys
 pub mod Classes

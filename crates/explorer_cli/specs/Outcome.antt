@@ -1,8 +1,11 @@
 -- What the program answers: its words, its texts and its statuses.
 use Rattle.std.specs.Prelude.{◌≡◌, ◌≤◌, ◌⊎◌, ℕ, List, codes}
+use Rattle.outside_io.specs.declared.status.Status.{Status}
+use Rattle.outside_io.specs.declared.status.Status.TheVariants.{Done, NotAccepted, InputRefused, ModelRefused, SourceFailed, SinkFailed, NoMemory}
 use Rattle.command_words.specs.declared.reading.Command.{Command}
 use Rattle.alloy_syntax.specs.declared.tree.CommandKind.TheVariants as kind
 use Rattle.command_words.specs.declared.reading.Command.TheVariants.{Run, Distinct, Check, Assert, Facts, Load, Crew}
+use Rattle.command_words.specs.Words.{default_budget}
 use Rattle.proof_command.specs.Answer as check
 use Rattle.script_format.specs.declared.entries.Script.{Script}
 use Rattle.script_format.specs.declared.entries.SessionEntry.{SessionEntry}
@@ -56,7 +59,7 @@ Writes (Distinct workers budget) s text = WritesRuns Classes budget s text
 Writes Check s text = ⊥
 Writes (Assert budget) s text = AreAssertionsOf budget s.models text
 Writes (Facts budget) s text = AreFactSetsOf budget s.models text
-Writes (Load number workers) s text = WritesSummary 20000 s text
+Writes (Load number workers) s text = WritesSummary default_budget s text
 Writes (Crew workers budget) s text = WritesCrews workers budget s text
 
 -- the first model of a script that a command can't use has this name, and these words tell why: `run`, `distinct`, `load` and
@@ -70,25 +73,26 @@ IsFirstUnusable (Facts budget) s name words = IsFirstRefusedFor kind.Run s.model
 IsFirstUnusable (Load number workers) s name words = IsFirstRefused Lists s.sessions s.models name words
 IsFirstUnusable (Crew workers budget) s name words = IsFirstRefused Lists s.sessions s.models name words
 
--- the bytes are no script, and under 3 the text is the line that tells their fault
-abbrev pub IsFaultAnswer : List ℕ → ℕ → List ℕ → Type 0
-IsFaultAnswer bytes status text = (f : ScriptFault) × HasFault bytes f × (status ≡ 3) × (text ≡ script_line (fault_words f))
+-- the bytes are no script: the input is refused, and the text is the line that tells their fault
+abbrev pub IsFaultAnswer : List ℕ → Status → List ℕ → Type 0
+IsFaultAnswer bytes status text = (f : ScriptFault) × HasFault bytes f × (status ≡ InputRefused) × (text ≡ script_line (fault_words f))
 
--- a model can't be used, and under 4 the text is the line that refuses the first of these, which this says
-abbrev pub IsModelAnswer : (List ℕ → List ℕ → Type 0) → ℕ → List ℕ → Type 0
-IsModelAnswer IsFirst status text = (status ≡ 4) × ((name : List ℕ) × (words : List ℕ) × IsFirst name words × (text ≡ model_line name words))
+-- a model can't be used: it is refused, and the text is the line that refuses the first of these, which this says
+abbrev pub IsModelAnswer : (List ℕ → List ℕ → Type 0) → Status → List ℕ → Type 0
+IsModelAnswer IsFirst status text = (status ≡ ModelRefused) × ((name : List ℕ) × (words : List ℕ) × IsFirst name words × (text ≡ model_line name words))
 
--- a status and a text answer a script: its first model that can't be used is told, or under 0 stands what the command writes
-abbrev pub IsAnswerToScript : Command → Script → ℕ → List ℕ → Type 0
-IsAnswerToScript command s status text = IsModelAnswer (IsFirstUnusable command s) status text ⊎ ((status ≡ 0) × Writes command s text)
+-- a status and a text answer a script: its first model that can't be used is told, or all is done, and the text is what the command
+-- writes
+abbrev pub IsAnswerToScript : Command → Script → Status → List ℕ → Type 0
+IsAnswerToScript command s status text = IsModelAnswer (IsFirstUnusable command s) status text ⊎ ((status ≡ Done) × Writes command s text)
 
 -- a status and a text answer bytes that are read as a script
-abbrev pub IsAnswerToText : Command → List ℕ → ℕ → List ℕ → Type 0
+abbrev pub IsAnswerToText : Command → List ℕ → Status → List ℕ → Type 0
 IsAnswerToText command bytes status text = IsFaultAnswer bytes status text ⊎ ((s : Script) × IsScript bytes s × IsAnswerToScript command s status text)
 
 -- a status and a text answer the bytes of the input: `check` reads a proof text, the others a script; but `load` makes its script,
 -- whatever the input is
-abbrev pub IsAnswerTo : Command → List ℕ → ℕ → List ℕ → Type 0
+abbrev pub IsAnswerTo : Command → List ℕ → Status → List ℕ → Type 0
 IsAnswerTo Check bytes status text = check.IsAnswerTo bytes status text
 IsAnswerTo (Load number workers) bytes status text = IsAnswerToText (Load number workers) (generated number) status text
 IsAnswerTo command bytes status text = IsAnswerToText command bytes status text
@@ -102,18 +106,13 @@ limit_of command = 1048577
 -- ---- statuses
 
 -- the source failed, the sink failed, or memory was wanting
-abbrev pub HasFailed : ℕ → Type 0
-HasFailed n = (n ≡ 5) ⊎ (n ≡ 6) ⊎ (n ≡ 7)
+abbrev pub HasFailed : Status → Type 0
+HasFailed status = (status ≡ SourceFailed) ⊎ (status ≡ SinkFailed) ⊎ (status ≡ NoMemory)
 
 -- the statuses of a command's answers: of `check` accepted, not accepted, no proof text; of the others done, no script, a refused model
-abbrev pub IsStatusOf : Command → ℕ → Type 0
-IsStatusOf Check n = (n ≡ 0) ⊎ (n ≡ 1) ⊎ (n ≡ 3)
-IsStatusOf command n = (n ≡ 0) ⊎ (n ≡ 3) ⊎ (n ≡ 4)
-
--- done, a proof that isn't accepted, refused words, a refused script or proof text, a refused model, a source that failed,
--- a sink that failed, want of memory
-abbrev pub IsStatus : ℕ → Type 0
-IsStatus n = (n ≡ 0) ⊎ (n ≡ 1) ⊎ (n ≡ 2) ⊎ (n ≡ 3) ⊎ (n ≡ 4) ⊎ (n ≡ 5) ⊎ (n ≡ 6) ⊎ (n ≡ 7)
+abbrev pub IsStatusOf : Command → Status → Type 0
+IsStatusOf Check status = (status ≡ Done) ⊎ (status ≡ NotAccepted) ⊎ (status ≡ InputRefused)
+IsStatusOf command status = (status ≡ Done) ⊎ (status ≡ InputRefused) ⊎ (status ≡ ModelRefused)
 
 -- ---- what the code requires
 
@@ -130,9 +129,9 @@ HasNumbersInRange (Crew workers budget) = (1 ≤ workers) × (workers ≤ 16) ×
 -- ---- what is answered where sessions are run
 
 -- a status and a text answer a script
-abbrev pub IsAnswerOfRuns : Purpose → ℕ → Script → ℕ → List ℕ → Type 0
-IsAnswerOfRuns purpose budget s status text = IsModelAnswer (IsFirstRefused purpose s.sessions s.models) status text ⊎ ((status ≡ 0) × WritesRuns purpose budget s text)
+abbrev pub IsAnswerOfRuns : Purpose → ℕ → Script → Status → List ℕ → Type 0
+IsAnswerOfRuns purpose budget s status text = IsModelAnswer (IsFirstRefused purpose s.sessions s.models) status text ⊎ ((status ≡ Done) × WritesRuns purpose budget s text)
 
 -- they answer the bytes of the input
-abbrev pub IsRunsAnswer : Purpose → ℕ → List ℕ → ℕ → List ℕ → Type 0
+abbrev pub IsRunsAnswer : Purpose → ℕ → List ℕ → Status → List ℕ → Type 0
 IsRunsAnswer purpose budget bytes status text = IsFaultAnswer bytes status text ⊎ ((s : Script) × IsScript bytes s × IsAnswerOfRuns purpose budget s status text)

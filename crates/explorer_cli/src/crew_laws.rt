@@ -9,6 +9,8 @@ ghost use Rattle.script_format.specs.declared.entries.ModelEntry.{ModelEntry as 
 ghost use Rattle.script_format.specs.declared.entries.Script.{Script as ScriptData};
 ghost use Rattle.script_format.specs.declared.entries.SessionEntry.{SessionEntry as SessionData};
 ghost use Rattle.script_format.specs.declared.fault.ScriptFault.{ScriptFault as ScriptFaultData};
+ghost use Rattle.outside_io.specs.declared.status.Status.{Status};
+ghost use Rattle.outside_io.specs.declared.status.Status.TheVariants.{Done, InputRefused, ModelRefused};
 ghost use Rattle.script_format.specs.Script.{IsScript, HasFault};
 ghost use Rattle.script_text.specs.Faults.{script_line, fault_words};
 ghost use Rattle.script_text.specs.Printed.{listed};
@@ -29,12 +31,12 @@ use served_models::laws::models_are_used_one_way;
 /// a script under 4 with its first model that can't be used, or, where all its models can be, under 0 with what crews find of the
 /// commands on which its sessions are.
 pub fn each_crew_has_its_cause()
-    ensures fault { (workers budget : ℕ) (bytes : List ℕ) (f : ScriptFaultData) (status : ℕ) (text : List ℕ)
-        → HasFault bytes f → IsAnswerTo (Crew workers budget) bytes status text → (status ≡ 3) × (text ≡ script_line (fault_words f)) }
-    ensures model { (workers budget : ℕ) (bytes : List ℕ) (s : ScriptData) (name words : List ℕ) (status : ℕ) (text : List ℕ)
-        → IsScript bytes s → IsFirstRefused Lists s.sessions s.models name words → IsAnswerTo (Crew workers budget) bytes status text → (status ≡ 4) × (text ≡ model_line name words) }
-    ensures crew { (workers budget : ℕ) (bytes : List ℕ) (s : ScriptData) (models : List NamedTree) (status : ℕ) (text : List ℕ)
-        → IsScript bytes s → AreUsable Lists s.sessions 0 s.models models → IsAnswerTo (Crew workers budget) bytes status text → (status ≡ 0) × AreCrewTexts workers budget s.sessions s.models models text }
+    ensures fault { (workers budget : ℕ) (bytes : List ℕ) (f : ScriptFaultData) (status : Status) (text : List ℕ)
+        → HasFault bytes f → IsAnswerTo (Crew workers budget) bytes status text → (status ≡ InputRefused) × (text ≡ script_line (fault_words f)) }
+    ensures model { (workers budget : ℕ) (bytes : List ℕ) (s : ScriptData) (name words : List ℕ) (status : Status) (text : List ℕ)
+        → IsScript bytes s → IsFirstRefused Lists s.sessions s.models name words → IsAnswerTo (Crew workers budget) bytes status text → (status ≡ ModelRefused) × (text ≡ model_line name words) }
+    ensures crew { (workers budget : ℕ) (bytes : List ℕ) (s : ScriptData) (models : List NamedTree) (status : Status) (text : List ℕ)
+        → IsScript bytes s → AreUsable Lists s.sessions 0 s.models models → IsAnswerTo (Crew workers budget) bytes status text → (status ≡ Done) × AreCrewTexts workers budget s.sessions s.models models text }
 {
     models_are_used_one_way();
 }

@@ -1,8 +1,7 @@
 // The keys under which the problems of commands are served.
-ghost use Rattle.std.specs.Prelude.{◌≡◌, ◌<◌, ◌++◌, ◌^◌, ◌==◌, length, IfOk};
-ghost use Rattle.std.specs.List.{position};
+ghost use Rattle.std.specs.Prelude.{◌≡◌, ◌<◌, ◌++◌, ◌^◌, length, IfOk};
 ghost use Rattle.explorer_cli.specs.Runs.{IsServed};
-ghost use Rattle.explorer_cli.specs.Keys.{key_of, problems_in, problems_of};
+ghost use Rattle.explorer_cli.specs.Keys.{key_of, place_of, problems_in, problems_of};
 
 use rel_formula::Problem;
 use script_format::SessionEntry;
@@ -18,10 +17,7 @@ pub fn key_of(models: &[Vec<ServedCommand>], session: &SessionEntry) -> u32
 {
     let model = session.model as usize;
     let before = commands_in(&models[..model]);
-    match place_of(&models[model], session.number) {
-        Some(place) => (before + place) as u32,
-        None => unreachable!(),
-    }
+    (before + place_of(&models[model], session.number)) as u32
 }
 
 // How many commands the models have.
@@ -36,11 +32,14 @@ fn commands_in(models: &[Vec<ServedCommand>]) -> usize
     count
 }
 
-// Of a model's commands that are served, the place of the one of this number.
-fn place_of(commands: &[ServedCommand], number: u32) -> Option<usize>
-    ensures { result ≡ position (λ c. c.number == number) commands.now }
+// Of a model's commands that are served, the place of the one of this number: so many come before it.
+fn place_of(commands: &[ServedCommand], number: u32) -> usize
+    ensures { result ≡ place_of number commands.now }
 {
-    commands.iter().position(|command| command.number == number)
+    commands
+        .iter()
+        .take_while(|command| command.number != number)
+        .count()
 }
 
 /// The problems of the models' commands, by key.

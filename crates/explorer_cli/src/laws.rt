@@ -31,6 +31,8 @@ ghost use Rattle.hub_turns.specs.Interleaved.{IsInterleaving};
 ghost use Rattle.script_format.specs.declared.entries.Script.{Script as ScriptData};
 ghost use Rattle.script_format.specs.declared.entries.SessionEntry.{SessionEntry as SessionData};
 ghost use Rattle.script_format.specs.declared.fault.ScriptFault.{ScriptFault as ScriptFaultData};
+ghost use Rattle.outside_io.specs.declared.status.Status.{Status};
+ghost use Rattle.outside_io.specs.declared.status.Status.TheVariants.{Done, InputRefused, ModelRefused};
 ghost use Rattle.script_format.specs.Script.{IsScript, HasFault};
 ghost use Rattle.script_text.specs.Faults.{script_line, fault_words};
 ghost use Rattle.script_text.specs.Printable.{IsWritable};
@@ -68,12 +70,12 @@ use swap_symmetry::laws::each_minimal_has_a_due_renaming_beside;
 /// script under 4 with its first model that can't be used, or, where all its models can be, under 0 with runs of its sessions
 /// on these.
 pub fn each_answer_has_its_cause()
-    ensures fault { (workers budget : ℕ) (bytes : List ℕ) (f : ScriptFaultData) (status : ℕ) (text : List ℕ)
-        → HasFault bytes f → IsAnswerTo (Run workers budget) bytes status text → (status ≡ 3) × (text ≡ script_line (fault_words f)) }
-    ensures model { (workers budget : ℕ) (bytes : List ℕ) (s : ScriptData) (name words : List ℕ) (status : ℕ) (text : List ℕ)
-        → IsScript bytes s → IsFirstRefused Lists s.sessions s.models name words → IsAnswerTo (Run workers budget) bytes status text → (status ≡ 4) × (text ≡ model_line name words) }
-    ensures run { (workers budget : ℕ) (bytes : List ℕ) (s : ScriptData) (models : List NamedTree) (status : ℕ) (text : List ℕ)
-        → IsScript bytes s → AreUsable Lists s.sessions 0 s.models models → IsAnswerTo (Run workers budget) bytes status text → (status ≡ 0) × AreRunsOf budget s.sessions models text }
+    ensures fault { (workers budget : ℕ) (bytes : List ℕ) (f : ScriptFaultData) (status : Status) (text : List ℕ)
+        → HasFault bytes f → IsAnswerTo (Run workers budget) bytes status text → (status ≡ InputRefused) × (text ≡ script_line (fault_words f)) }
+    ensures model { (workers budget : ℕ) (bytes : List ℕ) (s : ScriptData) (name words : List ℕ) (status : Status) (text : List ℕ)
+        → IsScript bytes s → IsFirstRefused Lists s.sessions s.models name words → IsAnswerTo (Run workers budget) bytes status text → (status ≡ ModelRefused) × (text ≡ model_line name words) }
+    ensures run { (workers budget : ℕ) (bytes : List ℕ) (s : ScriptData) (models : List NamedTree) (status : Status) (text : List ℕ)
+        → IsScript bytes s → AreUsable Lists s.sessions 0 s.models models → IsAnswerTo (Run workers budget) bytes status text → (status ≡ Done) × AreRunsOf budget s.sessions models text }
 {
     models_are_used_one_way();
 }
@@ -82,18 +84,18 @@ pub fn each_answer_has_its_cause()
 /// `facts` a `run`, that can't be run; and where it has none, under 0 with the decisions on its `check` commands, or with what is
 /// known of its facts under its `run` commands.
 pub fn each_report_has_its_cause()
-    ensures fault { (budget : ℕ) (bytes : List ℕ) (f : ScriptFaultData) (status : ℕ) (text : List ℕ)
-        → HasFault bytes f → IsAnswerTo (Assert budget) bytes status text → (status ≡ 3) × (text ≡ script_line (fault_words f)) }
-    ensures model { (budget : ℕ) (bytes : List ℕ) (s : ScriptData) (name words : List ℕ) (status : ℕ) (text : List ℕ)
-        → IsScript bytes s → IsFirstRefusedFor kind.Check s.models name words → IsAnswerTo (Assert budget) bytes status text → (status ≡ 4) × (text ≡ model_line name words) }
-    ensures told { (budget : ℕ) (bytes : List ℕ) (s : ScriptData) (status : ℕ) (text : List ℕ)
-        → IsScript bytes s → ((name words : List ℕ) → ¬ IsFirstRefusedFor kind.Check s.models name words) → IsAnswerTo (Assert budget) bytes status text → (status ≡ 0) × AreAssertionsOf budget s.models text }
-    ensures facts_fault { (budget : ℕ) (bytes : List ℕ) (f : ScriptFaultData) (status : ℕ) (text : List ℕ)
-        → HasFault bytes f → IsAnswerTo (Facts budget) bytes status text → (status ≡ 3) × (text ≡ script_line (fault_words f)) }
-    ensures facts_model { (budget : ℕ) (bytes : List ℕ) (s : ScriptData) (name words : List ℕ) (status : ℕ) (text : List ℕ)
-        → IsScript bytes s → IsFirstRefusedFor kind.Run s.models name words → IsAnswerTo (Facts budget) bytes status text → (status ≡ 4) × (text ≡ model_line name words) }
-    ensures facts_told { (budget : ℕ) (bytes : List ℕ) (s : ScriptData) (status : ℕ) (text : List ℕ)
-        → IsScript bytes s → ((name words : List ℕ) → ¬ IsFirstRefusedFor kind.Run s.models name words) → IsAnswerTo (Facts budget) bytes status text → (status ≡ 0) × AreFactSetsOf budget s.models text }
+    ensures fault { (budget : ℕ) (bytes : List ℕ) (f : ScriptFaultData) (status : Status) (text : List ℕ)
+        → HasFault bytes f → IsAnswerTo (Assert budget) bytes status text → (status ≡ InputRefused) × (text ≡ script_line (fault_words f)) }
+    ensures model { (budget : ℕ) (bytes : List ℕ) (s : ScriptData) (name words : List ℕ) (status : Status) (text : List ℕ)
+        → IsScript bytes s → IsFirstRefusedFor kind.Check s.models name words → IsAnswerTo (Assert budget) bytes status text → (status ≡ ModelRefused) × (text ≡ model_line name words) }
+    ensures told { (budget : ℕ) (bytes : List ℕ) (s : ScriptData) (status : Status) (text : List ℕ)
+        → IsScript bytes s → ((name words : List ℕ) → ¬ IsFirstRefusedFor kind.Check s.models name words) → IsAnswerTo (Assert budget) bytes status text → (status ≡ Done) × AreAssertionsOf budget s.models text }
+    ensures facts_fault { (budget : ℕ) (bytes : List ℕ) (f : ScriptFaultData) (status : Status) (text : List ℕ)
+        → HasFault bytes f → IsAnswerTo (Facts budget) bytes status text → (status ≡ InputRefused) × (text ≡ script_line (fault_words f)) }
+    ensures facts_model { (budget : ℕ) (bytes : List ℕ) (s : ScriptData) (name words : List ℕ) (status : Status) (text : List ℕ)
+        → IsScript bytes s → IsFirstRefusedFor kind.Run s.models name words → IsAnswerTo (Facts budget) bytes status text → (status ≡ ModelRefused) × (text ≡ model_line name words) }
+    ensures facts_told { (budget : ℕ) (bytes : List ℕ) (s : ScriptData) (status : Status) (text : List ℕ)
+        → IsScript bytes s → ((name words : List ℕ) → ¬ IsFirstRefusedFor kind.Run s.models name words) → IsAnswerTo (Facts budget) bytes status text → (status ≡ Done) × AreFactSetsOf budget s.models text }
 {
     reports_are_one_way();
 }
@@ -285,12 +287,12 @@ pub fn one_of_each_class_is_told()
 /// fault; a script under 4 with its first model that can't be used for classes, or, where all its models can be, under 0 with runs
 /// of its sessions on these, told by classes.
 pub fn each_answer_of_classes_has_its_cause()
-    ensures fault { (workers budget : ℕ) (bytes : List ℕ) (f : ScriptFaultData) (status : ℕ) (text : List ℕ)
-        → HasFault bytes f → IsAnswerTo (Distinct workers budget) bytes status text → (status ≡ 3) × (text ≡ script_line (fault_words f)) }
-    ensures model { (workers budget : ℕ) (bytes : List ℕ) (s : ScriptData) (name words : List ℕ) (status : ℕ) (text : List ℕ)
-        → IsScript bytes s → IsFirstRefused Classes s.sessions s.models name words → IsAnswerTo (Distinct workers budget) bytes status text → (status ≡ 4) × (text ≡ model_line name words) }
-    ensures run { (workers budget : ℕ) (bytes : List ℕ) (s : ScriptData) (models : List NamedTree) (status : ℕ) (text : List ℕ)
-        → IsScript bytes s → AreUsable Classes s.sessions 0 s.models models → IsAnswerTo (Distinct workers budget) bytes status text → (status ≡ 0) × AreClassedRunsOf budget s.sessions models text }
+    ensures fault { (workers budget : ℕ) (bytes : List ℕ) (f : ScriptFaultData) (status : Status) (text : List ℕ)
+        → HasFault bytes f → IsAnswerTo (Distinct workers budget) bytes status text → (status ≡ InputRefused) × (text ≡ script_line (fault_words f)) }
+    ensures model { (workers budget : ℕ) (bytes : List ℕ) (s : ScriptData) (name words : List ℕ) (status : Status) (text : List ℕ)
+        → IsScript bytes s → IsFirstRefused Classes s.sessions s.models name words → IsAnswerTo (Distinct workers budget) bytes status text → (status ≡ ModelRefused) × (text ≡ model_line name words) }
+    ensures run { (workers budget : ℕ) (bytes : List ℕ) (s : ScriptData) (models : List NamedTree) (status : Status) (text : List ℕ)
+        → IsScript bytes s → AreUsable Classes s.sessions 0 s.models models → IsAnswerTo (Distinct workers budget) bytes status text → (status ≡ Done) × AreClassedRunsOf budget s.sessions models text }
 {
     models_are_used_one_way();
 }

@@ -21,4 +21,4 @@ mod top_call;
 pub mod worker_laws;
 
 pub use crate::top_call::explore;
-pub use explorer_run::{Gate, OpenGate};
+pub use explorer_run::{Gate, OpenGate, StepCount};

@@ -1,20 +1,24 @@
 // What `load` answers.
-ghost use Rattle.std.specs.Prelude.{◌≡◌, ◌≤◌, ◌<◌, ◌⊎◌, ◌^◌, ℕ, List, IfOk};
+ghost use Rattle.std.specs.Prelude.{◌≡◌, ◌≤◌, ◌<◌, ◌+◌, ◌⊎◌, ◌^◌, ℕ, List, IfOk};
 ghost use Rattle.command_words.specs.declared.reading.Command.TheVariants.{Load};
+ghost use Rattle.command_words.specs.Words.{default_budget};
 ghost use Rattle.script_format.specs.Generated.{generated};
 ghost use Rattle.rel_formula.specs.Bounds.{Bounded};
 ghost use Rattle.explorer_run.specs.Served.{AreServed};
 ghost use Rattle.explorer_cli.specs.Keys.{KeepsToLimits};
 ghost use Rattle.explorer_cli.specs.Tallies.{scenarios_in, ends_in, sum_in, summary_in, HasLines};
+ghost use Rattle.explorer_cli.specs.Learnt.{allowed_of, KeepsToBudget};
 ghost use Rattle.explorer_cli.specs.Outcome.{IsAnswerToText, IsAnswerToScript};
 
 use crate::scripts::script_of;
 use crate::sessions::{Ran, run_sessions, text_of_sessions};
 use crate::tallies::tally_of;
 use command_words::DEFAULT_BUDGET;
-use explorer_run::Gate;
+use explorer_run::{Gate, StepCount};
 use hub_turns::journal_laws::{a_told_session_is_backed, what_was_published_stands};
+use lowering_rules::LowerStop;
 use lowering_rules::laws::problems_are_symmetric;
+use outside_io::Status;
 use proof_command::Answer;
 use script_format::{Script, generate};
 use script_text::push_number_line;
@@ -30,14 +34,16 @@ pub fn answer_of_load<R: Threads + Wait + Sync, G: Gate + Sync>(
     gate: &G,
     number: u32,
     workers: u32,
-) -> Result<Answer, AllocError>
+    count: &mut StepCount,
+) -> Result<Answer, LowerStop>
     requires number { (1 ≤ number) × (number ≤ 16) }
     requires workers { (1 ≤ workers) × (workers ≤ 16) }
     ensures answer { IfOk result (λ a. IsAnswerToText (Load number workers) (generated number) a.status a.text.items) }
-    ensures status { IfOk result (λ a. (a.status ≡ 0) ⊎ (a.status ≡ 3) ⊎ (a.status ≡ 4)) }
+    ensures status { IfOk result (λ a. (a.status ≡ Status.Done) ⊎ (a.status ≡ Status.InputRefused) ⊎ (a.status ≡ Status.ModelRefused)) }
+    ensures learnt { KeepsToBudget default_budget (generated number) count.old count.new }
 {
     let bytes = generate(alloc, number)?;
-    Ok(answer_made(rt, alloc, gate, workers, &bytes)?)
+    Ok(answer_made(rt, alloc, gate, workers, &bytes, count)?)
 }
 
 // The answer to bytes that were made.
@@ -47,13 +53,15 @@ fn answer_made<R: Threads + Wait + Sync, G: Gate + Sync>(
     gate: &G,
     workers: u32,
     bytes: &[u8],
-) -> Result<Answer, AllocError>
+    count: &mut StepCount,
+) -> Result<Answer, LowerStop>
     requires { (1 ≤ workers) × (workers ≤ 16) }
     ensures answer { IfOk result (λ a. (number : ℕ) → IsAnswerToText (Load number workers) bytes.now a.status a.text.items) }
-    ensures status { IfOk result (λ a. (a.status ≡ 0) ⊎ (a.status ≡ 3) ⊎ (a.status ≡ 4)) }
+    ensures status { IfOk result (λ a. (a.status ≡ Status.Done) ⊎ (a.status ≡ Status.InputRefused) ⊎ (a.status ≡ Status.ModelRefused)) }
+    ensures learnt { KeepsToBudget default_budget bytes.now count.old count.new }
 {
     match script_of(alloc, bytes)? {
-        Ok(script) => Ok(answer_script(rt, alloc, gate, workers, &script)?),
+        Ok(script) => Ok(answer_script(rt, alloc, gate, workers, &script, count)?),
         Err(answer) => Ok(answer),
     }
 }
@@ -65,11 +73,13 @@ fn answer_script<R: Threads + Wait + Sync, G: Gate + Sync>(
     gate: &G,
     workers: u32,
     script: &Script,
-) -> Result<Answer, AllocError>
+    count: &mut StepCount,
+) -> Result<Answer, LowerStop>
     requires workers { (1 ≤ workers) × (workers ≤ 16) }
     requires limits { KeepsToLimits script.now }
     ensures answer { IfOk result (λ a. (number : ℕ) → IsAnswerToScript (Load number workers) script.now a.status a.text.items) }
-    ensures status { IfOk result (λ a. (a.status ≡ 0) ⊎ (a.status ≡ 3) ⊎ (a.status ≡ 4)) }
+    ensures status { IfOk result (λ a. (a.status ≡ Status.Done) ⊎ (a.status ≡ Status.InputRefused) ⊎ (a.status ≡ Status.ModelRefused)) }
+    ensures learnt { count.new ≤ count.old + allowed_of default_budget script.now.sessions }
 {
     a_told_session_is_backed();
     problems_are_symmetric();
@@ -77,15 +87,24 @@ fn answer_script<R: Threads + Wait + Sync, G: Gate + Sync>(
     let sessions = script.sessions.entries();
     match read_models(alloc, Purpose::Lists, script.models.entries(), sessions)? {
         Models::Ready(models) => {
-            let ran = run_sessions(rt, alloc, gate, workers, DEFAULT_BUDGET, sessions, models)?;
+            let ran = run_sessions(
+                rt,
+                alloc,
+                gate,
+                workers,
+                DEFAULT_BUDGET,
+                sessions,
+                models,
+                count,
+            )?;
             make_lines(alloc, &ran)?;
             Ok(Answer {
-                status: 0,
+                status: Status::Done,
                 text: summary_of(alloc, &ran)?,
             })
         }
         Models::Refused(line) => Ok(Answer {
-            status: 4,
+            status: Status::ModelRefused,
             text: line,
         }),
     }

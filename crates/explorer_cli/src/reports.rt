@@ -9,14 +9,16 @@ ghost use Rattle.explorer_cli.specs.Outcome.{IsAnswerTo, IsAnswerToScript};
 use crate::scripts::script_of;
 use decision_reports::assertions::{Report, assertions_of};
 use decision_reports::fact_sets::fact_sets_of;
+use lowering_rules::LowerStop;
+use outside_io::Status;
 use proof_command::Answer;
-use std::alloc::{AllocError, Global};
+use std::alloc::Global;
 
 /// The answer of `assert` to the bytes of its input, where each command is decided with this budget.
-pub fn answer_of_assert(alloc: Global, budget: u32, bytes: &[u8]) -> Result<Answer, AllocError>
+pub fn answer_of_assert(alloc: Global, budget: u32, bytes: &[u8]) -> Result<Answer, LowerStop>
     requires { budget ≤ 100000 }
     ensures answer { IfOk result (λ a. IsAnswerTo (Assert budget) bytes.now a.status a.text.items) }
-    ensures status { IfOk result (λ a. (a.status ≡ 0) ⊎ (a.status ≡ 3) ⊎ (a.status ≡ 4)) }
+    ensures status { IfOk result (λ a. (a.status ≡ Status.Done) ⊎ (a.status ≡ Status.InputRefused) ⊎ (a.status ≡ Status.ModelRefused)) }
 {
     match script_of(alloc, bytes)? {
         Ok(script) => {
@@ -28,10 +30,10 @@ pub fn answer_of_assert(alloc: Global, budget: u32, bytes: &[u8]) -> Result<Answ
 }
 
 /// The answer of `facts` to the bytes of its input, where each search has this budget.
-pub fn answer_of_facts(alloc: Global, budget: u32, bytes: &[u8]) -> Result<Answer, AllocError>
+pub fn answer_of_facts(alloc: Global, budget: u32, bytes: &[u8]) -> Result<Answer, LowerStop>
     requires { budget ≤ 100000 }
     ensures answer { IfOk result (λ a. IsAnswerTo (Facts budget) bytes.now a.status a.text.items) }
-    ensures status { IfOk result (λ a. (a.status ≡ 0) ⊎ (a.status ≡ 3) ⊎ (a.status ≡ 4)) }
+    ensures status { IfOk result (λ a. (a.status ≡ Status.Done) ⊎ (a.status ≡ Status.InputRefused) ⊎ (a.status ≡ Status.ModelRefused)) }
 {
     match script_of(alloc, bytes)? {
         Ok(script) => {
@@ -46,12 +48,15 @@ pub fn answer_of_facts(alloc: Global, budget: u32, bytes: &[u8]) -> Result<Answe
 fn answer_of_report(report: Report) -> Answer
     ensures assertions { (budget : ℕ) (s : ScriptData) → IsAssertionReport budget s.models report → IsAnswerToScript (Assert budget) s result.status result.text.items }
     ensures facts { (budget : ℕ) (s : ScriptData) → IsFactReport budget s.models report → IsAnswerToScript (Facts budget) s result.status result.text.items }
-    ensures status { (result.status ≡ 0) ⊎ (result.status ≡ 4) }
+    ensures status { (result.status ≡ Status.Done) ⊎ (result.status ≡ Status.ModelRefused) }
 {
     match report {
-        Report::Told(text) => Answer { status: 0, text },
+        Report::Told(text) => Answer {
+            status: Status::Done,
+            text,
+        },
         Report::Refused(line) => Answer {
-            status: 4,
+            status: Status::ModelRefused,
             text: line,
         },
     }

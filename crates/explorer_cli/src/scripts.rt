@@ -2,6 +2,7 @@
 ghost use Rattle.std.specs.Prelude.{◌≡◌, IfOk};
 ghost use Rattle.explorer_cli.specs.Keys.{IsScriptOrFault};
 
+use outside_io::Status;
 use proof_command::Answer;
 use script_format::laws::scripts_keep_to_limits;
 use script_format::{Script, read_script};
@@ -17,7 +18,7 @@ pub fn script_of(alloc: Global, bytes: &[u8]) -> Result<Result<Script, Answer>, 
     match read_script(alloc, bytes) {
         Ok(script) => Ok(Ok(script)),
         Err(fault) => Ok(Err(Answer {
-            status: 3,
+            status: Status::InputRefused,
             text: fault_line(alloc, fault)?,
         })),
     }

@@ -1,5 +1,5 @@
 // The sessions of a script.
-ghost use Rattle.std.specs.Prelude.{◌≡◌, ◌≤◌, ◌<◌, ◌^◌, ℕ, List, length, All, IfOk};
+ghost use Rattle.std.specs.Prelude.{◌≡◌, ◌≤◌, ◌<◌, ◌+◌, ◌^◌, ℕ, List, length, All, IfOk};
 ghost use Rattle.std.specs.List.{AllZip};
 ghost use Rattle.rel_formula.specs.Bounds.{Bounded};
 ghost use Rattle.rel_formula.specs.Instance.{AreCells};
@@ -9,11 +9,12 @@ ghost use Rattle.script_text.specs.Limits.{most_output};
 ghost use Rattle.script_text.specs.Printed.{all_printed};
 ghost use Rattle.script_text.specs.Replies.{NamesCellsOf, PrintsRightProof, PrintsCheckableProof};
 ghost use Rattle.explorer_cli.specs.Keys.{problems_of, IsScriptOf, WereServed, CanBeServed};
+ghost use Rattle.explorer_cli.specs.Learnt.{allowed_of};
 ghost use Rattle.explorer_cli.specs.Classes.{IsToldText, AreTranscriptTexts};
 
 use crate::classed_sessions::classed_text;
 use crate::keys::{key_of, problems_of};
-use explorer_run::{Gate, Served, SessionScript, Transcript, serve_sessions};
+use explorer_run::{Gate, Served, SessionScript, StepCount, Transcript, serve_sessions};
 use script_format::SessionEntry;
 use script_text::{fits_output, session_text};
 use served_models::{Purpose, ServedCommand};
@@ -31,7 +32,7 @@ pub struct Ran {
 
 /// Serves sessions from the start with this budget, by so many workers, each on the problem of its command: those on one command
 /// over one translation, and with what the others have learnt about it. The gate is passed before each command, with the
-/// session's place and the command's. The error comes only for want of memory.
+/// session's place and the command's. The count is raised by the steps that searches learn. The error comes only for want of memory.
 pub fn run_sessions<R: Threads + Wait + Sync, G: Gate + Sync>(
     rt: &R,
     alloc: Global,
@@ -40,17 +41,19 @@ pub fn run_sessions<R: Threads + Wait + Sync, G: Gate + Sync>(
     budget: u32,
     sessions: &[SessionEntry],
     models: Vec<Vec<ServedCommand>>,
+    count: &mut StepCount,
 ) -> Result<Ran, AllocError>
     requires workers { (1 ≤ workers) × (workers ≤ 16) }
     requires budget { budget ≤ 100000 }
     requires problems { (length (problems_of models.items) < 2 ^ 32) × All IsServable (problems_of models.items) }
     requires sessions { All (CanBeServed models.items) sessions.now }
     requires few { length sessions.now < 2 ^ 32 }
-    ensures { IfOk result (WereServed models.items budget sessions.now) }
+    ensures served { IfOk result (WereServed models.items budget sessions.now) }
+    ensures learnt { count.new ≤ count.old + allowed_of budget sessions.now }
 {
     let scripts = scripts_of(alloc, budget, &models, sessions)?;
     let problems = problems_of(alloc, models)?;
-    let served = serve_sessions(rt, alloc, gate, problems, &scripts, workers)?;
+    let served = serve_sessions(rt, alloc, gate, problems, &scripts, workers, count)?;
     Ok(Ran { scripts, served })
 }
 

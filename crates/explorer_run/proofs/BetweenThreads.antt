@@ -23,6 +23,7 @@ use Rattle.rel_formula.specs.contracts.problem.Problem as Problem
 use Rattle.translation.specs.contracts.translation.Translation as Translation
 use Rattle.session_rules.proofs.script.Transcript.TheSendSync as transcript
 use Rattle.session_rules.specs.contracts.script.SessionScript as SessionScript
+use Rattle.sat_core.proofs.step_count.StepCount.TheSendSync as counter
 use Rattle.session_state.proofs.session_search.session.Session.TheSendSync as session
 use Rattle.hub_state.proofs.ThreadCrossing.{hub_send}
 use Rattle.hub_state.specs.contracts.hub.Hub as Hub
@@ -34,7 +35,7 @@ pass_send : IsSend (Pass.the_row Hub.the_row SeenEntry.the_row (Array Problem.th
 pass_send = pass.the_send Hub.the_row SeenEntry.the_row (Array Problem.the_row tt 0) TheImpl.ghosts hub_send
 
 pub seat_send : IsSend Seat.the_row
-seat_send = search (pass_send, session.the_send, transcript.the_send, Crossing.crosses, sendable) depth 60 fits 20000
+seat_send = search (pass_send, session.the_send, transcript.the_send, counter.the_send, Crossing.crosses, sendable) depth 60 fits 20000
 
 pub lock_sync : IsSync (Turns.the_row Hub.the_row SeenEntry.the_row (Array Problem.the_row tt 0) TheImpl.ghosts)
 lock_sync = lock.the_sync Hub.the_row SeenEntry.the_row (Array Problem.the_row tt 0) TheImpl.ghosts hub_send

@@ -2,6 +2,7 @@ pub mod Places
 pub mod Rooted
 pub mod Seating
 pub mod Gathering
+pub mod Counting
 pub mod InOrder
 pub mod Whole
 pub mod Joined

@@ -1,5 +1,5 @@
 -- Sessions are opened in passes of their own, and end there.
-use Rattle.std.proofs.Common.{◌≡◌, ◌≢◌, ◌+◌, ◌<◌, ℕ, zero, suc, Option, Some, None, Result, Ok, Err, List, [], ◌∷◌, length, get_or, All, refl, sym, ◌∙◌, ap, subst, arith}
+use Rattle.std.proofs.Common.{◌≡◌, ◌≢◌, ◌+◌, ◌<◌, ◌≤◌, ℕ, zero, suc, Option, Some, None, Result, Ok, Err, List, [], ◌∷◌, length, get_or, All, refl, sym, ◌∙◌, ap, subst, arith}
 use Rattle.std.specs.Prelude.{IfOk, IfSome, slice_get}
 use Rattle.std.specs.Result.{result_ok}
 use Rattle.std.proofs.lemmas.Result.{IfOk-weaker}
@@ -21,6 +21,7 @@ use Rattle.hub_state.specs.Journal.Journal.{IsPublished}
 use Rattle.hub_turns.specs.Turned.{WentOn}
 use Rattle.hub_turns.proofs.Onward.{same_number}
 use Rattle.session_turns.specs.Seated.{IsSeated}
+use Rattle.session_turns.specs.Allowed.{allowed}
 use Rattle.session_turns.specs.Served.{IsOpened, IsServedScript}
 use Rattle.explorer_run.specs.declared.seats.Seat.{Seat}
 use Rattle.explorer_run.specs.Served.{values_of, ArePublished}
@@ -82,8 +83,8 @@ more_is_not_zero : (m n : ℕ) → n ≡ m + 1 → n ≢ 0
 more_is_not_zero m n is none = absurd (omega arith)
 
 -- the session of the script at a place
-pub ready_at : (lock : TableId) (ts : List Translated) (scripts : List SessionScript) (place : ℕ) (x : SessionScript) (root : Seen) (seat : Seat) → slice_get scripts place ≡ Some x → HasOpened lock ts x.key x.budget root seat.pass seat.session → seat.transcript ≡ None → IsReady lock ts scripts place seat
-ready_at lock ts scripts place x root seat at opened none = record {
+pub ready_at : (lock : TableId) (ts : List Translated) (scripts : List SessionScript) (place : ℕ) (x : SessionScript) (root : Seen) (seat : Seat) → slice_get scripts place ≡ Some x → HasOpened lock ts x.key x.budget root seat.pass seat.session → seat.transcript ≡ None → seat.count ≡ 0 → IsReady lock ts scripts place seat
+ready_at lock ts scripts place x root seat at opened none fresh = record {
   script = x;
   at = at;
   translation = opened.translation;
@@ -92,6 +93,7 @@ ready_at lock ts scripts place x root seat at opened none = record {
   opened = opened.opened;
   number = more_is_not_zero root.view.made seat.pass.view.number opened.number;
   none = none;
+  fresh = fresh;
 }
 
 -- ---- passes that are out
@@ -107,8 +109,8 @@ all_ended_are_out lock base ts scripts first seats each k d lt = (each k d lt).o
 -- a session that was served
 pub ended_now : (lock : TableId) (ts : List Translated) (scripts : List SessionScript) (place : ℕ) (old new : Seat) (ready : IsReady lock ts scripts place old) → WentOn lock old.pass new.pass → (served : Result Transcript AllocError)
     → ((problems : List Bounded) (key budget : ℕ) → old.pass.view.base ≡ Some problems → IsOpened key budget old.pass old.session → IfOk served (λ x. IsServedScript problems new.pass.view.seen ready.translation new.pass.view.number key budget ready.script.commands x))
-    → new.transcript ≡ result_ok served → IsEnded lock old.pass.view.base old.pass.view.number ts scripts place new
-ended_now lock ts scripts place old new ready went served told is =
+    → new.transcript ≡ result_ok served → new.count ≤ allowed ready.script.budget ready.script.commands → IsEnded lock old.pass.view.base old.pass.view.number ts scripts place new
+ended_now lock ts scripts place old new ready went served told is counted =
     let base = ap (λ (v : V). v.base) went.same in
     let number = same_number lock old.pass new.pass went in
     let problems = went.idle.problems in
@@ -122,6 +124,7 @@ ended_now lock ts scripts place old new ready went served told is =
       script = x;
       at = ready.at;
       told = subst (λ (t : Option Transcript). IfSome t (Of old.pass.view.number)) (sym is) (subst (λ (n : ℕ). IfSome (result_ok served) (Of n)) number (some_of served (Of new.pass.view.number) all));
+      counted = counted;
     }
   where
     some_of : (r : Result Transcript AllocError) (P : Transcript → Type 0) → IfOk r P → IfSome (result_ok r) P

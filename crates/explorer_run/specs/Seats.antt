@@ -1,5 +1,5 @@
 -- Sessions in passes of their own, between the turns of the lock.
-use Rattle.std.specs.Prelude.{◌≡◌, ◌≢◌, ◌+◌, ◌<◌, ◌∷◌, ℕ, List, Option, Some, None, IfSome, Result, Ok, Vec, length, map, slice_get, slice_index_or, All}
+use Rattle.std.specs.Prelude.{◌≡◌, ◌≢◌, ◌+◌, ◌<◌, ◌≤◌, ◌∷◌, [], ℕ, List, Option, Some, None, IfSome, Result, Ok, Vec, length, map, slice_get, slice_index_or, All}
 use Rattle.std.specs.declared.alloc.AllocError.{AllocError}
 use Rattle.std.specs.declared.alloc.Global.{Global}
 use mathlib.Core.List.{IsPrefix}
@@ -13,6 +13,7 @@ use Rattle.session_state.specs.Sessions.Fits.{InSession}
 use Rattle.hub_state.specs.Journal.Noted.{Noted, Published}
 use Rattle.hub_turns.specs.Turned.{IsIdle}
 use Rattle.session_turns.specs.Seated.{IsSeated}
+use Rattle.session_turns.specs.Allowed.{allowed}
 use Rattle.session_turns.specs.Served.{IsOpened, IsServedScript}
 use Rattle.explorer_run.specs.declared.seats.Seat.{Seat}
 use Rattle.explorer_run.specs.Served.{ArePublished}
@@ -60,6 +61,7 @@ pub record IsReady (lock : TableId) (ts : List Translated) (scripts : List Sessi
   pub opened : IsOpened script.key script.budget seat.pass seat.session
   pub number : seat.pass.view.number ≢ 0
   pub none : seat.transcript ≡ None
+  pub fresh : seat.count ≡ 0
 
 -- the passes of the seats have this base, and the numbers from the first on
 abbrev pub IsPlaced : Option (List Bounded) → ℕ → ℕ → Seat → Type 0
@@ -75,13 +77,15 @@ pub record IsOut (lock : TableId) (base : Option (List Bounded)) (seat : Seat) :
 abbrev pub IsTranscriptOf : List Bounded → List Noted → List Translated → ℕ → SessionScript → Transcript → Type 0
 IsTranscriptOf problems journal ts number x y = (t : Translated) × (slice_get ts x.key ≡ Some t) × IsServedScript problems journal t number x.key x.budget x.commands y
 
--- the session of the script at this place ended: its transcript, if there was memory for it, is told by what its pass has seen
+-- the session of the script at this place ended: its transcript, if there was memory for it, is told by what its pass has seen, and
+-- its searches have learnt as many steps as its commands may take, or fewer
 pub record IsEnded (lock : TableId) (base : Option (List Bounded)) (number : ℕ) (ts : List Translated) (scripts : List SessionScript) (place : ℕ) (seat : Seat) : Type 0 where
   pub out : IsOut lock base seat
   pub number_is : seat.pass.view.number ≡ number
   pub script : SessionScript
   pub at : slice_get scripts place ≡ Some script
   pub told : IfSome seat.transcript (λ y. IsTranscriptOf out.idle.problems seat.pass.view.seen ts number script y)
+  pub counted : seat.count ≤ allowed script.budget script.commands
 
 -- the pass was taken back by one that has seen this journal, in which the entries under its number are its own
 pub record IsBack (journal : List Noted) (seat : Seat) : Type 0 where
@@ -91,6 +95,11 @@ pub record IsBack (journal : List Noted) (seat : Seat) : Type 0 where
 -- there is a transcript, and it stands before the others
 abbrev pub IsInFront : Option Transcript → Result (Vec Transcript Global) AllocError → Vec Transcript Global → Type 0
 IsInFront first others all = (x : Transcript) × (xs : Vec Transcript Global) × (first ≡ Some x) × (others ≡ Ok xs) × (all.items ≡ x ∷ xs.items)
+
+-- how many steps the sessions of the seats have learnt together
+abbrev pub counted_in : List Seat → ℕ
+counted_in [] = 0
+counted_in (seat ∷ seats) = seat.count + counted_in seats
 
 -- what holds of the seat at each place
 abbrev pub EachSeat : (ℕ → Seat → Type 0) → List Seat → Type 0

@@ -6,11 +6,13 @@ use Rattle.rel_formula.specs.Renaming.{IsSymmetric}
 use Rattle.rel_terms.specs.Terms.{IsTranslatable}
 use Rattle.translation_rules.specs.Translation.{Translated}
 use Rattle.script_format.specs.Limits.{IsAllowed, asked_by}
+use Rattle.script_format.specs.Reading.{most_asked}
 use Rattle.session_rules.specs.declared.script.SessionScript.{SessionScript}
 use Rattle.session_rules.specs.declared.script.Transcript.{Transcript}
 use Rattle.hub_state.specs.Journal.Noted.{Noted}
 use Rattle.hub_state.specs.Journal.Journal.{IsPublished}
 use Rattle.hub_turns.specs.Interleaved.{IsInterleaving}
+use Rattle.session_turns.specs.Allowed.{allowed}
 use Rattle.session_turns.specs.Served.{IsServedScript}
 use Rattle.explorer_run.specs.declared.sessions.Served.{Served}
 
@@ -24,8 +26,13 @@ pub record IsServableScript (keys : ℕ) (x : SessionScript) : Type 0 where
   pub key : x.key < keys
   pub budget : x.budget ≤ 100000
   pub allowed : All IsAllowed x.commands
-  pub asked : asked_by x.commands ≤ 20000
+  pub asked : asked_by x.commands ≤ most_asked
   pub few : length x.commands < 2 ^ 32
+
+-- what the commands of all sessions may take together
+abbrev pub allowed_in : List SessionScript → ℕ
+allowed_in [] = 0
+allowed_in (x ∷ xs) = allowed x.budget x.commands + allowed_in xs
 
 -- the translations that shared pointers point to
 abbrev pub values_of : {A : Type 0} → List (Arc Translated A) → List Translated

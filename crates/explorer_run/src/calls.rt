@@ -10,8 +10,9 @@ ghost use Rattle.hub_state.specs.Journal.Journal.{IsLegal};
 ghost use Rattle.hub_turns.specs.Turned.{IsIdle, WentOn};
 ghost use Rattle.session_turns.specs.Serving.{IsPrintable};
 ghost use Rattle.session_turns.specs.Seated.{IsSeated};
+ghost use Rattle.session_turns.specs.Allowed.{cost_of};
 ghost use Rattle.session_turns.specs.Added.{HasServed};
-ghost use Rattle.explorer_run.specs.Served.{IsServable, IsServableScript, AreServedFrom, values_of};
+ghost use Rattle.explorer_run.specs.Served.{IsServable, IsServableScript, AreServedFrom, allowed_in, values_of};
 ghost use Rattle.explorer_run.specs.Seats.{IsRoot, StaysRoot, IsNewRoot, HasOpened};
 
 use crate::publishing::{publish_all, translate_all};
@@ -23,6 +24,7 @@ use hub_turns::passes_stay_idle;
 use rel_formula::Problem;
 use session_rules::{Reply, SessionScript, Transcript};
 use session_state::session_search::Session;
+use session_turns::StepCount;
 use session_words::Command;
 use std::alloc::{AllocError, Global};
 use std::sync::{Arc, Wait};
@@ -141,7 +143,8 @@ impl<'g, G> Explorer<'g, G> {
 impl<'g, G: Gate> Explorer<'g, G> {
     /// Passes the gate, with the session's place and the command's, and answers the command, in turns of the session's pass. The
     /// session is one over the translation of its key, and has shown at most 20,000 scenarios with those that the command asks
-    /// for. A budget is at most 100,000, and `all` asks for some scenario.
+    /// for. A budget is at most 100,000, and `all` asks for some scenario. The count is raised by the steps that searches learn, which
+    /// are no more than the command may take.
     pub fn command<R: Wait>(
         &self,
         rt: &R,
@@ -151,10 +154,12 @@ impl<'g, G: Gate> Explorer<'g, G> {
         place: u32,
         number: u32,
         command: &Command,
+        count: &mut StepCount,
     ) -> Reply
         requires seated { (t : Translated) × (shown : ℕ) × (slice_get (values_of self.now.translations.items) session.old.key ≡ Some t) × IsSeated self.now.lock t shown pass.old session.old × (shown + asks command.now ≤ 20000) }
         requires allowed { IsAllowed command.now }
         ensures goes { WentOn self.now.lock pass.old pass.new }
+        ensures spent { count.new ≤ count.old + cost_of session.old.kept.state.budget command.now }
         ensures key { session.new.key ≡ session.old.key }
         ensures served { (t : Translated) → slice_get (values_of self.now.translations.items) session.old.key ≡ Some t → HasServed t pass.old pass.new session.old session.new command.now result × IsPrintable t (top_floor session.old.kept.state) result }
         ensures seated { (t : Translated) (shown : ℕ) → slice_get (values_of self.now.translations.items) session.old.key ≡ Some t → IsSeated self.now.lock t shown pass.old session.old
@@ -162,14 +167,24 @@ impl<'g, G: Gate> Explorer<'g, G> {
     {
         self.gate.pass(place, number);
         let translation = &self.translations[session.key() as usize];
-        session_turns::command(rt, alloc, &self.lock, pass, session, translation, command)
+        session_turns::command(
+            rt,
+            alloc,
+            &self.lock,
+            pass,
+            session,
+            translation,
+            command,
+            count,
+        )
     }
 }
 
 impl<'g, G: Gate + Sync> Explorer<'g, G> {
     /// Serves the sessions of scripts, each by one of so many workers in threads of their own: they are opened in order, under the
     /// numbers that come next, and served side by side, and then their passes are taken back, also after an error. The gate is
-    /// passed before each command, with the session's place and the command's. The error comes only for want of memory.
+    /// passed before each command, with the session's place and the command's. The count is raised by the steps that the sessions'
+    /// searches learn, which are no more than their commands may take. The error comes only for want of memory.
     pub fn serve_all<R: Threads + Wait + Sync>(
         &self,
         rt: &R,
@@ -177,6 +192,7 @@ impl<'g, G: Gate + Sync> Explorer<'g, G> {
         root: &mut Pass<Hub>,
         scripts: &[SessionScript],
         workers: u32,
+        count: &mut StepCount,
     ) -> Result<Vec<Transcript>, AllocError>
         requires workers { (1 ≤ workers) × (workers ≤ 16) }
         requires root { IsRoot self.now.lock (values_of self.now.translations.items) root.old }
@@ -185,6 +201,7 @@ impl<'g, G: Gate + Sync> Explorer<'g, G> {
         ensures root { StaysRoot self.now.lock (values_of self.now.translations.items) root.old root.new }
         ensures live { root.new.view.live ≡ root.old.view.live }
         ensures made { OnOk result (root.new.view.made ≡ root.old.view.made + length scripts.now) }
+        ensures spent { count.new ≤ count.old + allowed_in scripts.now }
         ensures told { (problems : List Bounded) → root.old.view.base ≡ Some problems
             → IfOk result (λ ts. AreServedFrom problems root.new.view.seen (values_of self.now.translations.items) (root.old.view.made + 1) scripts.now ts.items) }
     {
@@ -197,6 +214,7 @@ impl<'g, G: Gate + Sync> Explorer<'g, G> {
             self.translations.as_slice(),
             scripts,
             workers,
+            count,
         )
     }
 }

@@ -12,3 +12,4 @@ pub use crate::calls::Explorer;
 pub use crate::sessions::{Served, serve_sessions};
 pub use hub_lock::{Gate, OpenGate};
 pub use session_rules::{SessionScript, Transcript};
+pub use session_turns::StepCount;

@@ -4,23 +4,25 @@ ghost use Rattle.std.specs.List.{AllZip};
 ghost use mathlib.Core.List.{IsPrefix};
 ghost use Rattle.hub_turns.specs.Turned.{IsIdle};
 ghost use Rattle.explorer_run.specs.Served.{IsServableScript, values_of};
-ghost use Rattle.explorer_run.specs.Seats.{IsRoot, StaysRoot, HasOpened, IsReady, IsPlaced, IsOut, IsBack, IsInFront, EachSeat};
+ghost use Rattle.explorer_run.specs.Seats.{IsRoot, StaysRoot, HasOpened, IsReady, IsPlaced, IsOut, IsBack, IsInFront, EachSeat, counted_in};
 
 use hub_lock::{Pass, Turns};
 use hub_state::Hub;
 use hub_turns::passes_stay_idle;
 use session_rules::{SessionScript, Transcript};
 use session_state::session_search::Session;
-use session_turns::open_session;
+use session_turns::{StepCount, open_session};
 use std::alloc::{AllocError, Global};
 use std::sync::{Arc, Wait};
 use translation::Translation;
 
-/// A session with its pass, and its transcript once it was served. It can't be dropped: its pass can't.
+/// A session with its pass, its transcript once it was served, and how many steps its searches have learnt. It can't be dropped: its
+/// pass can't.
 pub struct Seat {
     pub(crate) pass: Pass<Hub>,
     pub(crate) session: Session,
     pub(crate) transcript: Option<Transcript>,
+    pub(crate) count: StepCount,
 }
 
 /// Opens a session for each script, in order, under the numbers that come next. After an error those that were opened before are
@@ -54,10 +56,12 @@ pub(crate) fn open_all<R: Wait>(
             script.key,
             script.budget,
         )?;
+        let count = StepCount::new();
         seats.push_reserved(Seat {
             pass,
             session,
             transcript: None,
+            count,
         });
     }
     Ok(())
@@ -94,12 +98,14 @@ pub(crate) fn open_pass<R: Wait>(
     }
 }
 
-/// Takes all passes back, and answers the transcripts in order. The error comes where a session has none, or for want of memory.
+/// Takes all passes back, adds up what was learnt, and answers the transcripts in order. The error comes where a session has none,
+/// or for want of memory.
 pub(crate) fn gather(
     alloc: Global,
     lock: &Turns<Hub>,
     root: &mut Pass<Hub>,
     mut seats: Vec<Seat>,
+    count: &mut StepCount,
 ) -> Result<Vec<Transcript>, AllocError>
     requires root { IsIdle lock.now root.old × (root.old.view.number ≡ 0) }
     requires out { All (IsOut lock.now root.old.view.base) seats.items }
@@ -111,6 +117,7 @@ pub(crate) fn gather(
     ensures live { root.new.view.live + length seats.items ≡ root.old.view.live }
     ensures seen { IsPrefix root.old.view.seen root.new.view.seen }
     ensures back { All (IsBack root.new.view.seen) seats.items }
+    ensures spent { count.new ≤ count.old + counted_in seats.items }
     ensures transcripts { IfOk result (λ ts. AllZip (λ seat t. seat.transcript ≡ Some t) seats.items ts.items) }
 {
     passes_stay_idle();
@@ -120,8 +127,10 @@ pub(crate) fn gather(
             pass,
             session: _,
             transcript,
+            count: learnt,
         } = seat;
         lock.join(root, pass);
+        count.add(learnt);
         transcripts = in_front(transcript, transcripts);
     }
     seats.destroy_empty();

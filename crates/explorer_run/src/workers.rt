@@ -1,21 +1,22 @@
 // Sessions side by side, each served by one of several workers.
 ghost use Rattle.std.specs.Prelude.{◌≡◌, ◌+◌, ◌≤◌, ◌<◌, ◌^◌, ℕ, List, [], Option, Some, IfOk, OnOk, length, All, vec_capacity};
 ghost use Rattle.rel_formula.specs.Bounds.{Bounded};
-ghost use Rattle.explorer_run.specs.Served.{IsServableScript, AreServedFrom, values_of};
-ghost use Rattle.explorer_run.specs.Seats.{IsRoot, StaysRoot, IsReady, IsPlaced, IsEnded, IsOut, EachSeat};
+ghost use Rattle.explorer_run.specs.Served.{IsServableScript, AreServedFrom, allowed_in, values_of};
+ghost use Rattle.explorer_run.specs.Seats.{IsRoot, StaysRoot, IsReady, IsPlaced, IsEnded, IsOut, EachSeat, counted_in};
 
 use crate::seats::{Seat, gather, open_all};
 use hub_lock::{Gate, Pass, Turns};
 use hub_state::Hub;
 use hub_turns::journal_laws::what_a_session_did_stays;
 use session_rules::{SessionScript, Transcript};
-use session_turns::serve_session;
+use session_turns::{StepCount, serve_session};
 use std::alloc::{AllocError, Global};
 use std::sync::{Arc, Wait};
 use std::thread::{self, Threads};
 use translation::Translation;
 
-/// Opens the sessions of the scripts, serves them, and takes their passes back, also after an error.
+/// Opens the sessions of the scripts, serves them, and takes their passes back, also after an error. Each session counts the steps
+/// that its searches learn, and these counts are added up.
 pub(crate) fn serve_all<R: Threads + Wait + Sync, G: Gate + Sync>(
     rt: &R,
     alloc: Global,
@@ -25,6 +26,7 @@ pub(crate) fn serve_all<R: Threads + Wait + Sync, G: Gate + Sync>(
     translations: &[Arc<Translation>],
     scripts: &[SessionScript],
     workers: u32,
+    count: &mut StepCount,
 ) -> Result<Vec<Transcript>, AllocError>
     requires workers { (1 ≤ workers) × (workers ≤ 16) }
     requires root { IsRoot lock.now (values_of translations.now) root.old }
@@ -33,6 +35,7 @@ pub(crate) fn serve_all<R: Threads + Wait + Sync, G: Gate + Sync>(
     ensures root { StaysRoot lock.now (values_of translations.now) root.old root.new }
     ensures live { root.new.view.live ≡ root.old.view.live }
     ensures made { OnOk result (root.new.view.made ≡ root.old.view.made + length scripts.now) }
+    ensures spent { count.new ≤ count.old + allowed_in scripts.now }
     ensures told { (problems : List Bounded) → root.old.view.base ≡ Some problems
         → IfOk result (λ ts. AreServedFrom problems root.new.view.seen (values_of translations.now) (root.old.view.made + 1) scripts.now ts.items) }
 {
@@ -49,7 +52,7 @@ pub(crate) fn serve_all<R: Threads + Wait + Sync, G: Gate + Sync>(
         workers,
         &mut seats,
     );
-    let transcripts = gather(alloc, lock, root, seats);
+    let transcripts = gather(alloc, lock, root, seats, count);
     ended?;
     transcripts
 }
@@ -75,6 +78,7 @@ fn open_and_serve<R: Threads + Wait + Sync, G: Gate + Sync>(
     ensures root { StaysRoot lock.now (values_of translations.now) root.old root.new }
     ensures live { root.new.view.live ≡ root.old.view.live + length seats.new.items }
     ensures out { All (IsOut lock.now root.old.view.base) seats.new.items }
+    ensures counted { counted_in seats.new.items ≤ allowed_in scripts.now }
     ensures made { OnOk result ((root.new.view.made ≡ root.old.view.made + length scripts.now) × (length seats.new.items ≡ length scripts.now)) }
     ensures ended { OnOk result (EachSeat (λ k seat. IsEnded lock.now root.old.view.base (root.old.view.made + 1 + k) (values_of translations.now) scripts.now k seat) seats.new.items) }
 {
@@ -149,6 +153,7 @@ fn serve_seat<R: Wait, G: Gate>(
         &mut seat.session,
         &translations[script.key as usize],
         script.commands.commands(),
+        &mut seat.count,
     );
     seat.transcript = served.ok();
 }

@@ -1,5 +1,5 @@
 // Runs of the program over sources and sinks in memory.
-use explorer_cli::{Gate, OpenGate, explore};
+use explorer_cli::{Gate, OpenGate, StepCount, explore};
 use outside_io::{MemSink, MemSource};
 use std::alloc::{AllocError, Global};
 use std::fmt::Write;
@@ -42,7 +42,7 @@ fn wide_sink(alloc: Global, failing: &[u32]) -> Result<MemSink, AllocError> {
     MemSink::new(alloc, 50000, 16, failing)
 }
 
-// The program's status.
+// The number of the program's status.
 fn status<R: Threads + Wait + Abort + Sync>(
     rt: &R,
     alloc: Global,
@@ -50,7 +50,8 @@ fn status<R: Threads + Wait + Abort + Sync>(
     source: &mut MemSource,
     sink: &mut MemSink,
 ) -> u8 {
-    explore(rt, alloc, words, source, sink, &OpenGate)
+    let mut count = StepCount::new();
+    explore(rt, alloc, words, source, sink, &OpenGate, &mut count).number()
 }
 
 /// The status and the output for these words and this script, where the calls of these numbers fail.
@@ -96,7 +97,8 @@ pub fn explored_through<R: Threads + Wait + Abort + Sync, G: Gate + Sync>(
     let owned = owned(alloc, words)?;
     let mut source = wide_source(alloc, script.as_bytes(), &[])?;
     let mut sink = wide_sink(alloc, &[])?;
-    let status = explore(rt, alloc, &owned, &mut source, &mut sink, gate);
+    let mut count = StepCount::new();
+    let status = explore(rt, alloc, &owned, &mut source, &mut sink, gate, &mut count).number();
     Ok((status, String::from_utf8_lossy(alloc, sink.bytes())?))
 }
 

@@ -1,10 +1,11 @@
-use Rattle.std.proofs.Common.{◌≤◌, inr, List, All, length, refl, sym, subst}
+use Rattle.std.proofs.Common.{◌≤◌, inr, List, All, length, refl, sym, ap, subst, arith}
 use Rattle.script_format.specs.declared.entries.ModelEntry.{ModelEntry}
 use Rattle.session_rules.specs.declared.script.SessionScript.{SessionScript}
 use Rattle.served_models.specs.declared.models.Models.{Models}
 use Rattle.served_models.specs.Served.{AreFound}
 use Rattle.explorer_run.specs.Served.{translations_of}
 use Rattle.explorer_cli.specs.Classes.{AreTranscriptTexts}
+use Rattle.explorer_cli.specs.Learnt.{allowed_of}
 use Rattle.explorer_cli.proofs.Servables.{problems_are_servable, all_on, all_can_be_served, few_sessions}
 use Rattle.explorer_cli.proofs.ServedOutputs.{runs_answer_of}
 use Rattle.explorer_cli.proofs.answer.answer_script.Goals as goal
@@ -16,21 +17,21 @@ pub run_sessions-requires-clause-problems : goal.run_sessions-requires-clause-pr
 run_sessions-requires-clause-problems g c κs within =
     let sessions = c.entries-sessions.result.now in
     let entries = c.entries.result.now in
-    let used = subst (λ (m : Models). AreFound c.args.purpose sessions entries m) c.in-Ready.is c.in_ok-models.ensures in
+    let used = subst (λ (m : Models). AreFound c.args.purpose sessions entries m) c.in-Ready.is c.in_ok-models.ensures.found in
     problems_are_servable c.args.purpose c.args.script.now sessions entries c.in-Ready.models.items c.entries-sessions.ensures c.entries.ensures used c.requires.limits c.problems_are_symmetric.ensures
 
 pub run_sessions-requires-clause-sessions : goal.run_sessions-requires-clause-sessions
 run_sessions-requires-clause-sessions g c κs within =
     let sessions = c.entries-sessions.result.now in
     let entries = c.entries.result.now in
-    let used = subst (λ (m : Models). AreFound c.args.purpose sessions entries m) c.in-Ready.is c.in_ok-models.ensures in
+    let used = subst (λ (m : Models). AreFound c.args.purpose sessions entries m) c.in-Ready.is c.in_ok-models.ensures.found in
     all_can_be_served c.args.purpose c.args.script.now sessions entries c.in-Ready.models.items c.entries-sessions.ensures c.entries.ensures used c.requires.limits
 
 pub run_sessions-requires-clause-few : goal.run_sessions-requires-clause-few
 run_sessions-requires-clause-few g c κs within =
     let sessions = c.entries-sessions.result.now in
     let entries = c.entries.result.now in
-    let used = subst (λ (m : Models). AreFound c.args.purpose sessions entries m) c.in-Ready.is c.in_ok-models.ensures in
+    let used = subst (λ (m : Models). AreFound c.args.purpose sessions entries m) c.in-Ready.is c.in_ok-models.ensures.found in
     few_sessions c.args.purpose c.args.script.now sessions entries c.in-Ready.models.items c.entries-sessions.ensures c.entries.ensures used c.requires.limits
 
 pub returns-in_ok-text_of_sessions-in-Ready-clause-answer : goal.returns-in_ok-text_of_sessions-in-Ready-clause-answer
@@ -38,7 +39,7 @@ returns-in_ok-text_of_sessions-in-Ready-clause-answer g c =
     let sessions = c.entries-sessions.result.now in
     let entries = c.entries.result.now in
     let models = c.in-Ready.models.items in
-    let used = subst (λ (m : Models). AreFound c.args.purpose sessions entries m) c.in-Ready.is c.in_ok-models.ensures in
+    let used = subst (λ (m : Models). AreFound c.args.purpose sessions entries m) c.in-Ready.is c.in_ok-models.ensures.found in
     let on = all_on c.args.purpose c.args.script.now sessions entries models c.entries-sessions.ensures c.entries.ensures used c.requires.limits in
     let ran = c.in_ok-ran-in-Ready.ran in
     let text = c.in_ok-text_of_sessions-in-Ready.field-0.items in
@@ -50,3 +51,21 @@ returns-in_ok-text_of_sessions-in-Ready-clause-answer g c =
           text c.entries-sessions.ensures c.entries.ensures used on c.in_ok-ran-in-Ready.ensures
           texts c.in_ok-text_of_sessions-in-Ready.ensures.fits,
     )
+
+pub returns-in_err-ran-in-Ready-clause-learnt : goal.returns-in_err-ran-in-Ready-clause-learnt
+returns-in_err-ran-in-Ready-clause-learnt g c =
+    let may = ap (allowed_of c.args.budget) c.entries-sessions.ensures in
+    let most = c.run_sessions.ensures.learnt in
+    omega (arith, may, most)
+
+pub returns-in_err-text_of_sessions-in-Ready-clause-learnt : goal.returns-in_err-text_of_sessions-in-Ready-clause-learnt
+returns-in_err-text_of_sessions-in-Ready-clause-learnt g c =
+    let may = ap (allowed_of c.args.budget) c.entries-sessions.ensures in
+    let most = c.run_sessions.ensures.learnt in
+    omega (arith, may, most)
+
+pub returns-in_ok-text_of_sessions-in-Ready-clause-learnt : goal.returns-in_ok-text_of_sessions-in-Ready-clause-learnt
+returns-in_ok-text_of_sessions-in-Ready-clause-learnt g c =
+    let may = ap (allowed_of c.args.budget) c.entries-sessions.ensures in
+    let most = c.run_sessions.ensures.learnt in
+    omega (arith, may, most)

@@ -1,6 +1,7 @@
-use Rattle.std.proofs.Common.{sym, subst}
+use Rattle.std.proofs.Common.{refl, sym, subst}
 use Rattle.std.specs.Prelude.{IfOk}
 use Rattle.command_words.specs.declared.reading.Command.{Command}
+use Rattle.explorer_cli.specs.Learnt.{MayLearn}
 use Rattle.explorer_cli.specs.Outcome.{IsStatusOf, IsAnswerTo}
 use Rattle.explorer_cli.proofs.answer.answer_to.Goals as goal
 
@@ -52,3 +53,24 @@ returns-in-Crew-clause-answer g c =
 
 pub returns-in-Crew-clause-status : goal.returns-in-Crew-clause-status
 returns-in-Crew-clause-status g c = subst (λ (x : Command). IfOk c.answer_of_crew.result (λ a. IsStatusOf x a.status)) (sym c.in-Crew.is) c.answer_of_crew.ensures.status
+
+pub returns-in-Run-clause-learnt : goal.returns-in-Run-clause-learnt
+returns-in-Run-clause-learnt g c = subst (λ (x : Command). MayLearn x c.args.bytes.now c.args.count.now c.answer_of_runs.new.count) (sym c.in-Run.is) c.answer_of_runs.ensures.learnt
+
+pub returns-in-Distinct-clause-learnt : goal.returns-in-Distinct-clause-learnt
+returns-in-Distinct-clause-learnt g c = subst (λ (x : Command). MayLearn x c.args.bytes.now c.args.count.now c.answer_of_runs-in-Distinct.new.count) (sym c.in-Distinct.is) c.answer_of_runs-in-Distinct.ensures.learnt
+
+pub returns-in-Load-clause-learnt : goal.returns-in-Load-clause-learnt
+returns-in-Load-clause-learnt g c = subst (λ (x : Command). MayLearn x c.args.bytes.now c.args.count.now c.answer_of_load.new.count) (sym c.in-Load.is) c.answer_of_load.ensures.learnt
+
+pub returns-in-Check-clause-learnt : goal.returns-in-Check-clause-learnt
+returns-in-Check-clause-learnt g c = subst (λ (x : Command). MayLearn x c.args.bytes.now c.args.count.now c.args.count.now) (sym c.in-Check.is) refl
+
+pub returns-in-Assert-clause-learnt : goal.returns-in-Assert-clause-learnt
+returns-in-Assert-clause-learnt g c = subst (λ (x : Command). MayLearn x c.args.bytes.now c.args.count.now c.args.count.now) (sym c.in-Assert.is) tt
+
+pub returns-in-Facts-clause-learnt : goal.returns-in-Facts-clause-learnt
+returns-in-Facts-clause-learnt g c = subst (λ (x : Command). MayLearn x c.args.bytes.now c.args.count.now c.args.count.now) (sym c.in-Facts.is) tt
+
+pub returns-in-Crew-clause-learnt : goal.returns-in-Crew-clause-learnt
+returns-in-Crew-clause-learnt g c = subst (λ (x : Command). MayLearn x c.args.bytes.now c.args.count.now c.args.count.now) (sym c.in-Crew.is) tt

@@ -16,14 +16,14 @@ pub text_of_crews-requires-clause-count : goal.text_of_crews-requires-clause-cou
 text_of_crews-requires-clause-count g c κs within =
     let sessions = c.entries-sessions.result.now in
     let entries = c.entries-entries.result.now in
-    let used = subst (λ (m : Models). AreFound Lists sessions entries m) c.in-Ready.is c.in_ok-models.ensures in
+    let used = subst (λ (m : Models). AreFound Lists sessions entries m) c.in-Ready.is c.in_ok-models.ensures.found in
     ap (λ (xs : List (Vec ServedCommand)). length xs) c.deref.ensures.value ∙ as_many_models sessions entries c.in-Ready.models.items used
 
 pub text_of_crews-requires-clause-servable : goal.text_of_crews-requires-clause-servable
 text_of_crews-requires-clause-servable g c κs within =
     let sessions = c.entries-sessions.result.now in
     let entries = c.entries-entries.result.now in
-    let used = subst (λ (m : Models). AreFound Lists sessions entries m) c.in-Ready.is c.in_ok-models.ensures in
+    let used = subst (λ (m : Models). AreFound Lists sessions entries m) c.in-Ready.is c.in_ok-models.ensures.found in
     subst (All AreServable) (sym c.deref.ensures.value) (each_servable sessions entries c.in-Ready.models.items used c.problems_are_symmetric.ensures)
 
 pub returns-in_ok-text_of_crews-in-Ready-clause-answer : goal.returns-in_ok-text_of_crews-in-Ready-clause-answer
@@ -33,6 +33,6 @@ returns-in_ok-text_of_crews-in-Ready-clause-answer g c =
     let workers = c.args.workers in
     let budget = c.args.budget in
     let text = c.in_ok-text_of_crews-in-Ready.field-0.items in
-    let used = subst (λ (m : Models). AreFound Lists sessions entries m) c.in-Ready.is c.in_ok-models.ensures in
+    let used = subst (λ (m : Models). AreFound Lists sessions entries m) c.in-Ready.is c.in_ok-models.ensures.found in
     let texts = subst (λ (models : List (Vec ServedCommand)). AreServedTexts workers budget entries models text) c.deref.ensures.value c.in_ok-text_of_crews-in-Ready.ensures.texts in
     inr (refl, crews_of sessions entries c.in-Ready.models.items used workers budget c.args.script.now text c.entries-sessions.ensures c.entries-entries.ensures texts)

@@ -1,4 +1,4 @@
-use Rattle.std.proofs.Common.{inl, inr, subst}
+use Rattle.std.proofs.Common.{inl, inr, refl, subst}
 use Rattle.explorer_cli.specs.Keys.{IsScriptOrFault}
 use Rattle.explorer_cli.proofs.load_command.answer_made.Goals as goal
 
@@ -13,3 +13,15 @@ returns-in-Err-clause-answer g c = λ number. inl (subst (IsScriptOrFault c.args
 
 pub returns-in-Err-clause-status : goal.returns-in-Err-clause-status
 returns-in-Err-clause-status g c = inr (inl (subst (IsScriptOrFault c.args.bytes.now) c.in-Err.is c.in_ok-script.ensures).2)
+
+pub returns-in_err-answer_script-in-Ok-clause-learnt : goal.returns-in_err-answer_script-in-Ok-clause-learnt
+returns-in_err-answer_script-in-Ok-clause-learnt g c = inr (c.in-Ok.script, (subst (IsScriptOrFault c.args.bytes.now) c.in-Ok.is c.in_ok-script.ensures).0, c.answer_script.ensures.learnt)
+
+pub returns-in_ok-answer_script-in-Ok-clause-learnt : goal.returns-in_ok-answer_script-in-Ok-clause-learnt
+returns-in_ok-answer_script-in-Ok-clause-learnt g c = inr (c.in-Ok.script, (subst (IsScriptOrFault c.args.bytes.now) c.in-Ok.is c.in_ok-script.ensures).0, c.answer_script.ensures.learnt)
+
+pub returns-in_err-script-clause-learnt : goal.returns-in_err-script-clause-learnt
+returns-in_err-script-clause-learnt g c = inl refl
+
+pub returns-in-Err-clause-learnt : goal.returns-in-Err-clause-learnt
+returns-in-Err-clause-learnt g c = inl refl

@@ -6,9 +6,10 @@ use Rattle.hub_lock.specs.Passes.{of_pass}
 use Rattle.rel_formula.specs.Bounds.{Bounded}
 use Rattle.hub_state.specs.Journal.Noted.{Noted}
 use Rattle.explorer_run.specs.declared.seats.Seat.{Seat}
-use Rattle.explorer_run.specs.Seats.{IsOut}
+use Rattle.explorer_run.specs.Seats.{IsOut, counted_in}
 use Rattle.explorer_run.proofs.Places.{all_before, all_last}
 use Rattle.explorer_run.proofs.Gathering.{HasGathered, none_gone, one_more_gone, all_back, all_told}
+use Rattle.explorer_run.proofs.Counting.{counted_more}
 use Rattle.explorer_run.proofs.seats.gather.Goals as goal
 
 abbrev V : Type 0
@@ -27,6 +28,7 @@ loop-seat-init c =
       live = refl;
       seen = prefix_refl root.view.seen;
       out = c.requires.out;
+      counted = omega arith;
       gathered = none_gone seats root.view c.with_capacity-transcripts.result c.with_capacity-transcripts.ensures.items;
     }
 
@@ -76,6 +78,7 @@ loop-seat-preserved c =
       live = omega (arith, less, some, live, long);
       seen = prefix_trans c.args.root.now.view.seen root.view.seen new.view.seen before.seen joined.mine;
       out = all_before Out left seat outs;
+      counted = let b = before.counted in let seats = ap counted_in c.in-Some.ensures.items in let more = counted_more left seat in let added = c.add.ensures in omega (arith, b, seats, more, added);
       gathered = one_more_gone all root new left seat c.loop-seat.transcripts c.in_front-transcripts.result is joined c.in_front-transcripts.ensures (subst (λ (ss : List Seat). HasGathered all root.view ss c.loop-seat.transcripts) c.in-Some.ensures.items before.gathered);
     }
 
@@ -88,6 +91,9 @@ returns-clause-live c =
     let long = ap (λ (ss : List Seat). length ss) none in
     let live = c.loop-seat.invariant.live in
     omega (arith, long, live)
+
+pub returns-clause-spent : goal.returns-clause-spent
+returns-clause-spent c = let before = c.loop-seat.invariant.counted in omega (arith, before)
 
 pub returns-clause-back : goal.returns-clause-back
 returns-clause-back c =

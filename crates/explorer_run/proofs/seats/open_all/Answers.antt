@@ -55,9 +55,9 @@ loop-script-preserved g c =
     let live = c.in_ok-pass.ensures.live in
     let at : slice_get scripts i ≡ Some item = slice_get_read scripts (length scripts) i item refl c.loop-script-test.true c.script-item.is in
     let P : ℕ → Seat → Type 0 = λ k seat. IsReady lock ts scripts k seat × IsPlaced old.view.base (old.view.made + 1) k seat in
-    let seat : Seat = record { pass = c.in_ok-pass.pass; session = c.in_ok-pass.session; transcript = None } in
+    let seat : Seat = record { pass = c.in_ok-pass.pass; session = c.in_ok-pass.session; transcript = None; count = c.new-count.result } in
     let number : seat.pass.view.number ≡ old.view.made + 1 + i = let n = opened.number in let m = before.made in omega arith in
-    let here : P i seat = (ready_at lock ts scripts i item root seat at opened refl, (opened.base ∙ before.root.base, number)) in
+    let here : P i seat = (ready_at lock ts scripts i item root seat at opened refl c.new-count.ensures, (opened.base ∙ before.root.base, number)) in
     record {
       root = stays_then lock ts old root new before.root c.in_ok-pass.ensures.root;
       made = let m = before.made in omega arith;

@@ -2,8 +2,8 @@ use Rattle.explorer_run.specs.Served.{values_of}
 use Rattle.explorer_run.proofs.Whole.{all_served}
 use Rattle.explorer_run.proofs.sessions.serve_sessions.Goals as goal
 
-pub returns-in_ok-transcripts-in-Ok : goal.returns-in_ok-transcripts-in-Ok
-returns-in_ok-transcripts-in-Ok g c =
+pub returns-in_ok-transcripts-in-Ok-clause-served : goal.returns-in_ok-transcripts-in-Ok-clause-served
+returns-in_ok-transcripts-in-Ok-clause-served g c =
     let explorer = c.in-Ok.explorer in
     let first = c.in-Ok.ensures in
     let ended = c.finish-hub.ensures in

@@ -1,10 +1,12 @@
-use Rattle.std.proofs.Common.{◌≡◌, ◌≤◌, ◌<◌, ◌^◌, Some, List, length, All, sym, ◌∙◌, ap, subst}
+use Rattle.std.proofs.Common.{◌≡◌, ◌≤◌, ◌<◌, ◌^◌, ℕ, Some, List, length, All, sym, ◌∙◌, ap, subst, arith}
 use Rattle.std.specs.Prelude.{IfOk, slice_get}
 use Rattle.std.proofs.lemmas.Option.{slice_get_within}
 use Rattle.translation_rules.specs.Translation.{Translated}
 use Rattle.script_format.specs.Limits.{IsAllowed, asked_by}
 use Rattle.session_words.specs.declared.commands.Command.{Command}
 use Rattle.session_rules.specs.declared.script.SessionScript.{SessionScript}
+use Rattle.session_rules.specs.States.{State}
+use Rattle.session_turns.specs.Allowed.{allowed}
 use Rattle.session_turns.specs.Seated.{IsSeated}
 use Rattle.session_turns.specs.Served.{IsServedScript}
 use Rattle.explorer_run.specs.Served.{IsServableScript, values_of}
@@ -53,8 +55,11 @@ returns g c =
     let asked = c.commands.ensures ∙ ap (λ (x : SessionScript). x.commands) script in
     let served = c.serve_session-served.result in
     let new = c.serve_session-served.new.pass in
-    ended_now c.args.lock.now (values_of ts) c.args.scripts.now c.args.place c.args.seat.now (record { pass = new; session = c.serve_session-served.new.session; transcript = c.ok.result }) ready c.serve_session-served.ensures.goes served
+    let start = ap (λ (s : State). s.budget) ready.opened.state in
+    let may = ap (λ (b : ℕ). allowed b c.commands.result.now) start ∙ ap (allowed ready.script.budget) asked in
+    let counted : c.serve_session-served.new.count ≤ allowed ready.script.budget ready.script.commands = let most = c.serve_session-served.ensures.spent in let fresh = ready.fresh in omega (arith, most, fresh, may) in
+    ended_now c.args.lock.now (values_of ts) c.args.scripts.now c.args.place c.args.seat.now (record { pass = new; session = c.serve_session-served.new.session; transcript = c.ok.result; count = c.serve_session-served.new.count }) ready c.serve_session-served.ensures.goes served
     (λ problems key budget base opened.
     subst (λ (xs : List Command). IfOk served (λ x. IsServedScript problems new.view.seen ready.translation new.view.number key budget xs x)) asked
     (subst (λ (t : Translated). IfOk served (λ x. IsServedScript problems new.view.seen t new.view.number key budget c.commands.result.now x)) is (c.serve_session-served.ensures.served problems key budget base opened)))
-    c.ok.ensures.value
+    c.ok.ensures.value counted
