@@ -25,6 +25,7 @@ use Rattle.crew_run.specs.declared.answer.CrewAnswer.TheVariants.{Ended, Spent, 
 use Rattle.crew_run.specs.Crew.{IsCrewAnswer}
 use Rattle.explorer_cli.specs.CrewTexts.{heading, spent_line, full_line, IsAnswerText, IsBlock, IsBlockOn, AreBlocksOn, AreTextsFrom, AreCrewTexts, HasLine, TellsEnds, ListsAllDue, TellsAllDue}
 use Rattle.explorer_cli.specs.Runs.{IsProblemAt}
+use Rattle.outside_io.specs.declared.status.Status.TheVariants.{Done, InputRefused, ModelRefused}
 use Rattle.explorer_cli.specs.Outcome.{IsAnswerTo, IsAnswerToScript, WritesCrews}
 use Rattle.explorer_cli.proofs.OneOrder.{one_order}
 use Rattle.explorer_cli.proofs.Problems.{OneProblem}
@@ -185,16 +186,16 @@ session_told one_problem workers budget sessions entries models text told ends x
 
 -- ---- two answers
 
--- what is answered under 0 is what crews find
-found_in : (workers budget : ℕ) (s : Script) (text : List ℕ) → IsAnswerToScript (Crew workers budget) s 0 text → WritesCrews workers budget s text
-found_in workers budget s text (inl model) = absurd (let e = model.0 in omega (arith, e))
+-- what is answered where all is done is what crews find
+found_in : (workers budget : ℕ) (s : Script) (text : List ℕ) → IsAnswerToScript (Crew workers budget) s Done text → WritesCrews workers budget s text
+found_in workers budget s text (inl model) = absurd (let e : Done ≡ ModelRefused = model.0 in cc)
 found_in workers budget s text (inr told) = told.1
 
-found_by : (workers budget : ℕ) (bytes text : List ℕ) → IsAnswerTo (Crew workers budget) bytes 0 text → (s : Script) × IsScript bytes s × WritesCrews workers budget s text
-found_by workers budget bytes text (inl fault) = absurd (let e = fault.2 in omega (arith, e))
+found_by : (workers budget : ℕ) (bytes text : List ℕ) → IsAnswerTo (Crew workers budget) bytes Done text → (s : Script) × IsScript bytes s × WritesCrews workers budget s text
+found_by workers budget bytes text (inl fault) = absurd (let e : Done ≡ InputRefused = fault.2 in cc)
 found_by workers budget bytes text (inr script) = (script.0, script.1, found_in workers budget script.0 text script.2)
 
-pub one_crew_text : OneText → OneProblem → OneList → (workers others budget other : ℕ) (bytes text words : List ℕ) → IsAnswerTo (Crew workers budget) bytes 0 text → IsAnswerTo (Crew others other) bytes 0 words
+pub one_crew_text : OneText → OneProblem → OneList → (workers others budget other : ℕ) (bytes text words : List ℕ) → IsAnswerTo (Crew workers budget) bytes Done text → IsAnswerTo (Crew others other) bytes Done words
     → TellsEnds budget text → TellsEnds other words → text ≡ words
 one_crew_text one_text one_problem one_list workers others budget other bytes text words first second ends stops =
     let a = found_by workers budget bytes text first in

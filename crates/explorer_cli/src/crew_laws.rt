@@ -45,7 +45,7 @@ pub fn each_crew_has_its_cause()
 /// numbers of workers were, in whichever order their turns came, and with whichever budgets.
 pub fn crews_have_one_output()
     ensures { (workers others budget other : ℕ) (bytes text words : List ℕ)
-        → IsAnswerTo (Crew workers budget) bytes 0 text → IsAnswerTo (Crew others other) bytes 0 words → TellsEnds budget text → TellsEnds other words → text ≡ words }
+        → IsAnswerTo (Crew workers budget) bytes Done text → IsAnswerTo (Crew others other) bytes Done words → TellsEnds budget text → TellsEnds other words → text ≡ words }
 {
     models_are_used_one_way();
     what_is_printed_has_one_text();

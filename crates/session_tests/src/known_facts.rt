@@ -40,23 +40,27 @@ fn known_in(alloc: Global, model: &Named, command: u32, budget: u64) -> Result<K
     requires budget { budget ≤ 100000000 }
 {
     match facts_of(alloc, model, command, budget) {
-        Ok(set) => known_of(alloc, set),
+        Ok(set) => known_of(alloc, &set),
         Err(LowerFault::Memory) => Err("no memory")?,
         Err(_) => Ok(Known::Refused),
     }
 }
 
-fn known_of(alloc: Global, set: FactSet) -> Result<Known, Fail> {
+fn known_of(alloc: Global, set: &FactSet) -> Result<Known, Fail> {
     match set {
-        FactSet::Satisfiable { scenario } => Ok(Known::Satisfiable(cells_in(alloc, &scenario)?)),
+        FactSet::Satisfiable { scenario } => Ok(Known::Satisfiable(cells_in(alloc, scenario)?)),
         FactSet::Needs { core, scenarios } => {
             let mut without = Vec::new(alloc);
             for scenario in scenarios.scenarios() {
                 without.push(cells_in(alloc, scenario)?)?;
             }
-            Ok(Known::Needs(core.facts, without))
+            let needed = Vec::from_slice(alloc, core.facts.as_slice())?;
+            Ok(Known::Needs(needed, without))
         }
-        FactSet::Spent(tried) => Ok(Known::Spent(tried.facts)),
+        FactSet::Spent(tried) => {
+            let tried = Vec::from_slice(alloc, tried.facts.as_slice())?;
+            Ok(Known::Spent(tried))
+        }
     }
 }
 

@@ -48,7 +48,7 @@ returns-in_ok-text_of_sessions-in-Ready-clause-answer g c =
     inr (
       refl,
       runs_answer_of c.what_was_published_stands.ensures c.a_told_session_is_backed.ensures c.args.purpose c.args.budget c.args.script.now sessions entries models ran
-          text c.entries-sessions.ensures c.entries.ensures used on c.in_ok-ran-in-Ready.ensures
+          text c.entries-sessions.ensures c.entries.ensures used on c.in_ok-ran-in-Ready.ensures.served
           texts c.in_ok-text_of_sessions-in-Ready.ensures.fits,
     )
 

@@ -60,7 +60,7 @@ returns-in_ok-summary_of-in-Ready-clause-answer g c =
     λ number. inr (
       refl,
       summary_answer c.what_was_published_stands.ensures c.a_told_session_is_backed.ensures 20000 c.args.script.now sessions entries models ran lines
-          c.in_ok-summary_of-in-Ready.field-0.items c.entries-sessions.ensures c.entries.ensures used on c.in_ok-ran-in-Ready.ensures texts c.in_ok-summary_of-in-Ready.ensures,
+          c.in_ok-summary_of-in-Ready.field-0.items c.entries-sessions.ensures c.entries.ensures used on c.in_ok-ran-in-Ready.ensures.served texts c.in_ok-summary_of-in-Ready.ensures,
     )
 
 pub returns-in_err-ran-in-Ready-clause-learnt : goal.returns-in_err-ran-in-Ready-clause-learnt
