@@ -19,12 +19,15 @@ returns-in-Distinct-clause-answer g c =
 pub returns-in-Distinct-clause-status : goal.returns-in-Distinct-clause-status
 returns-in-Distinct-clause-status g c = subst (λ (x : Command). IfOk c.answer_of_runs-in-Distinct.result (λ a. IsStatusOf x a.status)) (sym c.in-Distinct.is) c.answer_of_runs-in-Distinct.ensures.status
 
-pub returns-in-Check-clause-answer : goal.returns-in-Check-clause-answer
-returns-in-Check-clause-answer g c =
-    subst (λ (x : Command). IfOk c.answer_to.result (λ a. IsAnswerTo x c.args.bytes.now a.status a.text.items)) (sym c.in-Check.is) c.answer_to.ensures.answer
+pub returns-in_ok-answer_to-in-Check-clause-answer : goal.returns-in_ok-answer_to-in-Check-clause-answer
+returns-in_ok-answer_to-in-Check-clause-answer g c =
+    let a = c.in_ok-answer_to-in-Check.field-0 in
+    subst (λ (x : Command). IsAnswerTo x c.args.bytes.now a.status a.text.items) (sym c.in-Check.is) c.in_ok-answer_to-in-Check.ensures.answer
 
-pub returns-in-Check-clause-status : goal.returns-in-Check-clause-status
-returns-in-Check-clause-status g c = subst (λ (x : Command). IfOk c.answer_to.result (λ a. IsStatusOf x a.status)) (sym c.in-Check.is) c.answer_to.ensures.status
+pub returns-in_ok-answer_to-in-Check-clause-status : goal.returns-in_ok-answer_to-in-Check-clause-status
+returns-in_ok-answer_to-in-Check-clause-status g c =
+    let a = c.in_ok-answer_to-in-Check.field-0 in
+    subst (λ (x : Command). IsStatusOf x a.status) (sym c.in-Check.is) c.in_ok-answer_to-in-Check.ensures.status
 
 pub returns-in-Assert-clause-answer : goal.returns-in-Assert-clause-answer
 returns-in-Assert-clause-answer g c =
@@ -63,8 +66,11 @@ returns-in-Distinct-clause-learnt g c = subst (λ (x : Command). MayLearn x c.ar
 pub returns-in-Load-clause-learnt : goal.returns-in-Load-clause-learnt
 returns-in-Load-clause-learnt g c = subst (λ (x : Command). MayLearn x c.args.bytes.now c.args.count.now c.answer_of_load.new.count) (sym c.in-Load.is) c.answer_of_load.ensures.learnt
 
-pub returns-in-Check-clause-learnt : goal.returns-in-Check-clause-learnt
-returns-in-Check-clause-learnt g c = subst (λ (x : Command). MayLearn x c.args.bytes.now c.args.count.now c.args.count.now) (sym c.in-Check.is) refl
+pub returns-in_err-answer_to-in-Check-clause-learnt : goal.returns-in_err-answer_to-in-Check-clause-learnt
+returns-in_err-answer_to-in-Check-clause-learnt g c = subst (λ (x : Command). MayLearn x c.args.bytes.now c.args.count.now c.args.count.now) (sym c.in-Check.is) refl
+
+pub returns-in_ok-answer_to-in-Check-clause-learnt : goal.returns-in_ok-answer_to-in-Check-clause-learnt
+returns-in_ok-answer_to-in-Check-clause-learnt g c = subst (λ (x : Command). MayLearn x c.args.bytes.now c.args.count.now c.args.count.now) (sym c.in-Check.is) refl
 
 pub returns-in-Assert-clause-learnt : goal.returns-in-Assert-clause-learnt
 returns-in-Assert-clause-learnt g c = subst (λ (x : Command). MayLearn x c.args.bytes.now c.args.count.now c.args.count.now) (sym c.in-Assert.is) tt
