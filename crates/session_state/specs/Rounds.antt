@@ -1,5 +1,3 @@
-pub mod Searches
-pub mod Descended
-pub mod Classes
 pub mod Rounds
+pub mod Descended
 pub mod Next

@@ -125,11 +125,14 @@ fn answer(
 ) -> Result<(Told, u32, u32), AllocError>
     requires step { IsPlain step }
     requires fits { FitsProblem made.now.problem session.old.kept }
+    requires few { length session.old.kept.state.shown ≤ 1000 }
     ensures fits { OnOk result (FitsProblem made.now.problem session.new.kept) }
     ensures few { OnOk result (length session.new.kept.state.shown ≤ length session.old.kept.state.shown + 1) }
 {
     let _problem = made.problem(); // for the proof
-    let proposal = session.propose_plain(alloc, &step)?;
+    let pool = Log::new(alloc);
+    let mut count = StepCount::new();
+    let proposal = session.propose(alloc, made, &pool, &step, &mut count)?;
     let told = told_of(proposal.reply());
     session.reserve(&proposal)?;
     session.apply(proposal);

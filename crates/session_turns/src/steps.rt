@@ -135,9 +135,9 @@ fn proposed<R: Wait>(
             step,
             count,
         ),
-        Step::Back => session.propose_plain(alloc, step),
-        Step::Budget(_) => session.propose_plain(alloc, step),
-        Step::Proof => session.propose_plain(alloc, step),
+        Step::Back => session.propose(alloc, translation, pool, step, count),
+        Step::Budget(_) => session.propose(alloc, translation, pool, step, count),
+        Step::Proof => session.propose(alloc, translation, pool, step, count),
     }
 }
 

@@ -1,14 +1,15 @@
 -- How many clauses a search at a floor has.
-use Rattle.std.proofs.Common.{◌≡◌, ◌≤◌, ◌+◌, ◌*◌, ◌^◌, ◌∙◌, ℕ, suc, Bool, List, [], ◌∷◌, ◌++◌, map, filter, flat_map, length, All, arith, length-append}
+use Rattle.std.proofs.Common.{◌≡◌, ◌<◌, ◌≤◌, ◌+◌, ◌*◌, ℕ, suc, Bool, List, [], ◌∷◌, ◌++◌, map, filter, flat_map, length, All, AllPairs, subst, ap, arith, length-append}
 use Rattle.std.proofs.lemmas.List.{length-map}
 use Rattle.std.proofs.lemmas.List.Elements.{All-nil, All-cons, All-filter}
 use Rattle.cnf_core.specs.declared.literal.Lit.{Lit}
-use Rattle.tuple_core.specs.declared.atom.Atom.{Atom}
 use Rattle.rel_formula.specs.Bounds.{Bounded, cells_of}
+use Rattle.rel_formula.specs.Instance.{AreCells}
 use Rattle.rel_formula.proofs.OneSetOfAtoms.{filter_shorter}
 use Rattle.translation_rules.specs.Free.{is_free_of}
 use Rattle.translation_rules.specs.Translation.{SwapClauses, Translated, clauses_of_swaps}
 use Rattle.translation_rules.specs.Locals.{literal_of, units_of, absence_in, locals_of}
+use Rattle.translation_rules.proofs.Locals.Cells.{few_cells}
 use Rattle.translation.specs.Numbered.{pair_of, AreNumbered}
 use Rattle.translation.specs.Kept.{IsTranslation}
 use Rattle.translation.proofs.NeighbourCounts.{few_pairs}
@@ -43,4 +44,13 @@ few_locals t is cells floor few blocked =
     let three : length (map absence_in blocked) ≡ length blocked = length-map blocked absence_in in
     let front : length (of_swaps ++ units_of floor) ≡ length of_swaps + length (units_of floor) = length-append of_swaps (units_of floor) in
     let all : length (locals_of t floor blocked) ≡ length (of_swaps ++ units_of floor) + length (map absence_in blocked) = length-append (of_swaps ++ units_of floor) (map absence_in blocked) in
+    omega arith
+
+-- so there are few, of a problem whose cells are few
+pub few_clauses : (t : Translated) → IsTranslation t → (p : Bounded) → p ≡ t.problem → length (cells_of p) ≤ 4096 → (floor : List ℕ) → AllPairs (λ m n. m < n) floor → AreCells t.problem floor → (blocked : List (List ℕ)) →
+    (clauses : List (List Lit)) → clauses ≡ locals_of t floor blocked → length clauses ≤ 800000 + length blocked
+few_clauses t is p same cells floor rising inside blocked clauses e =
+    let few : length (cells_of t.problem) ≤ 4096 = subst (λ (q : Bounded). length (cells_of q) ≤ 4096) same cells in
+    let h = few_locals t is few floor (few_cells (length (cells_of t.problem)) floor rising inside) blocked in
+    let n : length clauses ≡ length (locals_of t floor blocked) = ap length e in
     omega arith

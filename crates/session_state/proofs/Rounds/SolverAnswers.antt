@@ -1,5 +1,5 @@
 -- What an answer of the solver says of a search at a floor.
-use Rattle.std.proofs.Common.{◌≡◌, ◌≢◌, ◌↔◌, ◌<◌, ◌≤◌, ◌+◌, ◌-◌, ℕ, Bool, List, [], ◌++◌, length, slice_get, Some, All, AllPairs, Contains, IsTrue, inl, inr, sym, ap, subst, arith}
+use Rattle.std.proofs.Common.{◌≡◌, ◌≢◌, ◌↔◌, ◌<◌, ◌≤◌, ◌+◌, ◌-◌, ℕ, Bool, List, [], ◌++◌, length, All, AllPairs, Contains, IsTrue, inl, inr, subst, arith}
 use Rattle.cnf_core.specs.declared.literal.Lit.{Lit}
 use Rattle.cnf_core.specs.Valuation.{Satisfies}
 use Rattle.refutation_check.specs.declared.log.Step.{Step}

@@ -1,35 +1,42 @@
 -- What the descent of a round comes to.
-use Rattle.std.specs.Prelude.{◌≡◌, ◌+◌, ℕ, List, Contains}
+use Rattle.std.specs.Prelude.{◌≡◌, ◌⊎◌, ◌+◌, ℕ, List, ◌∷◌, Contains}
 use Rattle.refutation_check.specs.declared.log.Step.{Step as LogStep}
 use Rattle.refutation_check.specs.Part.{Parted}
 use Rattle.rel_formula.specs.Bounds.{Bounded}
-use Rattle.rel_formula.specs.Instance.{IsMinimalAbove, Includes}
+use Rattle.rel_formula.specs.Instance.{Includes}
+use Rattle.swap_symmetry.specs.Due.{IsDue}
 use Rattle.translation_rules.specs.Translation.{Translated}
 use Rattle.translation_rules.specs.Parts.{LastGoesOn, novel_in}
-use Rattle.session_state.specs.declared.search_rounds.descent.DescentEnd.{DescentEnd}
-use Rattle.session_state.specs.declared.search_rounds.descent.DescentEnd.TheVariants.{Minimal, Spent}
+use Rattle.minimiser.specs.Down.{IsDescent}
+use Rattle.session_rules.specs.Proofs.{IsCopy}
+use Rattle.session_state.specs.declared.search_rounds.round.RoundEnd.{RoundEnd}
+use Rattle.session_state.specs.declared.search_rounds.round.RoundEnd.TheVariants.{Due, Copy, Refuted, Spent}
+use Rattle.session_state.specs.Rounds.Rounds.{parts_in}
 
-abbrev pub parts_of : DescentEnd → List Parted
-parts_of (Minimal scenario parts left) = parts.items
-parts_of (Spent parts) = parts.items
+-- where this minimal scenario leads: to one that is due and was not shown; or it is a copy of one that was, and takes one of the units
+-- that are left, or none is left for it
+abbrev pub IsDueOrCopy : Bounded → List ℕ → List (List ℕ) → List ℕ → ℕ → RoundEnd → Type 0
+IsDueOrCopy p floor shown minimal left (Due scenario parts) = IsDue p floor scenario × (¬ Contains shown scenario)
+IsDueOrCopy p floor shown minimal left (Copy scenario parts rest) = (scenario ≡ minimal) × IsCopy p floor shown minimal × (1 + rest ≡ left)
+IsDueOrCopy p floor shown minimal left (Refuted part) = ⊥
+IsDueOrCopy p floor shown minimal left (Spent parts) = IsCopy p floor shown minimal × (left ≡ 0)
 
--- what is left of the budget, where a minimal scenario was found
-abbrev pub left_of : DescentEnd → ℕ
-left_of (Minimal scenario parts left) = left
-left_of (Spent parts) = 0
+-- some copy of what was shown lies in the start
+abbrev pub HasCopyIn : Bounded → List ℕ → List (List ℕ) → List ℕ → Type 0
+HasCopyIn p floor shown start = (copy : List ℕ) × IsCopy p floor shown copy × Includes start copy
 
--- the scenario is minimal above the floor and lies in the start, and the novel steps leave so much of the budget; or they are
--- all of it
-abbrev pub IsRightDescent : Translated → List LogStep → List ℕ → List ℕ → ℕ → DescentEnd → Type 0
-IsRightDescent t pool floor start budget (Minimal scenario parts left) = IsMinimalAbove t.problem floor scenario × Includes start scenario × (novel_in t pool parts.items + left ≡ budget)
-IsRightDescent t pool floor start budget (Spent parts) = novel_in t pool parts.items ≡ budget
+-- where a descent from the start leads that has these parts: to a scenario that is due and was not shown; or to a copy of one that was, which
+-- lies in the start, and with it the novel steps leave so much; or these are all that was left, and the last part goes on, or there is no
+-- unit for such a copy
+abbrev pub LeadsTo : Translated → List LogStep → List ℕ → List (List ℕ) → List ℕ → ℕ → List Parted → RoundEnd → Type 0
+LeadsTo t pool floor shown start left parts (Due scenario all) = IsDue t.problem floor scenario × (¬ Contains shown scenario)
+LeadsTo t pool floor shown start left parts (Copy scenario all rest) = IsCopy t.problem floor shown scenario × Includes start scenario × (novel_in t pool parts + 1 + rest ≡ left)
+LeadsTo t pool floor shown start left parts (Refuted part) = ⊥
+LeadsTo t pool floor shown start left parts (Spent all) = (novel_in t pool parts ≡ left) × (LastGoesOn t pool parts ⊎ HasCopyIn t.problem floor shown start)
 
--- where the budget is spent, the last search was stopped: it goes on
-abbrev pub IsStoppedDescent : Translated → List LogStep → DescentEnd → Type 0
-IsStoppedDescent t pool (Minimal scenario parts left) = Unit {0}
-IsStoppedDescent t pool (Spent parts) = LastGoesOn t pool parts.items
-
--- the scenario to which the descent led, where it came to one, is minimal above the floor and was not shown
-abbrev pub LeadsToNew : Bounded → List ℕ → List (List ℕ) → DescentEnd → Type 0
-LeadsToNew p floor shown (Minimal scenario parts left) = IsMinimalAbove p floor scenario × (¬ Contains shown scenario)
-LeadsToNew p floor shown (Spent parts) = Unit {0}
+-- the parts of the round are this one, and then those of a descent from the start, over the translation and the pool
+pub record DescendsTo (t : Translated) (pool : List LogStep) (floor : List ℕ) (shown : List (List ℕ)) (part : Parted) (start : List ℕ) (left : ℕ) (end : RoundEnd) : Type 0 where
+  pub parts : List Parted
+  pub in_order : parts_in end ≡ part ∷ parts
+  pub descent : IsDescent t pool floor start left parts
+  pub leads : LeadsTo t pool floor shown start left parts end

@@ -10,8 +10,6 @@ use Rattle.translation_rules.specs.Locals.{locals_of}
 use Rattle.translation_rules.specs.Parts.{AreSearched, LastGoesOn, novel_in}
 use Rattle.session_rules.specs.Proofs.{IsCopy}
 use Rattle.session_rules.specs.Work.{Round, IsRound, parts_of_round}
-use Rattle.session_state.specs.declared.search_rounds.descent.DescentEnd.{DescentEnd}
-use Rattle.session_state.specs.declared.search_rounds.descent.DescentEnd.TheVariants.{Minimal, Spent as NothingLeft}
 use Rattle.session_state.specs.declared.search_rounds.round.RoundEnd.{RoundEnd}
 use Rattle.session_state.specs.declared.search_rounds.round.RoundEnd.TheVariants.{Due, Copy, Refuted, Spent}
 
@@ -36,12 +34,6 @@ pub record IsRoundAt (t : Translated) (pool : List LogStep) (floor : List ℕ) (
   pub all_parts : parts ≡ parts_of_round round
   pub searched : AreSearched t pool parts
   pub few : novel_in t pool parts ≤ budget
-
--- the scenario of the descent isn't blocked, and the novel steps of search and descent leave so much of the budget; or they are
--- all of it
-abbrev pub IsCounted : Translated → List LogStep → List (List ℕ) → ℕ → Parted → DescentEnd → Type 0
-IsCounted t pool blocked budget part (Minimal scenario parts left) = (¬ Contains blocked scenario) × (novel_in t pool (part ∷ parts.items) + left ≡ budget)
-IsCounted t pool blocked budget part (NothingLeft parts) = novel_in t pool (part ∷ parts.items) ≡ budget
 
 -- the scenario is due and was not shown; or it is a new copy, and with it the novel steps leave so much of the budget; or the
 -- search ends with the empty clause; or the novel steps are all of the budget

@@ -1,24 +1,22 @@
 // One round: a search at a floor, and the descent from what it finds.
-ghost use Rattle.std.specs.Prelude.{◌≡◌, ◌≤◌, ◌+◌, ◌∷◌, ℕ, List, length, All, Contains, IfOk, OnOk};
-ghost use Rattle.refutation_check.specs.declared.log.Step.{Step as LogStep};
+ghost use Rattle.std.specs.Prelude.{◌↔◌, ◌<◌, ◌≤◌, ◌+◌, ℕ, length, All, AllPairs, Contains, IsTrue, IfOk, OnOk};
+ghost use Rattle.cnf_core.specs.Valuation.{value_of};
 ghost use Rattle.rel_formula.specs.Instance.{AreCells};
 ghost use Rattle.sat_trail.specs.Trailed.{IsBase};
 ghost use Rattle.minimiser.specs.Lowering.{IsOver};
 ghost use Rattle.translation_rules.specs.Imports.{IsImport};
-ghost use Rattle.translation_rules.specs.Translation.{Translated};
-ghost use Rattle.translation_rules.specs.Parts.{novel_in};
-ghost use Rattle.session_state.specs.Rounds.Classes.{IsRightClass};
-ghost use Rattle.session_state.specs.Rounds.Descended.{left_of, parts_of, IsStoppedDescent, LeadsToNew};
-ghost use Rattle.session_state.specs.Rounds.Rounds.{left_in, parts_in, IsCounted, IsRoundAt, IsRightRound, IsStoppedRound};
+ghost use Rattle.translation_rules.specs.Translation.{var_of};
+ghost use Rattle.session_state.specs.Rounds.Rounds.{left_in, parts_in, IsRoundAt, IsRightRound, IsStoppedRound};
 
-use crate::search_rounds::classes::{Class, class_of};
-use crate::search_rounds::descent::{DescentEnd, go_down};
-use crate::search_rounds::search::{SearchEnd, search_at};
+use crate::search_rounds::descent::descended;
+use crate::search_rounds::locals::locals_of;
+use cnf_core::Valuation;
 use refutation_check::{Log, Part};
 use rel_formula::Scenario;
-use sat_core::{SavedPhases, StepCount, Trail};
+use sat_core::{Answer, SavedPhases, StepCount, Trail, solve_from};
 use std::alloc::{AllocError, Global};
 use translation::Translation;
+use translation_rules::laws::local_clauses_say_what_is_left;
 
 /// What a round comes to, with its parts in order.
 #[derive(Drop)]
@@ -77,106 +75,60 @@ pub fn round_at(
     ensures spent { count.new ≤ count.old + budget }
     ensures left { IfOk result (λ end. count.new + left_in end ≤ count.old + budget) }
 {
-    match search_at(
+    local_clauses_say_what_is_left();
+    let problem = translation.problem();
+    let _ = problem.relations(); // for the proof
+    let _ = floor.numbers(); // for the proof
+    let local = locals_of(alloc, translation, floor, blocked)?;
+    match solve_from(
         alloc,
-        translation,
+        translation.cnf(),
         base,
         pool,
-        floor,
-        blocked,
+        local.as_slice(),
         budget,
         leaning,
         count,
     )? {
-        SearchEnd::Left { start, part, left } => {
-            let descent = go_down(
+        Answer::Found { valuation, log } => {
+            let left = budget - log.steps().len() as u64;
+            let start = scenario_in(alloc, problem.cells(), &valuation)?;
+            descended(
                 alloc,
                 translation,
                 base,
                 trail,
                 pool,
                 floor,
+                shown,
+                Part::of(local, log),
                 &start,
                 left,
                 count,
-            )?;
-            let end = round_of(alloc, translation, floor, shown, part, descent)?;
-            Ok(end)
+            )
         }
-        SearchEnd::Refuted { part } => Ok(RoundEnd::Refuted { part }),
-        SearchEnd::Spent { part } => {
-            let parts = vec![in alloc; part]?;
+        Answer::Refuted { log } => Ok(RoundEnd::Refuted {
+            part: Part::of(local, log),
+        }),
+        Answer::Spent { log } => {
+            let parts = vec![in alloc; Part::of(local, log)]?;
             Ok(RoundEnd::Spent { parts })
         }
     }
 }
 
-// The end of a round whose search has this part, with the descent from what it found.
-fn round_of(
-    alloc: Global,
-    translation: &Translation,
-    floor: &Scenario,
-    shown: &[Scenario],
-    part: Part,
-    descent: DescentEnd,
-) -> Result<RoundEnd, AllocError>
-    requires { LeadsToNew translation.now.problem floor.now shown.now descent }
-    ensures parts { IfOk result (λ end. parts_in end ≡ part ∷ parts_of descent) }
-    ensures answer { IfOk result (λ end. (pool : List LogStep) (blocked : List (List ℕ)) (budget : ℕ) → IsCounted translation.now pool blocked budget part descent
-        → IsRightRound translation.now pool floor.now shown.now blocked budget end) }
-    ensures stopped { IfOk result (λ end. (pool : List LogStep) (blocked : List (List ℕ)) (budget : ℕ) → IsCounted translation.now pool blocked budget part descent
-        → IsStoppedDescent translation.now pool descent → IsStoppedRound translation.now pool floor.now shown.now blocked end) }
-    ensures left { IfOk result (λ end. left_in end ≤ left_of descent) }
+// The scenario of the cells whose variables are true.
+fn scenario_in(alloc: Global, cells: u32, valuation: &Valuation) -> Result<Scenario, AllocError>
+    requires { cells ≤ length valuation.now }
+    ensures cells { IfOk result (λ s. (cell : ℕ) → Contains s cell → cell < cells) }
+    ensures values { IfOk result (λ s. (cell : ℕ) → cell < cells → IsTrue (value_of valuation.now (var_of cell)) ↔ Contains s cell) }
+    ensures rising { IfOk result (λ s. AllPairs (λ m n. m < n) s) }
 {
-    let problem = translation.problem();
-    match descent {
-        DescentEnd::Minimal {
-            scenario,
-            parts,
-            left,
-        } => {
-            let class = class_of(alloc, problem, floor, shown, scenario)?;
-            let all = led_by(alloc, part, parts)?;
-            Ok(end_of(class, all, left))
-        }
-        DescentEnd::Spent { parts } => {
-            let all = led_by(alloc, part, parts)?;
-            Ok(RoundEnd::Spent { parts: all })
+    let mut scenario = Scenario::new(alloc);
+    for cell in 0..cells {
+        if valuation.value(cell + 1) {
+            scenario.insert(cell)?;
         }
     }
-}
-
-// The end of a round whose descent led to a scenario of this class. A copy is one more unit, where one is left.
-fn end_of(class: Class, parts: Vec<Part>, left: u64) -> RoundEnd
-    ensures parts { parts_in result ≡ parts.items }
-    ensures answer { (t : Translated) (pool : List LogStep) (floor : List ℕ) (shown blocked : List (List ℕ)) (budget : ℕ) (minimal : List ℕ)
-        → IsRightClass t.problem floor shown minimal class → ¬ Contains blocked minimal → novel_in t pool parts.items + left ≡ budget
-        → IsRightRound t pool floor shown blocked budget result }
-    ensures stopped { (t : Translated) (pool : List LogStep) (floor : List ℕ) (shown blocked : List (List ℕ)) (minimal : List ℕ)
-        → IsRightClass t.problem floor shown minimal class → ¬ Contains blocked minimal → IsStoppedRound t pool floor shown blocked result }
-    ensures left { left_in result ≤ left }
-{
-    match class {
-        Class::Due(scenario) => RoundEnd::Due { scenario, parts },
-        Class::Copy(scenario) => {
-            if left == 0 {
-                RoundEnd::Spent { parts }
-            } else {
-                RoundEnd::Copy {
-                    scenario,
-                    parts,
-                    left: left - 1,
-                }
-            }
-        }
-    }
-}
-
-// The part before these parts.
-fn led_by(alloc: Global, part: Part, mut others: Vec<Part>) -> Result<Vec<Part>, AllocError>
-    ensures { IfOk result (λ parts. parts.items ≡ part ∷ others.items) }
-{
-    let mut parts = vec![in alloc; part]?;
-    parts.append(&mut others)?;
-    Ok(parts)
+    Ok(scenario)
 }

@@ -1,5 +1,5 @@
 // Sessions.
-ghost use Rattle.std.specs.Prelude.{◌≡◌, ◌≤◌, ◌<◌, ◌+◌, [], List, length, All, Contains, IfOk, OnOk, OnErr};
+ghost use Rattle.std.specs.Prelude.{◌≡◌, ◌⊎◌, ◌≤◌, ◌<◌, ◌+◌, [], List, length, All, Contains, IfOk, OnOk, OnErr};
 ghost use Rattle.refutation_check.specs.declared.log.Step.{Step as LogStep};
 ghost use Rattle.rel_formula.specs.Bounds.{Bounded};
 ghost use Rattle.translation_rules.specs.Imports.{IsImport};
@@ -97,10 +97,11 @@ impl Session {
         in_order(alloc, shown.as_slice())
     }
 
-    /// What the session answers to `next`, `offers` or `augment`, with what stands behind it; the session stays as it is. Whatever
-    /// comes of it, the searches raise the count by no more than the session's budget; and they come upon no copy that the session
-    /// knows at its top floor. It fits the translation's problem, and has shown at most 99,000,000 scenarios. The pool is an accepted
-    /// log over the translation's clauses, of at most 20,000 steps. The error comes only for want of memory.
+    /// What the session answers to a step, with what stands behind it; the session stays as it is. To `next`, `offers` and `augment` it
+    /// answers by searches: whatever comes of it, these raise the count by no more than the session's budget; and they come upon no copy
+    /// that the session knows at its top floor. For them the pool is an accepted log over the translation's clauses, of at most 20,000
+    /// steps. To `back`, `proof` and a budget, which is at most 100,000, it answers without a search. It fits the translation's problem,
+    /// and has shown at most 99,000,000 scenarios. The error comes only for want of memory.
     pub fn propose(
         &mut self,
         alloc: Global,
@@ -111,12 +112,14 @@ impl Session {
     ) -> Result<Proposal, AllocError>
         requires fits { FitsProblem translation.now.problem self.old.kept }
         requires room { length self.old.kept.state.shown ≤ 99000000 }
-        requires import { IsImport translation.now pool.now }
-        requires asked { NeedsTranslation step.now }
-        ensures proposal { IfOk result (IsProposal translation.now pool.now self.old.kept.state step.now) }
+        requires import { NeedsTranslation step.now → IsImport translation.now pool.now }
+        requires asked { NeedsTranslation step.now ⊎ IsPlain step.now }
+        ensures proposal { NeedsTranslation step.now → IfOk result (IsProposal translation.now pool.now self.old.kept.state step.now) }
+        ensures plain { IsPlain step.now → IfOk result (IsPlainProposal self.old.kept.state step.now) }
         ensures same { self.new ≡ self.old }
         ensures new { IfOk result (λ p. All (λ copy. ¬ Contains (copies_at (top_floor self.old.kept.state) self.old.kept) copy) p.copies) }
         ensures spent { count.new ≤ count.old + self.old.kept.state.budget }
+        ensures idle { IsPlain step.now → count.new ≡ count.old }
     {
         match step {
             Step::Next => next(
@@ -131,25 +134,9 @@ impl Session {
             Step::Augment { relation, tuple } => {
                 augment(alloc, &self.kept, translation, pool, relation, tuple, count)
             }
-            Step::Back => unreachable!(),
-            Step::Budget(_) => unreachable!(),
-            Step::Proof => unreachable!(),
-        }
-    }
-
-    /// What the session answers to `back`, `proof`, or a budget of at most 100,000; the session stays as it is. The error comes
-    /// only for want of memory.
-    pub fn propose_plain(&self, alloc: Global, step: &Step) -> Result<Proposal, AllocError>
-        requires { IsPlain step.now }
-        ensures { IfOk result (IsPlainProposal self.now.kept.state step.now) }
-    {
-        match step {
             Step::Back => Ok(leave(alloc, &self.kept)),
             Step::Budget(budget) => Ok(set(alloc, *budget)),
             Step::Proof => prove(alloc, &self.kept),
-            Step::Next => unreachable!(),
-            Step::Offers => unreachable!(),
-            Step::Augment { .. } => unreachable!(),
         }
     }
 

@@ -46,7 +46,7 @@ pub propose-requires-clause-import : goal.propose-requires-clause-import
 propose-requires-clause-import g c =
     let t = c.args.translation.now in
     let pool = (c.in_ok-import.ensures.imported t (subst (λ (k : ℕ). IsPublished c.args.pass.now.view.seen k t) (sym c.key-key.ensures) c.requires.published)).1 in
-    record { accepted = pool.accepted; few = pool.limits.few_steps }
+    λ needs. record { accepted = pool.accepted; few = pool.limits.few_steps }
 
 pub share_parts-requires-clause-imported : goal.share_parts-requires-clause-imported
 share_parts-requires-clause-imported g c =
@@ -60,7 +60,7 @@ share_parts-requires-clause-few g c =
     (c.in_ok-import.ensures.imported t (subst (λ (k : ℕ). IsPublished c.args.pass.now.view.seen k t) (sym c.key-key.ensures) c.requires.published)).1.limits.few_steps
 
 pub share_parts-requires-clause-searched : goal.share_parts-requires-clause-searched
-share_parts-requires-clause-searched g c = subst (AreSearched c.args.translation.now c.import.new.have) (sym c.parts.ensures) c.in_ok-proposal.ensures.proposal.work.searched
+share_parts-requires-clause-searched g c = subst (AreSearched c.args.translation.now c.import.new.have) (sym c.parts.ensures) (c.in_ok-proposal.ensures.proposal c.requires.asked).work.searched
 
 pub returns-in_err-share_parts-clause-goes : goal.returns-in_err-share_parts-clause-goes
 returns-in_err-share_parts-clause-goes g c = went_then c.args.lock.now c.args.pass.now c.import.new.pass c.share_parts.new.pass c.in_ok-import.ensures.goes c.in_err-share_parts.ensures.goes
@@ -119,4 +119,7 @@ returns-clause-proposal g c =
     let imported = subst (λ (k : ℕ). HasImported d.view.seen a.view.number k t pool) c.key-key.ensures (subst (λ (n : ℕ). HasImported d.view.seen n c.key-key.result t pool) number c.in_ok-share_parts.ensures.imported) in
     let shared = subst (All (Shares d a.view.number c.args.session.now.key t pool)) c.parts.ensures
     (subst (λ (k : ℕ). All (Shares d a.view.number k t pool) c.parts.result.now) c.key-key.ensures (subst (λ (n : ℕ). All (Shares d n c.key-key.result t pool) c.parts.result.now) number c.in_ok-share_parts.ensures.shared)) in
-    proposed_by_search t d a.view.number c.args.session.now c.args.step.now c.in_ok-proposal.proposal pool one whole c.in_ok-proposal.ensures.proposal imported shared
+    proposed_by_search t d a.view.number c.args.session.now c.args.step.now c.in_ok-proposal.proposal pool one whole (c.in_ok-proposal.ensures.proposal c.requires.asked) imported shared
+
+pub propose-requires-clause-asked : goal.propose-requires-clause-asked
+propose-requires-clause-asked g c = inl c.requires.asked

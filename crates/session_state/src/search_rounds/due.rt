@@ -1,45 +1,53 @@
-// What a minimal scenario is to a session: due and new, or a copy of one that was shown.
+// Where a minimal scenario leads: to one that is due and new, or to a copy of one that was shown.
 ghost use Rattle.std.specs.Prelude.{◌≡◌, ◌↔◌, Contains, IsTrue, IfOk};
 ghost use Rattle.rel_formula.specs.Instance.{IsMinimalAbove};
 ghost use Rattle.rel_formula.specs.Renaming.{IsSymmetric};
-ghost use Rattle.session_state.specs.Rounds.Classes.{IsRightClass};
+ghost use Rattle.session_state.specs.Rounds.Rounds.{parts_in};
+ghost use Rattle.session_state.specs.Rounds.Descended.{IsDueOrCopy};
 
+use crate::search_rounds::round::RoundEnd;
+use refutation_check::Part;
 use rel_formula::{Problem, Scenario};
 use std::alloc::{AllocError, Global};
 use swap_symmetry::{is_settled_beside, settle_beside};
 
-/// What a minimal scenario is to a session.
-#[derive(Drop)]
-pub(crate) enum Class {
-    /// It, or a renaming of it that keeps the floor's atoms, is this scenario, which is due and was not shown.
-    Due(Scenario),
-    /// It is this one, and such a renaming of it was shown.
-    Copy(Scenario),
-}
-
-/// Whether a scenario that is minimal above the floor and was not shown leads to one to be shown, or is a copy of one that was.
-pub(crate) fn class_of(
+/// The end of a round with these parts, which came to a scenario that is minimal above the floor and was not shown. It, or a renaming
+/// of it that keeps the floor's atoms, is due and was not shown; or such a renaming of it was shown. A copy is one more unit,
+/// where one is left.
+pub(crate) fn due_or_copy(
     alloc: Global,
     problem: &Problem,
     floor: &Scenario,
     shown: &[Scenario],
     scenario: Scenario,
-) -> Result<Class, AllocError>
+    parts: Vec<Part>,
+    left: u64,
+) -> Result<RoundEnd, AllocError>
     requires symmetric { IsSymmetric problem.now }
     requires minimal { IsMinimalAbove problem.now floor.now scenario }
     requires new { ¬ Contains shown.now scenario }
-    ensures { IfOk result (IsRightClass problem.now floor.now shown.now scenario) }
+    ensures { IfOk result (λ end. (parts_in end ≡ parts.items) × IsDueOrCopy problem.now floor.now shown.now scenario left end) }
 {
     if is_settled_beside(problem, floor, &scenario) {
-        return Ok(Class::Due(scenario));
+        return Ok(RoundEnd::Due { scenario, parts });
     }
     let mut settled = scenario.copy(alloc)?;
     settle_beside(problem, floor, &mut settled);
-    if is_among(shown, &settled) {
-        Ok(Class::Copy(scenario))
-    } else {
-        Ok(Class::Due(settled))
+    if !is_among(shown, &settled) {
+        return Ok(RoundEnd::Due {
+            scenario: settled,
+            parts,
+        });
     }
+    if left == 0 {
+        return Ok(RoundEnd::Spent { parts });
+    }
+    let left = left - 1;
+    Ok(RoundEnd::Copy {
+        scenario,
+        parts,
+        left,
+    })
 }
 
 // Whether the scenario is one of these.

@@ -1,8 +1,8 @@
-use Rattle.std.proofs.Common.{◌≡◌, ◌≢◌, true, false, ℕ, List, get_or, length, Contains, refl, sym, ◌∙◌, ap, arith}
+use Rattle.std.proofs.Common.{◌≡◌, ◌≢◌, true, false, ℕ, List, refl, sym, ◌∙◌, arith}
 use Rattle.std.proofs.lemmas.List.{get_or_default}
 use Rattle.std.proofs.lemmas.List.Elements.{All-contains}
 use Rattle.tuple_core.proofs.Steps.{all_step, all_done}
-use Rattle.session_state.proofs.search_rounds.classes.is_among.Goals as goal
+use Rattle.session_state.proofs.search_rounds.due.is_among.Goals as goal
 
 pub returns-then-is_same : goal.returns-then-is_same
 returns-then-is_same c =

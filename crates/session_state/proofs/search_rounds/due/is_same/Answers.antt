@@ -1,7 +1,7 @@
-use Rattle.std.proofs.Common.{◌≡◌, List, sym, ◌∙◌, ℕ}
+use Rattle.std.proofs.Common.{sym, ◌∙◌}
 use Rattle.std.proofs.lemmas.Bool.Decides.{Decides-eqb}
 use Rattle.std.proofs.lemmas.Slice.Eq.{slice_eq-Decides}
-use Rattle.session_state.proofs.search_rounds.classes.is_same.Goals as goal
+use Rattle.session_state.proofs.search_rounds.due.is_same.Goals as goal
 
 pub returns : goal.returns
 returns c =

@@ -1,8 +1,8 @@
-use Rattle.std.proofs.Common.{◌≡◌, ◌<◌, ◌≤◌, ◌+◌, ◌∙◌, ℕ, List, AllPairs, sym, subst, ap, arith}
+use Rattle.std.proofs.Common.{◌<◌, ◌+◌, ◌∙◌, AllPairs, sym, subst, arith}
 use Rattle.cnf_core.specs.Valuation.{value_of}
 use Rattle.minimiser.proofs.Cells.{Chosen, chosen_none, chosen_in, chosen_out}
-use Rattle.session_state.proofs.search_rounds.search.scenario_in.Goals.{then-value+in_ok-insert, else-value}
-use Rattle.session_state.proofs.search_rounds.search.scenario_in.Goals as goal
+use Rattle.session_state.proofs.search_rounds.round.scenario_in.Goals.{then-value+in_ok-insert, else-value}
+use Rattle.session_state.proofs.search_rounds.round.scenario_in.Goals as goal
 
 pub loop-cell-init : goal.loop-cell-init
 loop-cell-init c = subst (Chosen (value_of c.args.valuation.now) 0) (sym c.new-scenario.ensures) (chosen_none (value_of c.args.valuation.now))
