@@ -11,7 +11,7 @@ returns-clause-fits c =
     let same = sym c.in_ok-proposal.ensures.same in
     let before = subst (λ (x : InSession). FitsProblem t.problem x.kept) same c.requires.fits in
     let fits = fits_still t.problem c.propose.new.self.kept c.reserve.new.self.kept c.reserve.ensures.state c.reserve.ensures.copies before in
-    let asked = subst (λ (x : InSession). IsProposal t c.new-pool.result x.kept.state c.args.step c.in_ok-proposal.proposal) same c.in_ok-proposal.ensures.proposal in
+    let asked = subst (λ (x : InSession). IsProposal t c.new-pool.result x.kept.state c.args.step c.in_ok-proposal.proposal) same (c.in_ok-proposal.ensures.proposal c.requires.step) in
     c.apply.ensures.fits t c.new-pool.result c.args.step fits
     (subst (λ (s : State). IsProposal t c.new-pool.result s c.args.step c.in_ok-proposal.proposal) (sym c.reserve.ensures.state) asked)
 
