@@ -10,4 +10,5 @@ mod session;
 
 pub use crate::session_search::answer::Proposal;
 pub use crate::session_search::listing::in_order;
+pub use crate::session_search::plain::needs_translation;
 pub use crate::session_search::session::Session;

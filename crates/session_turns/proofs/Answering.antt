@@ -11,6 +11,8 @@ use Rattle.rel_formula.specs.Bounds.{Bounded}
 use Rattle.translation_rules.specs.Translation.{Translated}
 use Rattle.session_words.specs.declared.steps.Step.{Step}
 use Rattle.session_words.specs.declared.steps.Step.TheVariants.{Next, Offers, Augment, Back, Budget, Proof}
+use Rattle.session_words.specs.declared.commands.Command.TheVariants.{Step as ToStep}
+use Rattle.script_format.specs.Limits.{IsAllowed}
 use Rattle.session_rules.specs.States.{State, Start}
 use Rattle.session_rules.specs.Steps.{Exchange, MayAnswer, MachineRun, state_after}
 use Rattle.session_rules.specs.Transcripts.{is_memory, without_memory}
@@ -21,7 +23,7 @@ use Rattle.session_rules.specs.declared.answers.Refusal.TheVariants.{NoInstance}
 use Rattle.session_rules.specs.declared.answers.Reply.TheVariants.{End, Refused, Memory}
 use Rattle.session_rules.proofs.Runs.{states_join, runs_joined}
 use Rattle.session_state.specs.Sessions.Fits.{InSession}
-use Rattle.session_state.specs.Sessions.Proposed.{Proposed, IsProposal, IsPlainProposal, NeedsTranslation}
+use Rattle.session_state.specs.Sessions.Proposed.{Proposed, IsProposal, IsPlain, IsPlainProposal, NeedsTranslation}
 use Rattle.session_turns.specs.Serving.{IsOn}
 use Rattle.session_turns.proofs.Stepping.{on_wider, plain_ok}
 use Rattle.hub_state.specs.Journal.Noted.{Note, Noted, Imported, Shared, Opened, Recorded}
@@ -32,6 +34,7 @@ use Rattle.hub_turns.proofs.Grouping.{recorded_by, groups_record}
 use Rattle.hub_turns.proofs.OwnEntries.{own_replay, published_grows}
 use Rattle.hub_turns.specs.Turned.{IsIdle, WentOn, HasAdded, MayAdd}
 use Rattle.session_turns.specs.Added.{HasAddedAll, HasBegun, HasProposed, HasSettled, HasAnswered}
+use Rattle.session_turns.specs.Allowed.{cost_of_step}
 use Rattle.session_turns.specs.Seated.{IsSeated}
 use Rattle.hub_turns.proofs.Onward.{same_number, same_problems}
 use Rattle.session_turns.proofs.Turning.{Seen, noted, added_none, added_then}
@@ -237,6 +240,32 @@ IsPlainStep Back = Unit {0}
 IsPlainStep (Budget budget) = Unit {0}
 IsPlainStep Proof = Unit {0}
 IsPlainStep step = ⊥
+
+-- no search answers a step that doesn't need the translation
+pub plain_step : (step : Step) → ¬ NeedsTranslation step → IsPlainStep step
+plain_step Back none = tt
+plain_step (Budget budget) none = tt
+plain_step Proof none = tt
+plain_step Next none = absurd (none tt)
+plain_step Offers none = absurd (none tt)
+plain_step (Augment relation tuple) none = absurd (none tt)
+
+pub plain_where_allowed : (step : Step) → ¬ NeedsTranslation step → IsAllowed (ToStep step) → IsPlain step
+plain_where_allowed Back none allowed = tt
+plain_where_allowed (Budget budget) none allowed = allowed
+plain_where_allowed Proof none allowed = tt
+plain_where_allowed Next none allowed = absurd (none tt)
+plain_where_allowed Offers none allowed = absurd (none tt)
+plain_where_allowed (Augment relation tuple) none allowed = absurd (none tt)
+
+-- a step that a search answers may cost the budget
+pub searched_costs : (budget : ℕ) (step : Step) → NeedsTranslation step → cost_of_step budget step ≡ budget
+searched_costs budget Next asked = refl
+searched_costs budget Offers asked = refl
+searched_costs budget (Augment relation tuple) asked = refl
+searched_costs budget Back asked = absurd asked
+searched_costs budget (Budget other) asked = absurd asked
+searched_costs budget Proof asked = absurd asked
 
 nothing_before : (step : Step) (key : ℕ) → IsPlainStep step → IsBeforeRecord step key []
 nothing_before Back key plain = refl

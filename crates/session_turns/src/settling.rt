@@ -66,10 +66,10 @@ fn recorded<R: Wait>(
     ensures owner { session.new.owner ≡ session.old.owner }
     ensures key { session.new.key ≡ session.old.key }
 {
-    let reply = proposal.reply().copy(alloc)?;
-    let kept = proposal.reply().copy(alloc)?;
-    let asked = step.copy(alloc)?;
     session.reserve(proposal)?;
+    let asked = step.copy(alloc)?;
+    let kept = proposal.reply().copy(alloc)?;
+    let reply = proposal.reply().copy(alloc)?;
     record_step(rt, lock, pass, asked, kept)?;
     Ok(reply)
 }

@@ -25,7 +25,7 @@ use session_rules::laws::{
     a_run_is_sound, memory_changes_nothing, nothing_done_is_work, one_floor_is_asked_for,
 };
 use session_state::search_rounds::StepCount;
-use session_state::session_search::{Proposal, Session};
+use session_state::session_search::{Proposal, Session, needs_translation};
 use session_words::Step;
 use std::alloc::{AllocError, Global};
 use std::sync::Wait;
@@ -101,8 +101,8 @@ fn proposed<R: Wait>(
     ensures spent { count.new ≤ count.old + cost_of_step session.old.kept.state.budget step.now }
 {
     nothing_done_is_work();
-    match step {
-        Step::Next => searched(
+    if needs_translation(step) {
+        return searched(
             rt,
             alloc,
             lock,
@@ -112,33 +112,9 @@ fn proposed<R: Wait>(
             translation,
             step,
             count,
-        ),
-        Step::Offers => searched(
-            rt,
-            alloc,
-            lock,
-            pass,
-            session,
-            pool,
-            translation,
-            step,
-            count,
-        ),
-        Step::Augment { .. } => searched(
-            rt,
-            alloc,
-            lock,
-            pass,
-            session,
-            pool,
-            translation,
-            step,
-            count,
-        ),
-        Step::Back => session.propose(alloc, translation, pool, step, count),
-        Step::Budget(_) => session.propose(alloc, translation, pool, step, count),
-        Step::Proof => session.propose(alloc, translation, pool, step, count),
+        );
     }
+    session.propose(alloc, translation, pool, step, count)
 }
 
 // What the session proposes for a step that a search answers: what came into the key's pool since it imported last is imported

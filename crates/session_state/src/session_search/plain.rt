@@ -1,13 +1,27 @@
 // The steps that are answered without a search.
-ghost use Rattle.std.specs.Prelude.{◌≤◌, IfOk};
+ghost use Rattle.std.specs.Prelude.{◌≤◌, ◌↔◌, IfOk, IsTrue};
 ghost use Rattle.session_rules.specs.States.{State};
-ghost use Rattle.session_state.specs.Sessions.Proposed.{IsPlainProposal};
+ghost use Rattle.session_state.specs.Sessions.Proposed.{IsPlainProposal, NeedsTranslation};
 
 use crate::session_search::answer::{Proposal, at_once};
 use crate::session_store::SessionStore;
 use session_rules::{Refusal, Reply};
 use session_words::Step;
 use std::alloc::{AllocError, Global};
+
+/// Whether a session answers the step by searches over the translation, as it does `next`, `offers` and `augment`.
+pub fn needs_translation(step: &Step) -> bool
+    ensures { IsTrue result ↔ NeedsTranslation step.now }
+{
+    match step {
+        Step::Next => true,
+        Step::Offers => true,
+        Step::Augment { .. } => true,
+        Step::Back => false,
+        Step::Budget(_) => false,
+        Step::Proof => false,
+    }
+}
 
 /// What a session proposes where it is to leave the top floor.
 pub(crate) fn leave(alloc: Global, store: &SessionStore) -> Proposal
