@@ -1,22 +1,23 @@
 -- Outcomes of the things of a list, with one more.
-use Rattle.std.proofs.Common.{◌≡◌, ℕ, ◌+◌, ◌<◌, ◌≤◌, List, [], ◌∷◌, ◌++◌, map, length, take, get_or, Result, Ok, Err, refl, sym, ap, ◌∙◌, inl, inr}
+use Rattle.std.proofs.Common.{◌≡◌, ◌≢◌, ℕ, ◌+◌, ◌<◌, ◌≤◌, List, [], ◌∷◌, ◌++◌, map, length, take, get_or, Result, Ok, Err, refl, sym, ap, ◌∙◌, inl, inr}
 use Rattle.std.proofs.lemmas.List.{map-append, map_push, take_more, take_all}
 use Rattle.model_types.specs.declared.fault.TypeFault.{TypeFault}
+use Rattle.model_types.specs.declared.fault.TypeFault.TheVariants.{Memory}
 use Rattle.overload_resolution.specs.Settling.Told.{Gives}
-use Rattle.alloy_types.specs.Outcomes.{IsOutcome, outcome_view}
+use Rattle.alloy_types.specs.Outcomes.{outcome_view}
 
--- an outcome is the definition's answer
-pub outcome_is : {X Y : Type 0} (see : X → Y) (answer outcome : Result X TypeFault) (read : Result Y TypeFault) → IsOutcome answer outcome → Gives see answer read → outcome_view see outcome ≡ read
-outcome_is see (Ok x) outcome read is gives = ap (outcome_view see) is.0 ∙ sym gives
-outcome_is see (Err e) outcome read is (inl memory) = absurd (is.1 (is.0 ∙ ap Err memory))
-outcome_is see (Err e) outcome read is (inr told) = ap (outcome_view see) is.0 ∙ sym told
+-- an outcome that is no want of memory is the definition's answer
+pub outcome_is : {X Y : Type 0} (see : X → Y) (outcome : Result X TypeFault) (read : Result Y TypeFault) → outcome ≢ Err Memory → Gives see outcome read → outcome_view see outcome ≡ read
+outcome_is see (Ok x) read none gives = sym gives
+outcome_is see (Err e) read none (inl memory) = absurd (none (ap Err memory))
+outcome_is see (Err e) read none (inr told) = sym told
 
 same_view : {X : Type 0} (r : Result X TypeFault) → outcome_view (λ x. x) r ≡ r
 same_view (Ok x) = refl
 same_view (Err e) = refl
 
-pub outcome_same : {X : Type 0} (answer outcome read : Result X TypeFault) → IsOutcome answer outcome → Gives (λ x. x) answer read → outcome ≡ read
-outcome_same answer outcome read is gives = sym (same_view outcome) ∙ outcome_is (λ x. x) answer outcome read is gives
+pub outcome_same : {X : Type 0} (outcome read : Result X TypeFault) → outcome ≢ Err Memory → Gives (λ x. x) outcome read → outcome ≡ read
+outcome_same outcome read none gives = sym (same_view outcome) ∙ outcome_is (λ x. x) outcome read none gives
 
 module _ {X V R : Type 0} (see : X → V) (f : V → R) where
   pub found_more : (all : List X) (i : ℕ) (x : X) (found new : List R) (r : R) → i < length all → x ≡ get_or all i x → found ≡ map f (map see (take i all)) → new ≡ found ++ r ∷ [] → r ≡ f (see x)

@@ -3,7 +3,7 @@ use Rattle.std.proofs.Common.{◌≡◌, ℕ, zero, suc, ◌+◌, ◌-◌, ◌<�
 use Rattle.std.specs.List.{slice_get, slice_index_or}
 use Rattle.std.proofs.lemmas.Bool.{cases_lt}
 use Rattle.std.specs.Option.{option_map}
-use Rattle.std.proofs.lemmas.Option.{slice_get-map}
+use Rattle.std.proofs.lemmas.Option.{slice_get-map, slice_get-get_or, slice_get_past}
 use Rattle.std.proofs.lemmas.List.{take-map, drop-map, drop_more, drop_all}
 use Rattle.named_model.specs.Phrase.{DomainTree}
 use Rattle.named_model.specs.declared.named.Part.TheVariants as part
@@ -39,6 +39,13 @@ checked_in f (Some x) = refl
 pub fault_is : {X Y V : Type 0} (see : X → Y) (f : V → Result Y TypeFault) (rs : List (Result X TypeFault)) (xs : List V) (n : ℕ) → map (outcome_view see) rs ≡ map f xs → fault_at rs n ≡ checked_at f xs n
 fault_is see f rs xs n are =
     sym (fault_seen see (slice_get rs n)) ∙ ap fault_in (sym (slice_get-map (outcome_view see) rs n) ∙ ap (λ qs. slice_get qs n) are ∙ slice_get-map f xs n) ∙ checked_in f (slice_get xs n)
+
+-- the outcome of a number that there is, and of one past all
+pub fault_there : {X : Type 0} (rs : List (Result X TypeFault)) (n : ℕ) (r : Result X TypeFault) → r ≡ get_or rs n r → n < length rs → checked r ≡ fault_at rs n
+fault_there rs n r is l = ap fault_in (ap Some is ∙ sym (slice_get-get_or rs n r l))
+
+pub fault_past : {X : Type 0} (rs : List (Result X TypeFault)) (n : ℕ) → length rs ≤ n → Ok tt ≡ fault_at rs n
+fault_past rs n l = ap fault_in (sym (slice_get_past rs n l))
 
 -- ---- commands have the faults of what they run or check
 

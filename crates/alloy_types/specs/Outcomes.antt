@@ -1,10 +1,9 @@
 -- What checking gives of each thing that a model declares: the thing with its shared names settled, or its fault.
-use Rattle.std.specs.Prelude.{◌≡◌, ◌≢◌, ℕ, List, [], ◌∷◌, map, slice_get, Some, None, Result, Ok, Err}
+use Rattle.std.specs.Prelude.{◌≡◌, ℕ, List, [], ◌∷◌, map, slice_get, Some, None, Result, Ok, Err}
 use Rattle.named_model.specs.Model.{TargetTree, CommandTree, NamedTree}
 use Rattle.named_model.specs.View.{callee_view, formulas_view, target_view}
 use Rattle.named_model.specs.Answers.{◌>>=◌}
 use Rattle.model_types.specs.declared.fault.TypeFault.{TypeFault}
-use Rattle.model_types.specs.declared.fault.TypeFault.TheVariants.{Memory}
 use Rattle.model_types.specs.Sorts.{Checked}
 use Rattle.model_types.specs.Typing.{Declared, formulas_settled}
 use Rattle.model_types.specs.Models.{field_checked, callee_settled, target_settled, checked}
@@ -14,10 +13,6 @@ use Rattle.alloy_types.specs.declared.outcomes.Outcomes.{Outcomes}
 abbrev pub outcome_view : {X Y : Type 0} → (X → Y) → Result X TypeFault → Result Y TypeFault
 outcome_view see (Ok x) = Ok (see x)
 outcome_view see (Err e) = Err e
-
--- what was answered, if that is no want of memory
-abbrev pub IsOutcome : {X : Type 0} → Result X TypeFault → Result X TypeFault → Type 0
-IsOutcome answer outcome = (outcome ≡ answer) × (outcome ≢ Err Memory)
 
 -- the outcomes of a model's fields, predicates and functions, facts, assertions, and of what its commands run or check
 pub record AreOutcomes (m : NamedTree) (d : Declared) (o : Outcomes) : Type 0 where

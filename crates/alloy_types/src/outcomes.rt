@@ -1,12 +1,13 @@
 // What checking gives of each thing that a model declares.
-ghost use Rattle.std.specs.Prelude.{◌≡◌, [], map, IfOk};
+ghost use Rattle.std.specs.Prelude.{◌≡◌, ◌≢◌, ◌++◌, [], ◌∷◌, map, Err, IfOk, OnOk};
 ghost use Rattle.named_model.specs.Model.{NamedTree, CommandTree};
 ghost use Rattle.named_model.specs.View.{field_view, callee_view, formulas_view, target_view, command_view, named_view};
+ghost use Rattle.model_types.specs.declared.fault.TypeFault.TheVariants.{Memory};
 ghost use Rattle.model_types.specs.Typing.{formulas_settled};
 ghost use Rattle.model_types.specs.Models.{field_checked, callee_settled, target_settled, declared_in};
 ghost use Rattle.overload_resolution.specs.Settling.Told.{Gives};
 ghost use Rattle.overload_resolution.specs.Scopes.Declaring.{declared_by, AreTables};
-ghost use Rattle.alloy_types.specs.Outcomes.{AreOutcomes, IsOutcome, outcome_view};
+ghost use Rattle.alloy_types.specs.Outcomes.{AreOutcomes, outcome_view};
 
 use crate::callees::callee_settled;
 use crate::commands::target_settled;
@@ -34,11 +35,24 @@ pub fn outcomes_of(alloc: Global, model: &Named) -> Result<Outcomes, AllocError>
 {
     let mut scope = Scope::new(alloc);
     let setting = declared(alloc, &mut scope, model)?;
-    let fields = of_fields(alloc, &setting, &mut scope, &model.fields)?;
-    let callees = of_callees(alloc, &setting, &mut scope, &model.callees)?;
-    let facts = of_formulas(alloc, &setting, &mut scope, &model.facts)?;
-    let assertions = of_formulas(alloc, &setting, &mut scope, &model.assertions)?;
-    let targets = of_commands(alloc, &setting, &mut scope, &model.callees, &model.commands)?;
+    outcomes_over(alloc, &setting, &mut scope, model)
+}
+
+// The outcomes of a model over what is declared.
+fn outcomes_over(
+    alloc: Global,
+    setting: &Setting,
+    scope: &mut Scope,
+    model: &Named,
+) -> Result<Outcomes, AllocError>
+    requires { AreTables setting.now }
+    ensures { IfOk result (AreOutcomes (named_view model.now) (declared_by setting.now)) }
+{
+    let fields = of_fields(alloc, setting, scope, &model.fields)?;
+    let callees = of_callees(alloc, setting, scope, &model.callees)?;
+    let facts = of_formulas(alloc, setting, scope, &model.facts)?;
+    let assertions = of_formulas(alloc, setting, scope, &model.assertions)?;
+    let targets = of_commands(alloc, setting, scope, &model.callees, &model.commands)?;
     Ok(Outcomes {
         fields,
         callees,
@@ -60,8 +74,8 @@ fn of_fields(
 {
     let mut found = Vec::new(alloc);
     for field in fields {
-        let outcome = unless_memory(field_checked(alloc, setting, scope, field))?;
-        found.push(outcome)?;
+        let outcome = field_checked(alloc, setting, scope, field);
+        push_outcome(&mut found, outcome)?;
     }
     Ok(found)
 }
@@ -77,8 +91,8 @@ fn of_callees(
 {
     let mut found = Vec::new(alloc);
     for callee in callees {
-        let outcome = unless_memory(callee_settled(alloc, setting, scope, callee))?;
-        found.push(outcome)?;
+        let outcome = callee_settled(alloc, setting, scope, callee);
+        push_outcome(&mut found, outcome)?;
     }
     Ok(found)
 }
@@ -94,8 +108,8 @@ fn of_formulas(
 {
     let mut found = Vec::new(alloc);
     for block in blocks {
-        let outcome = unless_memory(block_settled(alloc, setting, scope, block))?;
-        found.push(outcome)?;
+        let outcome = block_settled(alloc, setting, scope, block);
+        push_outcome(&mut found, outcome)?;
     }
     Ok(found)
 }
@@ -112,14 +126,8 @@ fn of_commands(
 {
     let mut found = Vec::new(alloc);
     for command in commands {
-        let outcome = unless_memory(target_settled(
-            alloc,
-            setting,
-            scope,
-            callees,
-            &command.target,
-        ))?;
-        found.push(outcome)?;
+        let outcome = target_settled(alloc, setting, scope, callees, &command.target);
+        push_outcome(&mut found, outcome)?;
     }
     Ok(found)
 }
@@ -140,12 +148,16 @@ fn block_settled(
     })
 }
 
-// An outcome, which is no want of memory.
-fn unless_memory<T: Drop>(outcome: Result<T, TypeFault>) -> Result<Result<T, TypeFault>, AllocError>
-    ensures { IfOk result (IsOutcome outcome) }
+// An outcome more, which is no want of memory.
+fn push_outcome<T: Drop>(
+    found: &mut Vec<Result<T, TypeFault>>,
+    outcome: Result<T, TypeFault>,
+) -> Result<(), AllocError>
+    ensures pushed { OnOk result (found.new.items ≡ found.old.items ++ outcome ∷ []) }
+    ensures outcome { OnOk result (outcome ≢ Err Memory) }
 {
     if matches!(outcome, Err(TypeFault::Memory)) {
         return Err(AllocError);
     }
-    Ok(outcome)
+    Ok(found.push(outcome)?)
 }

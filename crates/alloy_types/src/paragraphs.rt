@@ -2,7 +2,7 @@
 ghost use Rattle.std.specs.Prelude.{◌≡◌, drop, take};
 ghost use Rattle.named_model.specs.Model.{NamedTree};
 ghost use Rattle.model_types.specs.Typing.{Declared};
-ghost use Rattle.model_types.specs.Models.{part_checked, parts_checked};
+ghost use Rattle.model_types.specs.Models.{checked, part_checked, parts_checked};
 ghost use Rattle.alloy_types.specs.Outcomes.{AreOutcomes, first_fault, fault_at};
 
 use crate::outcomes::Outcomes;
@@ -52,7 +52,16 @@ fn fault_at<T>(outcomes: &[Result<T, TypeFault>], number: usize) -> Result<(), T
     ensures { result ≡ fault_at outcomes.now number }
 {
     match outcomes.get(number) {
-        Some(Err(fault)) => Err(*fault),
-        _ => Ok(()),
+        Some(outcome) => fault_of(outcome),
+        None => Ok(()),
+    }
+}
+
+fn fault_of<T>(outcome: &Result<T, TypeFault>) -> Result<(), TypeFault>
+    ensures { result ≡ checked outcome.now }
+{
+    match outcome {
+        Ok(_) => Ok(()),
+        Err(fault) => Err(*fault),
     }
 }

@@ -1,8 +1,9 @@
 -- Links of chains and steps of paths, one before the others.
-use Rattle.std.proofs.Common.{◌≡◌, ℕ, List, refl, sym, ap, Bool, true, false, if◌then◌else◌}
+use Rattle.std.proofs.Common.{◌≡◌, ℕ, List, ◌∷◌, map, refl, sym, ap, ◌∙◌, Bool, true, false, if◌then◌else◌}
+use Rattle.alloy_syntax.specs.declared.tree.Operator.{Operator}
 use Rattle.named_model.specs.declared.phrase.Link.{Link, fold_out-Link}
 use Rattle.named_model.specs.View.{link_view, phrase_level, step_level, domain_level, link_level}
-use Rattle.named_model.specs.Phrase.{PhraseTree, DomainTree, LinkTree, LinkTrees, more_links, StepTree, StepTrees, joined, in_brackets, step_first}
+use Rattle.named_model.specs.Phrase.{PhraseTree, DomainTree, LinkTree, LinkTrees, more_links, links_of, StepTree, StepTrees, joined, in_brackets, step_first}
 use Rattle.rel_formula.specs.Kernel.{more_formulas}
 use Rattle.lowering_rules.specs.Binders.{Local}
 use Rattle.lowering_rules.specs.Parts.{Lowered, formula_in, joins_all, operator_lowered, list_lowered}
@@ -30,6 +31,17 @@ module _ (base : Base) (ls : List Local) (d : ℕ) (x : Lowered) where
 
     pub all_at_once : joins_all y.operator ≡ true → list_lowered y.operator (more_formulas (formula_in x) (operands_lowered base ls d (link_first y rest))) ≡ links_lowered base ls d x (link_first y rest)
     all_at_once e = sym (ap chosen e)
+
+  -- and so it is of a list of links
+  pub listed : (y : Link) (ys all : List Link) → all ≡ y ∷ ys → joins_all y.operator ≡ true
+      → list_lowered y.operator (more_formulas (formula_in x) (operands_lowered base ls d (links_of (map link_view all)))) ≡ links_lowered base ls d x (links_of (map link_view all))
+  listed y ys all is e =
+      let seen = operator_seen y in
+      let rest = links_of (map link_view ys) in
+      ap (λ (zs : List Link). list_lowered y.operator (more_formulas (formula_in x) (operands_lowered base ls d (links_of (map link_view zs))))) is
+      ∙ ap (λ (o : Operator). list_lowered o (more_formulas (formula_in x) (operands_lowered base ls d (link_first (link_view y) rest)))) (sym seen)
+      ∙ all_at_once (link_view y) rest (ap joins_all seen ∙ e)
+      ∙ ap (λ (zs : List Link). links_lowered base ls d x (links_of (map link_view zs))) (sym is)
 
   pub step_by_step : (s : StepTree) (rest : StepTrees) → steps_lowered base ls d (step_lowered base ls d x s) rest ≡ steps_lowered base ls d x (step_first s rest)
   step_by_step (joined p y) rest = refl

@@ -3,3 +3,4 @@ pub mod Steps
 pub mod Kernel
 pub mod Nodes
 pub mod Copies
+pub mod Lowers

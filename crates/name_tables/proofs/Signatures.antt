@@ -1,3 +1,4 @@
 pub mod Lookups
 pub mod Gaining
 pub mod BoundOperands
+pub mod SmallerBounds

@@ -1,12 +1,32 @@
 -- What gates say of the facts that their operands say.
-use Rattle.std.proofs.Common.{ℕ, ◌<◌, ◌⊎◌, inl, inr, Bool, not, ◌&&◌, ◌||◌, IsTrue, length, arith}
-use Rattle.bool_circuit.specs.Network.{Network}
+use Rattle.std.proofs.Common.{ℕ, ◌+◌, ◌<◌, ◌≤◌, ◌⊎◌, inl, inr, Bool, not, ◌&&◌, ◌||◌, IsTrue, length, arith}
+use Rattle.bool_circuit.specs.Network.{Network, size}
 use Rattle.bool_circuit.specs.Value.{value_at, Extends, Stands}
 use Rattle.bool_circuit.proofs.CallerLemmas.{Extends-trans}
 use Rattle.bool_matrix.specs.Cells.{Says}
 use Rattle.bool_matrix.proofs.Edits.{or_says}
 use Rattle.bool_matrix.proofs.Nodes.{and_says, not_true, says_kept, from_stands, within_says}
 use Rattle.bool_matrix.proofs.ComparedEntries.{says_same, says_itself, says_both}
+
+-- a node is there in a circuit that has grown
+pub there_later : (old new : Network) (n : ℕ) → Extends old new → n < length old.shapes → n < length new.shapes
+there_later old new n extends l = let m = extends.longer in omega arith
+
+-- the room for so many gates is room for the first
+pub room_for_one : (a : Network) (k : ℕ) {most : ℕ} → size a + k < most → length a.shapes < most
+room_for_one a k room = omega arith
+
+-- the room for so many gates is room for one behind the first of them
+pub room_behind : (a b : Network) (j k : ℕ) {most : ℕ} → size b ≤ size a + j → size a + (j + k) < most → length b.shapes < most
+room_behind a b j k made room = omega arith
+
+-- one gate more
+pub size_more : (a b c : Network) (j : ℕ) → size b ≤ size a + j → size c ≤ size b + 1 → size c ≤ size a + (j + 1)
+size_more a b c j made one = omega arith
+
+-- so many gates are no more than that and some
+pub size_less : (a b : Network) (j k : ℕ) → size b ≤ size a + j → size b ≤ size a + (j + k)
+size_less a b j k made = omega arith
 
 -- a node says the same in a circuit that has grown
 pub says_later : {old new : Network} {n : ℕ} {F : (ℕ → Bool) → Type 0} → Extends old new → Says old n F → Says new n F

@@ -50,6 +50,10 @@ use Rattle.rel_translate.proofs.Atoms.{upper_atoms}
 pub room_second : (used : ℕ) (C D : Number) → HasRoomFor used (C ⊕ D) → HasRoomFor used D
 room_second used C D h = (h.1.1, h.1.3, (let e = h.1.4 in let l = h.2 in omega arith))
 
+-- the room for a quantifier is room for its domain
+pub domain_first : (p : Bounded) (env : List Atom) (e : ExpressionTree) (q : Quantifier) (f : FormulaTree) (used : ℕ) → HasRoomFor used (FormulaTermsOf p env (quantified q e f)) → HasRoomFor used (TermsOf p env e)
+domain_first p env e q f used room = room_left used (TermsOf p env e) (SumsOver (UpperOf p env e) (AtomHas (upper_structure p) env (each_terms q) f)) room
+
 -- the terms of a list of formulas
 module _ (M : Structure) (env : List Atom) (fs : List Formula) where
   abbrev PartHas : Formula → Number

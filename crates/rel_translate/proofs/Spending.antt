@@ -28,6 +28,13 @@ spends_same to f = record { extends = f.extends; most = λ n d. f.most n (to n d
 pub room_same : (used : ℕ) (C D : Number) → ((n : ℕ) → C n → D n) → HasRoomFor used C → HasRoomFor used D
 room_same used C D to h = (h.0, to h.0 h.1, h.2)
 
+-- with room for some nodes more there is room for those that are there
+pub room_now : (used n : ℕ) → used + 16 * n < 1073741823 → used < 1073741823
+room_now used n room = omega arith
+
+pub room_before : (start used n : ℕ) → used ≤ start → start + 16 * n < 1073741823 → used < 1073741823
+room_before start used n few room = omega arith
+
 pub room_left : (used : ℕ) (C D : Number) → HasRoomFor used (C ⊕ D) → HasRoomFor used C
 room_left used C D h = (h.1.0, h.1.2, (let e = h.1.4 in let l = h.2 in omega arith))
 

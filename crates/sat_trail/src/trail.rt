@@ -45,7 +45,7 @@ pub enum Propagated {
 ///
 /// The open variables wait to be decided, in an order by their activities. A clause that is added raises the activities of
 /// the variables that its step met.
-#[derive(Debug, Drop)]
+#[derive(Debug)]
 pub struct Trail {
     store: Store,
     watches: WatchLists,
@@ -54,6 +54,21 @@ pub struct Trail {
     propagated: usize,
     order: ActivityOrder,
     met_by: Vec<u32>,
+}
+
+// By hand, so that a caller's proof has one step wherever one is dropped.
+impl Drop for Trail {
+    fn drop(self) {
+        let Trail {
+            store: _,
+            watches: _,
+            assignment: _,
+            pending: _,
+            propagated: _,
+            order: _,
+            met_by: _,
+        } = self;
+    }
 }
 
 impl Model for Trail {

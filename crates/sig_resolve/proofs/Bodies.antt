@@ -2,5 +2,8 @@ pub mod Depths
 pub mod Nodes
 pub mod Variables
 pub mod SeenPaths
+pub mod SeenNodes
+pub mod SeenPhrases
+pub mod Arms
 pub mod Steps
 pub mod Calls

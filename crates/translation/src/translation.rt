@@ -65,9 +65,11 @@ impl Translation {
         requires symmetric { IsSymmetric problem }
         ensures { IfOk result (λ t. t.problem ≡ problem) }
     {
-        let made = circuit_of(alloc, &problem)?;
-        let cnf = clauses_of(alloc, &made.circuit, made.node)?;
         let pairs = neighbours(alloc, &problem)?;
+        let cnf = {
+            let made = circuit_of(alloc, &problem)?;
+            clauses_of(alloc, &made.circuit, made.node)?
+        };
         let swaps = clauses_of_pairs(alloc, &problem, cnf.vars(), pairs.as_slice())?;
         Ok(Translation {
             problem,

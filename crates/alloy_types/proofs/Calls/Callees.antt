@@ -1,5 +1,5 @@
 -- Headers and bodies, by the groups of parameters.
-use Rattle.std.proofs.Common.{◌≡◌, ℕ, Bool, ◌||◌, List, [], map, reverse, refl, sym, ap, ◌∙◌, Option}
+use Rattle.std.proofs.Common.{◌≡◌, ℕ, Bool, List, [], map, reverse, refl, sym, ap, ◌∙◌, Option}
 use Rattle.std.proofs.lemmas.List.{append-nil}
 use Rattle.named_model.specs.Phrase.{PhraseTree, DomainTrees}
 use Rattle.named_model.specs.Model.{MeaningTree, formulas, value, CalleeTree}

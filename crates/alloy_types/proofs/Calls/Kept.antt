@@ -1,8 +1,7 @@
 -- Types of calls that are kept.
-use Rattle.std.proofs.Common.{◌≡◌, ℕ, zero, suc, ◌+◌, ◌<◌, ◌≤◌, Bool, true, false, ◌||◌, ◌==◌, nat_le, if◌then◌else◌, List, [], map, length, reverse, replicate, Option, Some, None, Result, Ok, Err, IfSome, refl, sym, ap, ◌∙◌, subst, inl, inr, arith}
+use Rattle.std.proofs.Common.{◌≡◌, ℕ, zero, suc, ◌+◌, ◌<◌, ◌≤◌, Bool, true, false, ◌||◌, ◌==◌, nat_le, if◌then◌else◌, List, [], map, length, reverse, Option, Some, None, Result, Ok, Err, IfSome, refl, sym, ap, ◌∙◌, subst, inl, inr, arith}
 use Rattle.std.specs.List.{slice_get, slice_index_or, list_any}
 use Rattle.std.proofs.lemmas.Bool.{cases_Bool, eqb-true, leb-true}
-use Rattle.named_model.specs.declared.named.Signature.{Signature}
 use Rattle.named_model.specs.Phrase.{PhraseTree}
 use Rattle.named_model.specs.Model.{MeaningTree, formulas, value, CalleeTree, NamedTree}
 use Rattle.model_types.specs.declared.fault.TypeFault.{TypeFault}

@@ -3,7 +3,7 @@ ghost use Rattle.std.specs.Prelude.{◌≡◌, [], ◌++◌, ◌∷◌, map, IfO
 ghost use Rattle.named_model.specs.Signatures.{top_of};
 ghost use Rattle.named_model.specs.View.{field_view, named_view};
 ghost use Rattle.model_types.specs.Bounds.Same.{AreSame};
-ghost use Rattle.overload_resolution.specs.Scopes.Declaring.{declared_by, AreTables};
+ghost use Rattle.overload_resolution.specs.Scopes.Declaring.{declared_by, alone, AreTables};
 ghost use Rattle.overload_resolution.specs.Expressions.Types.{AreEachSame};
 ghost use Rattle.alloy_types.specs.Calls.Fields.{field_type, field_entry};
 ghost use Rattle.alloy_types.specs.Calls.Ready.{HasFields};
@@ -14,41 +14,28 @@ use model_types::bounding_types::operators::operator_type;
 use model_types::part_sorts::bounds::bound_arity;
 use model_types::part_sorts::tables::entry;
 use named_model::named::{Field, Named};
-use overload_resolution::expression_types::Known;
 use overload_resolution::shared_fields::Fields;
 use overload_resolution::typed_scopes::types::type_inside;
 use overload_resolution::typed_scopes::{Locals, Scope, Setting};
 use std::alloc::{AllocError, Global};
 
-// The signatures and fields of a model, and no predicate and no function.
-pub fn fields_known<'a>(
+// Puts the fields of a model with their types, where nothing but its signatures is declared.
+pub fn fields_known(
     alloc: Global,
     scope: &mut Scope,
-    model: &'a Named,
-) -> Result<Setting<'a>, AllocError>
-    ensures fields { IfOk result (λ s. HasFields (named_view model.now) s) }
-    ensures headers { IfOk result (λ s. s.headers.items ≡ []) }
-    ensures bodies { IfOk result (λ s. s.types.bodies.items ≡ []) }
-    ensures kept { IfOk result (λ s. s.types.kept.items ≡ []) }
+    model: &Named,
+    setting: &mut Setting,
+) -> Result<(), AllocError>
+    requires tables { AreTables setting.old }
+    requires declared { declared_by setting.old ≡ alone (named_view model.now).signatures }
+    requires kept { setting.old.types.kept.items ≡ [] }
+    ensures { OnOk result (HasFields (named_view model.now) setting.new) }
 {
-    let setting = Setting::new(alloc, &model.signatures)?;
-    let types = field_types(alloc, &setting, scope, &model.fields)?;
-    let fields = entries(alloc, &setting, &model.fields)?;
-    let known = setting.types;
-    let types = Known {
-        tops: known.tops,
-        over: known.over,
-        fields: types,
-        bodies: known.bodies,
-        kept: known.kept,
-    };
-    Ok(Setting {
-        signatures: setting.signatures,
-        fields,
-        headers: setting.headers,
-        types,
-        calls: setting.calls,
-    })
+    let types = field_types(alloc, setting, scope, &model.fields)?;
+    let fields = entries(alloc, setting, &model.fields)?;
+    setting.types.fields = types;
+    setting.fields = fields;
+    Ok(())
 }
 
 // The type of each field.

@@ -1,5 +1,5 @@
 // What is declared in a model.
-ghost use Rattle.std.specs.Prelude.{◌≡◌, ◌+◌, ◌<◌, ℕ, [], map, length, false, option_map, slice_get, slice_set, replicate, Some, None, IfOk, IfSome};
+ghost use Rattle.std.specs.Prelude.{◌≡◌, ◌+◌, ◌<◌, ℕ, [], map, length, false, option_map, slice_get, slice_set, replicate, Some, None, IfOk, OnOk, IfSome};
 ghost use Rattle.named_model.specs.Model.{CalleeTree};
 ghost use Rattle.named_model.specs.Faults.{callees_of};
 ghost use Rattle.named_model.specs.View.{phrase_view, callee_view, named_view};
@@ -8,7 +8,7 @@ ghost use Rattle.reference_cycles.specs.Cycles.Orders.{IsOrder};
 ghost use Rattle.overload_resolution.specs.Expressions.Types.{bodies_view};
 ghost use Rattle.alloy_types.specs.Headers.Bodies.{body_of};
 ghost use Rattle.alloy_types.specs.Declarations.Same.{AreSameDeclared};
-ghost use Rattle.overload_resolution.specs.Scopes.Declaring.{declared_by, AreTables};
+ghost use Rattle.overload_resolution.specs.Scopes.Declaring.{declared_by, alone, AreTables};
 ghost use Rattle.alloy_types.specs.Calls.Known.{IsHeader, IsKept};
 ghost use Rattle.alloy_types.specs.Calls.Ready.{HasFields, IsReady, AreKept};
 
@@ -18,7 +18,7 @@ use crate::known_callees::kept::{is_asked, kept_type};
 use model_types::part_sorts::Kind;
 use named_model::named::{Callee, Named};
 use named_model::phrase::Phrase;
-use overload_resolution::expression_types::{KeptType, Known};
+use overload_resolution::expression_types::KeptType;
 use overload_resolution::shared_names::Header;
 use overload_resolution::typed_scopes::{Scope, Setting};
 use reference_cycles::number_cycles::order_of;
@@ -37,44 +37,53 @@ pub fn declared<'a>(
     ensures tables { IfOk result (λ s. AreTables s) }
     ensures value { IfOk result (λ s. AreSameDeclared (declared_by s) (declared_in (named_view model.now))) }
 {
-    let rows = rows(alloc, &model.callees)?;
-    let order = order_of(alloc, &rows)?;
-    let setting = fields_known(alloc, scope, model)?;
-    let setting = with_places(alloc, model, setting)?;
+    let mut setting = Setting::new(alloc, &model.signatures)?;
+    put_known(alloc, scope, model, &mut setting)?;
+    Ok(setting)
+}
+
+// Puts what is known of the fields, predicates and functions of a model, where nothing but its signatures is declared.
+fn put_known(
+    alloc: Global,
+    scope: &mut Scope,
+    model: &Named,
+    setting: &mut Setting,
+) -> Result<(), AllocError>
+    requires tables { AreTables setting.old }
+    requires declared { declared_by setting.old ≡ alone (named_view model.now).signatures }
+    requires kept { setting.old.types.kept.items ≡ [] }
+    ensures tables { OnOk result (AreTables setting.new) }
+    ensures value { OnOk result (AreSameDeclared (declared_by setting.new) (declared_in (named_view model.now))) }
+{
+    let order = calls_order(alloc, &model.callees)?;
+    fields_known(alloc, scope, model, setting)?;
+    put_places(alloc, model, setting)?;
     all_known(alloc, scope, model, &order, setting)
 }
 
-// A place for each predicate and function, of which nothing is known yet.
-fn with_places<'a>(
-    alloc: Global,
-    model: &Named,
-    setting: Setting<'a>,
-) -> Result<Setting<'a>, AllocError>
-    requires fields { HasFields (named_view model.now) setting }
-    requires headers { setting.headers.items ≡ [] }
-    requires bodies { setting.types.bodies.items ≡ [] }
-    ensures { IfOk result (λ s. IsReady (named_view model.now) (λ n. false) s) }
+// An order in which what is called comes before its callers.
+fn calls_order(alloc: Global, callees: &[Callee]) -> Result<Vec<usize>, AllocError>
+    ensures { IfOk result (λ order. IsOrder (map callees_of (map callee_view callees.now)) order.items) }
+{
+    let rows = rows(alloc, callees)?;
+    order_of(alloc, &rows)
+}
+
+// Puts a place for each predicate and function, of which nothing is known yet.
+fn put_places(alloc: Global, model: &Named, setting: &mut Setting) -> Result<(), AllocError>
+    requires { HasFields (named_view model.now) setting.old }
+    ensures { OnOk result (IsReady (named_view model.now) (λ n. false) setting.new) }
 {
     let callees = model.callees.as_slice();
     let count = callees.len();
     let headers = no_headers(alloc, count)?;
     let bodies = no_bodies(alloc, count)?;
     let kept = nothing_kept(alloc, count)?;
-    let known = setting.types;
-    let types = Known {
-        tops: known.tops,
-        over: known.over,
-        fields: known.fields,
-        bodies,
-        kept,
-    };
-    Ok(Setting {
-        signatures: setting.signatures,
-        fields: setting.fields,
-        headers,
-        types,
-        calls: count,
-    })
+    setting.headers = headers;
+    setting.types.bodies = bodies;
+    setting.types.kept = kept;
+    setting.calls = count;
+    Ok(())
 }
 
 fn no_headers(alloc: Global, count: usize) -> Result<Vec<Header>, AllocError>
@@ -110,27 +119,26 @@ fn nothing_kept(alloc: Global, count: usize) -> Result<Vec<Option<KeptType>>, Al
     Ok(kept)
 }
 
-// With what is known of the predicates and functions, in an order in which what is called comes before its callers.
-fn all_known<'a>(
+// Puts what is known of the predicates and functions, in an order in which what is called comes before its callers.
+fn all_known(
     alloc: Global,
     scope: &mut Scope,
     model: &Named,
     order: &[usize],
-    setting: Setting<'a>,
-) -> Result<Setting<'a>, AllocError>
-    requires ready { IsReady (named_view model.now) (λ n. false) setting }
+    setting: &mut Setting,
+) -> Result<(), AllocError>
+    requires ready { IsReady (named_view model.now) (λ n. false) setting.old }
     requires order { IsOrder (map callees_of (named_view model.now).callees) order.now }
-    ensures tables { IfOk result (λ s. AreTables s) }
-    ensures value { IfOk result (λ s. AreSameDeclared (declared_by s) (declared_in (named_view model.now))) }
+    ensures tables { OnOk result (AreTables setting.new) }
+    ensures value { OnOk result (AreSameDeclared (declared_by setting.new) (declared_in (named_view model.now))) }
 {
-    let mut setting = setting;
     let asked = is_asked(model);
     for (place, number) in order.iter().enumerate() {
-        let (header, body) = known_at(alloc, &setting, scope, &model.callees, *number)?;
-        let kept = kept_where(alloc, &setting, scope, asked, place, &header, &body);
-        put(&mut setting, *number, header, body, kept);
+        let (header, body) = known_at(alloc, setting, scope, &model.callees, *number)?;
+        let kept = kept_where(alloc, setting, scope, asked, place, &header, &body);
+        put(setting, *number, header, body, kept);
     }
-    Ok(setting)
+    Ok(())
 }
 
 // The header of the predicate or function of a number, and its body.

@@ -4,12 +4,13 @@ use Rattle.std.proofs.lemmas.List.{map_push}
 use Rattle.std.specs.Prelude.{Vec, Box}
 use Rattle.std.specs.declared.alloc.Global.{Global}
 use Rattle.alloy_lex.specs.declared.token.Place.{Place}
+use Rattle.alloy_syntax.specs.declared.tree.Name.{Name}
 use Rattle.alloy_syntax.specs.declared.tree.Bound.{Bound, fold-roll-Bound}
-use Rattle.alloy_syntax.specs.declared.tree.Bound.TheVariants.{rolls-Union, rolls-Arrows}
-use Rattle.alloy_syntax.specs.declared.tree.BoundArrow.{BoundArrow}
+use Rattle.alloy_syntax.specs.declared.tree.Bound.TheVariants.{rolls-Named, rolls-Bracketed, rolls-Union, rolls-Arrows}
+use Rattle.alloy_syntax.specs.declared.tree.BoundArrow.{BoundArrow, fold_out-BoundArrow}
 use Rattle.alloy_syntax.specs.declared.tree.Bound.TheOpen.{Bound-F}
 use Rattle.alloy_syntax.specs.declared.tree.Bound.TheVariants as bound
-use Rattle.alloy_syntax.specs.Tree.{BoundTree, BoundArrowTree, BoundUnions, BoundArrows, bound_union, bound_arrows, unions_of, arrows_of}
+use Rattle.alloy_syntax.specs.Tree.{BoundTree, BoundArrowTree, BoundUnions, BoundArrows, bound_named, bound_bracketed, bound_union, bound_arrows, unions_of, arrows_of}
 use Rattle.alloy_syntax.specs.View.{bound_view, arrow_view, bound_level, arrow_level}
 use Rattle.named_model.specs.declared.fault.NameFault.{NameFault}
 use Rattle.named_model.specs.declared.phrase.Link.{Link}
@@ -53,6 +54,18 @@ module _ {X : Type 0} (faults : List X → List NameFault) (values : List X → 
     links_all l no_fault no_value =
         let done = reached_all link_first (λ inner xs. faults xs) (λ inner xs. values xs) [] all [] (drop i all) (map link_view found) no_links (none_is all i l) no_fault no_value before in
         (done.0, links_are (map link_view found) ∙ done.1)
+
+-- a name
+pub seen_named : (n : Name) → bound_view (bound.Named n) ≡ bound_named n
+seen_named n = ap bound_view (sym (rolls-Named n)) ∙ fold-roll-Bound BoundTree BoundArrowTree bound_level arrow_level (Bound-F.Named n)
+
+-- a bound in brackets
+pub seen_bracketed : (p : Place) (b : Box Bound Global) → bound_view (bound.Bracketed p b) ≡ bound_bracketed p (bound_view b.value)
+seen_bracketed p b = ap bound_view (sym (rolls-Bracketed p b)) ∙ fold-roll-Bound BoundTree BoundArrowTree bound_level arrow_level (Bound-F.Bracketed p b)
+
+-- the side behind an arrow
+pub seen_side : (a : BoundArrow) → (arrow_view a).side ≡ bound_view a.side
+seen_side a = ap (λ (t : BoundArrowTree). t.side) (fold_out-BoundArrow BoundTree BoundArrowTree bound_level arrow_level a)
 
 -- a union of operands
 pub seen_union : (b : Box Bound Global) (us : Vec (Place × Bound) Global) → bound_view (bound.Union b us) ≡ bound_union (bound_view b.value) (unions_of (map placed_view us.items))

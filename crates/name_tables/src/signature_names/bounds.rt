@@ -1,6 +1,6 @@
 // Bounds of fields.
 ghost use Rattle.std.specs.Prelude.{◌≡◌, map};
-ghost use Rattle.alloy_syntax.specs.Tree.{unions_of, arrows_of};
+ghost use Rattle.alloy_syntax.specs.Tree.{bound_named, unions_of, arrows_of};
 ghost use Rattle.alloy_syntax.specs.View.{bound_view, arrow_view};
 ghost use Rattle.alloy_syntax.specs.declared.tree.Operator.TheVariants.{Union, Product};
 ghost use Rattle.named_model.specs.Declarations.{bound_resolved, unions_resolved, arrows_resolved, words_of, words_beside};
@@ -14,7 +14,7 @@ use crate::Names;
 use crate::signature_names::room::spend;
 use crate::signature_names::signatures::signature;
 use alloy_lex::Place;
-use alloy_syntax::tree::{Bound, BoundArrow, MultiplicityWord, Operator};
+use alloy_syntax::tree::{Bound, BoundArrow, MultiplicityWord, Name, Operator};
 use named_model::NameFault;
 use named_model::phrase::{Link, Phrase, Referent};
 use std::alloc::Global;
@@ -31,10 +31,7 @@ pub fn bound(
 {
     spend(room, 1)?;
     match bound {
-        Bound::Named(name) => {
-            let number = signature(names, name)?;
-            Ok(Phrase::Refers(name.place, Referent::Signature(number)))
-        }
+        Bound::Named(name) => named(names, name),
         Bound::Bracketed(place, inner) => {
             Ok(Phrase::Bracketed(*place, boxed(alloc, names, room, inner)?))
         }
@@ -49,6 +46,14 @@ pub fn bound(
             Ok(Phrase::Chain(first, links))
         }
     }
+}
+
+// A bound that is the name of a signature.
+fn named(names: &Names, name: &Name) -> Result<Phrase, NameFault>
+    ensures { Answers result (bound_faults names.now.globals (bound_named name.now)) (λ x. phrase_view x ≡ bound_resolved names.now.globals (bound_named name.now)) }
+{
+    let number = signature(names, name)?;
+    Ok(Phrase::Refers(name.place, Referent::Signature(number)))
 }
 
 // A bound in its box.

@@ -1,5 +1,5 @@
 // A walk from a number along the rows.
-ghost use Rattle.std.specs.Prelude.{◌≡◌, ◌<◌, ℕ, true, false, length, slice_index_or, IfOk, OnOk};
+ghost use Rattle.std.specs.Prelude.{◌≡◌, ◌<◌, [], ℕ, true, false, length, slice_index_or, IfOk, OnOk};
 ghost use Rattle.reference_cycles.specs.Cycles.Walks.{rows_of, row_of, IsCyclic, IsAcyclic};
 ghost use Rattle.reference_cycles.specs.Cycles.Marks.{met_with, Meets};
 
@@ -13,11 +13,25 @@ pub fn leads_back(alloc: Global, rows: &[Vec<usize>], start: usize) -> Result<bo
     ensures no { IfOk result (λ b. b ≡ false → IsAcyclic (rows_of rows.now) start) }
 {
     let mut met = IndexSet::new(alloc);
-    meet(&mut met, row(rows, start), rows.len())?;
+    comes_back(&mut met, rows, start)
+}
+
+// Whether a walk from a number meets it again, where nothing was met before.
+fn comes_back(
+    met: &mut IndexSet<usize>,
+    rows: &[Vec<usize>],
+    start: usize,
+) -> Result<bool, AllocError>
+    requires there { start < length rows.now }
+    requires none { met.old.keys ≡ [] }
+    ensures yes { IfOk result (λ b. b ≡ true → IsCyclic (rows_of rows.now) start) }
+    ensures no { IfOk result (λ b. b ≡ false → IsAcyclic (rows_of rows.now) start) }
+{
+    meet(met, row(rows, start), rows.len())?;
     let mut next = 0;
     while next < met.len() {
-        let number = number_at(&met, next);
-        meet(&mut met, row(rows, number), rows.len())?;
+        let number = number_at(met, next);
+        meet(met, row(rows, number), rows.len())?;
         next += 1;
     }
     Ok(met.contains(&start))

@@ -23,10 +23,10 @@ fn add_meaning(calls: &mut Vec<usize>, meaning: &Meaning) -> Result<(), AllocErr
     ensures { OnOk result (calls.new.items ≡ calls.old.items ++ calls_in_meaning (meaning_view meaning.now)) }
 {
     match meaning {
-        Meaning::Formulas(formulas) => Ok(add_all(calls, formulas)?),
+        Meaning::Formulas(formulas) => add_all(calls, formulas),
         Meaning::Value(range, body) => {
             add(calls, range)?;
-            Ok(add(calls, body)?)
+            add(calls, body)
         }
     }
 }
@@ -40,41 +40,41 @@ fn add(calls: &mut Vec<usize>, phrase: &Phrase) -> Result<(), AllocError>
         Phrase::Refers(_, _) => Ok(()),
         Phrase::Called(_, number, arguments) => {
             calls.push(*number)?;
-            Ok(add_all(calls, arguments)?)
+            add_all(calls, arguments)
         }
         Phrase::Numbered(_) => Ok(()),
         Phrase::Constant(_, _) => Ok(()),
-        Phrase::Bracketed(_, inner) => Ok(add(calls, inner)?),
-        Phrase::Block(_, parts) => Ok(add_all(calls, parts)?),
-        Phrase::Prefixed(_, _, inner) => Ok(add(calls, inner)?),
+        Phrase::Bracketed(_, inner) => add(calls, inner),
+        Phrase::Block(_, parts) => add_all(calls, parts),
+        Phrase::Prefixed(_, _, inner) => add(calls, inner),
         Phrase::Chain(first, links) => {
             add(calls, first)?;
-            Ok(add_links(calls, links)?)
+            add_links(calls, links)
         }
         Phrase::Path(head, steps) => {
             add(calls, head)?;
-            Ok(add_steps(calls, steps)?)
+            add_steps(calls, steps)
         }
         Phrase::Compared(left, _, right) => {
             add(calls, left)?;
-            Ok(add(calls, right)?)
+            add(calls, right)
         }
         Phrase::Implies(left, _, right) => {
             add(calls, left)?;
-            Ok(add(calls, right)?)
+            add(calls, right)
         }
         Phrase::ImpliesElse(left, _, right, other) => {
             add(calls, left)?;
             add(calls, right)?;
-            Ok(add(calls, other)?)
+            add(calls, other)
         }
         Phrase::Quantified(_, _, domains, inner) => {
             add_domains(calls, domains)?;
-            Ok(add(calls, inner)?)
+            add(calls, inner)
         }
         Phrase::Let(_, values, inner) => {
             add_all(calls, values)?;
-            Ok(add(calls, inner)?)
+            add(calls, inner)
         }
     }
 }
@@ -103,7 +103,7 @@ fn add_links(calls: &mut Vec<usize>, links: &[Link]) -> Result<(), AllocError>
 fn add_link(calls: &mut Vec<usize>, link: &Link) -> Result<(), AllocError>
     ensures { OnOk result (calls.new.items ≡ calls.old.items ++ calls_in (link_view link.now).operand) }
 {
-    Ok(add(calls, &link.operand)?)
+    add(calls, &link.operand)
 }
 
 #[cycle(calls)]
@@ -121,8 +121,8 @@ fn add_step(calls: &mut Vec<usize>, step: &Step) -> Result<(), AllocError>
     ensures { OnOk result (calls.new.items ≡ calls.old.items ++ calls_in_step (step_view step.now)) }
 {
     match step {
-        Step::Join(_, phrase) => Ok(add(calls, phrase)?),
-        Step::Brackets(_, phrases) => Ok(add_all(calls, phrases)?),
+        Step::Join(_, phrase) => add(calls, phrase),
+        Step::Brackets(_, phrases) => add_all(calls, phrases),
     }
 }
 
@@ -140,5 +140,5 @@ fn add_domains(calls: &mut Vec<usize>, domains: &[Domain]) -> Result<(), AllocEr
 fn add_domain(calls: &mut Vec<usize>, domain: &Domain) -> Result<(), AllocError>
     ensures { OnOk result (calls.new.items ≡ calls.old.items ++ calls_in (domain_view domain.now).domain) }
 {
-    Ok(add(calls, &domain.domain)?)
+    add(calls, &domain.domain)
 }

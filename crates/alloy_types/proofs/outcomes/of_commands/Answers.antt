@@ -10,9 +10,9 @@ use Rattle.alloy_types.proofs.outcomes.of_commands.Goals as goal
 pub loop-command-preserved : goal.loop-command-preserved
 loop-command-preserved c = λ m are.
     let d = declared_by c.args.setting.now in
-    seen_more command_view (λ (x : CommandTree). target_settled m d x.target) (outcome_view target_view) c.args.commands.now c.loop-command.command-index c.command-item.result c.loop-command.found.items c.push.new.self.items c.in_ok-outcome.outcome
-    c.loop-command-test.true c.command-item.is (c.loop-command.invariant m are) c.in_ok-push.ensures.items
-    (outcome_is target_view c.target_settled.result c.in_ok-outcome.outcome (target_settled m d (target_view c.command-item.result.target)) c.in_ok-outcome.ensures (c.target_settled.ensures m are))
+    seen_more command_view (λ (x : CommandTree). target_settled m d x.target) (outcome_view target_view) c.args.commands.now c.loop-command.command-index c.command-item.result c.loop-command.found.items c.push_outcome.new.found.items c.target_settled-outcome.result
+    c.loop-command-test.true c.command-item.is (c.loop-command.invariant m are) c.in_ok-push_outcome.ensures.pushed
+    (outcome_is target_view c.target_settled-outcome.result (target_settled m d (target_view c.command-item.result.target)) c.in_ok-push_outcome.ensures.outcome (c.target_settled-outcome.ensures m are))
 
 pub returns : goal.returns
 returns c = λ m are.

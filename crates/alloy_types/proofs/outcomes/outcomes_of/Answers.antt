@@ -1,14 +1,9 @@
-use Rattle.std.proofs.Common.{List, [], map, ap, sym, ◌∙◌}
-use Rattle.named_model.specs.declared.named.Field.{Field}
-use Rattle.named_model.specs.declared.named.Callee.{Callee}
-use Rattle.named_model.specs.declared.named.Formulas.{Formulas}
-use Rattle.named_model.specs.declared.named.Command.{Command}
-use Rattle.named_model.specs.Model.{CommandTree}
-use Rattle.named_model.specs.View.{field_view, callee_view, formulas_view, command_view, named_view}
-use Rattle.model_types.specs.Typing.{formulas_settled}
-use Rattle.model_types.specs.Models.{field_checked, callee_settled, target_settled, declared_in}
+use Rattle.std.proofs.lemmas.Result.{IfOk-weaker}
+use Rattle.named_model.specs.View.{named_view}
+use Rattle.model_types.specs.Models.{declared_in}
 use Rattle.overload_resolution.specs.Scopes.Declaring.{declared_by}
-use Rattle.alloy_types.proofs.DeclarationLemmas.{fields_alike, callees_alike, blocks_alike, targets_alike}
+use Rattle.alloy_types.specs.Outcomes.{AreOutcomes}
+use Rattle.alloy_types.proofs.DeclarationLemmas.{outcomes_alike}
 use Rattle.alloy_types.proofs.outcomes.outcomes_of.Goals as goal
 
 pub returns : goal.returns
@@ -16,13 +11,4 @@ returns c =
     let m = named_view c.args.model.now in
     let d = declared_by c.in_ok-setting.setting in
     let e = declared_in m in
-    let same = c.in_ok-setting.ensures.value in
-    record {
-      fields = c.in_ok-fields.ensures ∙ ap (λ (xs : List Field). map (field_checked d) (map field_view xs)) c.deref.ensures.value ∙ fields_alike d e same m.fields;
-      callees = c.in_ok-callees.ensures ∙ ap (λ (xs : List Callee). map (callee_settled d) (map callee_view xs)) c.deref-2.ensures.value ∙ callees_alike d e same m.callees;
-      facts = c.in_ok-facts.ensures ∙ ap (λ (xs : List Formulas). map (formulas_settled d []) (map formulas_view xs)) c.deref-3.ensures.value ∙ blocks_alike d e same m.facts;
-      assertions = c.in_ok-assertions.ensures ∙ ap (λ (xs : List Formulas). map (formulas_settled d []) (map formulas_view xs)) c.deref-4.ensures.value ∙ blocks_alike d e same m.assertions;
-      targets =
-          c.in_ok-targets.ensures m (sym (ap (map callee_view) c.deref-5.ensures.value)) ∙ ap (λ (xs : List Command). map (λ (x : CommandTree). target_settled m d x.target) (map command_view xs)) c.deref-6.ensures.value
-          ∙ targets_alike d e same m m.commands;
-    }
+    IfOk-weaker c.outcomes_over.result (AreOutcomes m d) (AreOutcomes m e) (outcomes_alike d e c.in_ok-setting.ensures.value m) c.outcomes_over.ensures

@@ -1,11 +1,13 @@
-use Rattle.std.proofs.Common.{◌≡◌, ℕ, ◌+◌, ◌<◌, IsTrue, List, [], ◌∷◌, All, AllPairs, map, reverse, length, take, refl, sym, ◌∙◌, ap, subst, rules, arith}
+use Rattle.std.proofs.Common.{◌≡◌, ℕ, ◌+◌, ◌<◌, IsTrue, List, [], ◌∷◌, All, AllPairs, map, reverse, length, take, get_or, refl, sym, ◌∙◌, ap, subst, rules, arith}
 use Rattle.std.proofs.lemmas.List.{take_all, reverse-append, length_push}
 use Rattle.tuple_core.specs.declared.atom.Atom.{Atom}
 use Rattle.bool_circuit.specs.Network.{Network, size}
+use Rattle.bool_circuit.specs.Value.{Extends}
 use Rattle.bool_matrix.specs.declared.entry.Entry.{Entry}
 use Rattle.bool_matrix.specs.Cells.{Cells}
 use Rattle.bool_matrix.proofs.ComparedEntries.{says_same}
 use Rattle.rel_formula.specs.declared.connectives.Connective.TheVariants as connective
+use Rattle.rel_formula.specs.declared.connectives.Quantifier.{Quantifier}
 use Rattle.rel_formula.specs.declared.formula.Formula.{Formula, Junction}
 use Rattle.rel_formula.specs.declared.formula.Formula.TheViews.{the_lemmas}
 use Rattle.rel_formula.specs.Bounds.{Bounded, IsAtomOf}
@@ -13,21 +15,22 @@ use Rattle.rel_formula.specs.Kernel.{FormulaTree, compared, at_least, formulas_o
 use Rattle.rel_formula.specs.View.{expression_tree, formula_tree}
 use Rattle.rel_formula.specs.Meaning.{Truth}
 use Rattle.rel_formula.specs.Evaluation.{HoldsOf}
-use Rattle.rel_formula.specs.Shape.{IsProper}
+use Rattle.rel_formula.specs.Shape.{IsWellFormed, IsProper}
 use Rattle.rel_formula.proofs.AndOrParts.{Junction-tree, Truth-Junction, IsProper-Junction}
 use Rattle.rel_terms.specs.Numbers.{Is, ◌⊕◌}
 use Rattle.rel_terms.specs.Upper.{upper_structure}
 use Rattle.rel_terms.specs.Terms.{FormulasHave, each_terms}
 use Rattle.rel_terms.specs.Counting.{RowsHave, arities_of}
 use Rattle.rel_translate.specs.Tables.{structure_at, IsReady}
-use Rattle.rel_translate.specs.Makes.{HasRoomFor, FormulaTermsOf, IsMade, Tells, IsTold}
+use Rattle.rel_translate.specs.Makes.{HasRoomFor, TermsOf, FormulaTermsOf, IsMade, Tells, IsTold}
 use Rattle.rel_translate.specs.Grounding.{IsGuarded, IsMet, AreNotBothMet, IsGrounded}
 use Rattle.rel_translate.proofs.Lists.{two_start, junction_start, junction_more, connects_same}
 use Rattle.rel_translate.proofs.GrownCircuits.{ready_kept, ready_more}
-use Rattle.rel_translate.proofs.Gated.{says_later}
+use Rattle.rel_translate.proofs.Gated.{there_later, says_later}
 use Rattle.bool_circuit.proofs.CallerLemmas.{Extends-trans}
+use Rattle.rel_translate.proofs.Spending.{room_now, room_before}
 use Rattle.rel_translate.proofs.FormulaNodes.{tells_same, negation_room, negation_told}
-use Rattle.rel_translate.proofs.Grounded.{room_second, next_room, next_gate, next_spent, parts_start, parts_tell, rows_start, rows_tell, body_room, gates_room, turn_tells, guarded_turn, lone_turn, found_turn, first_atom, domain_single, domain_atoms, domain_room, quantified_told}
+use Rattle.rel_translate.proofs.Grounded.{room_second, next_room, next_gate, next_spent, parts_start, parts_tell, rows_start, rows_tell, body_room, gates_room, turn_tells, guarded_turn, lone_turn, found_turn, first_atom, domain_first, domain_single, domain_atoms, domain_room, quantified_told}
 use Rattle.rel_translate.proofs.formula.+truth.Goals as goal
 
 abbrev ReadyAt : Network → Bounded → ℕ → List Cells → Cells → List Atom → Type 0
@@ -41,6 +44,18 @@ ProperAt p es f = IsProper (arities_of p) (length es) (formula_tree f)
 
 abbrev RoomAt : Network → Bounded → List Atom → Formula → Type 0
 RoomAt network p es f = HasRoomFor (size network) (FormulaTermsOf p (reverse es) (formula_tree f))
+
+-- the room that a quantifier's rows want, and that their node was made
+abbrev RowsRoomAt : Network → Bounded → List Atom → FormulaTree → List Entry → Quantifier → Type 0
+RowsRoomAt network p env f es q = HasRoomFor (size network) (RowsHave (upper_structure p) env (each_terms q) f (map (λ (x : Entry). x.tuple) es))
+
+abbrev GroundedAt : Network → Network → ℕ → Bounded → List Atom → FormulaTree → List Entry → Quantifier → Type 0
+GroundedAt old new node p env f es q = Tells old new node (λ s. IsGrounded q old s p env f es) (RowsHave (upper_structure p) env (each_terms q) f (map (λ (x : Entry). x.tuple) es))
+
+-- the node of an entry is there in a circuit that has grown twice
+guard_there : {old now mid : Network} (es : List Entry) (i : ℕ) (x : Entry) → Extends old now → Extends now mid → All (λ e. e.node < length old.shapes) es → i < length es → x ≡ get_or es i x → x.node < length mid.shapes
+guard_there {old} {now} {mid} es i x first second nodes l is =
+    there_later now mid x.node second (there_later old now x.node first (subst (λ (y : Entry). y.node < length old.shapes) (sym is) (nodes i x l)))
 
 pub true_of-loop-part-init : goal.true_of-loop-part-init
 true_of-loop-part-init t c = record {
@@ -367,18 +382,7 @@ true_of-connected-requires-clause-room t c =
 
 pub true_at_those-guarded_also-requires-clause-guard : goal.true_at_those-guarded_also-requires-clause-guard
 true_at_those-guarded_also-requires-clause-guard t c =
-    let p = c.args.problem.now in
-    let env = reverse c.args.env.now.items in
-    let f = formula_tree c.args.f.now in
-    let inv = c.loop-entry.invariant in
-    let x = c.entry-item.result in
-    let i = c.loop-entry.entry-index in
-    let es = c.args.entries.now in
-    let a = c.first.result in
-    let l = c.loop-entry-test.true in
-    let told = subst (λ vs. IsTold c.loop-entry.circuit c.true_at.new.circuit p (a ∷ reverse vs) f c.in_ok-body.body) inv.env c.in_ok-body.ensures.told in
-    let known : x.node < length c.args.circuit.now.shapes = subst (λ (y : Entry). y.node < length c.args.circuit.now.shapes) (sym c.entry-item.is) (c.requires.nodes i x l) in
-    omega (arith, known, inv.told.spends.extends.longer, told.spends.extends.longer)
+    guard_there c.args.entries.now c.loop-entry.entry-index c.entry-item.result c.loop-entry.invariant.told.spends.extends c.in_ok-body.ensures.told.spends.extends c.requires.nodes c.loop-entry-test.true c.entry-item.is
 
 pub true_at_those-guarded_also-requires-clause-room : goal.true_at_those-guarded_also-requires-clause-room
 true_at_those-guarded_also-requires-clause-room t c =
@@ -396,18 +400,7 @@ true_at_those-guarded_also-requires-clause-room t c =
 
 pub true_for_at_most_one-lone_still-requires-clause-guard : goal.true_for_at_most_one-lone_still-requires-clause-guard
 true_for_at_most_one-lone_still-requires-clause-guard t c =
-    let p = c.args.problem.now in
-    let env = reverse c.args.env.now.items in
-    let f = formula_tree c.args.f.now in
-    let inv = c.loop-entry.invariant in
-    let x = c.entry-item.result in
-    let i = c.loop-entry.entry-index in
-    let es = c.args.entries.now in
-    let a = c.first.result in
-    let l = c.loop-entry-test.true in
-    let told = subst (λ vs. IsTold c.loop-entry.circuit c.true_at.new.circuit p (a ∷ reverse vs) f c.in_ok-body.body) inv.env c.in_ok-body.ensures.told in
-    let known : x.node < length c.args.circuit.now.shapes = subst (λ (y : Entry). y.node < length c.args.circuit.now.shapes) (sym c.entry-item.is) (c.requires.nodes i x l) in
-    omega (arith, known, inv.told.spends.extends.longer, told.spends.extends.longer)
+    guard_there c.args.entries.now c.loop-entry.entry-index c.entry-item.result c.loop-entry.invariant.told.spends.extends c.in_ok-body.ensures.told.spends.extends c.requires.nodes c.loop-entry-test.true c.entry-item.is
 
 pub true_for_at_most_one-lone_still-requires-clause-room : goal.true_for_at_most_one-lone_still-requires-clause-room
 true_for_at_most_one-lone_still-requires-clause-room t c =
@@ -471,3 +464,178 @@ true_at-truth-requires t c =
         ),
       ),
     )
+
+pub truth-is_compared-requires-clause-ready : goal.truth-is_compared-requires-clause-ready
+truth-is_compared-requires-clause-ready t c = subst (ReadyAt c.args.circuit.now c.args.problem.now c.args.tables.now.always c.args.tables.now.relations.items c.args.tables.now.universe) (sym c.as_slice.ensures.value) c.requires.ready
+
+pub truth-is_compared-requires-clause-left : goal.truth-is_compared-requires-clause-left
+truth-is_compared-requires-clause-left t c =
+    let p = c.args.problem.now in
+    let proper = subst (ProperAt p c.args.env.now.items) c.in-Compared.is c.requires.proper in
+    subst (λ (es : List Atom). IsWellFormed (arities_of p) (length es) (expression_tree c.in-Compared.a)) (sym c.as_slice.ensures.value) proper.0
+
+pub truth-is_compared-requires-clause-right : goal.truth-is_compared-requires-clause-right
+truth-is_compared-requires-clause-right t c =
+    let p = c.args.problem.now in
+    let proper = subst (ProperAt p c.args.env.now.items) c.in-Compared.is c.requires.proper in
+    subst (λ (es : List Atom). IsWellFormed (arities_of p) (length es) (expression_tree c.in-Compared.b)) (sym c.as_slice.ensures.value) proper.1
+
+pub truth-is_compared-requires-clause-arities : goal.truth-is_compared-requires-clause-arities
+truth-is_compared-requires-clause-arities t c =
+    let proper = subst (ProperAt c.args.problem.now c.args.env.now.items) c.in-Compared.is c.requires.proper in
+    proper.2
+
+pub truth-has_at_least-requires-clause-ready : goal.truth-has_at_least-requires-clause-ready
+truth-has_at_least-requires-clause-ready t c = subst (ReadyAt c.args.circuit.now c.args.problem.now c.args.tables.now.always c.args.tables.now.relations.items c.args.tables.now.universe) (sym c.as_slice-in-AtLeast.ensures.value) c.requires.ready
+
+pub truth-has_at_least-requires-clause-formed : goal.truth-has_at_least-requires-clause-formed
+truth-has_at_least-requires-clause-formed t c =
+    let p = c.args.problem.now in
+    let proper = subst (ProperAt p c.args.env.now.items) c.in-AtLeast.is c.requires.proper in
+    subst (λ (es : List Atom). IsWellFormed (arities_of p) (length es) (expression_tree c.in-AtLeast.e)) (sym c.as_slice-in-AtLeast.ensures.value) proper
+
+pub truth-matrix-requires : goal.truth-matrix-requires
+truth-matrix-requires t c =
+    let p = c.args.problem.now in
+    let env = c.args.env.now.items in
+    let start = c.args.circuit.now in
+    let e = expression_tree c.in-Quantified.e in
+    let same = sym c.as_slice-in-Quantified.ensures.value in
+    let formed = subst (ProperAt p env) c.in-Quantified.is c.requires.proper in
+    let room = subst (RoomAt start p env) c.in-Quantified.is c.requires.room in
+    record {
+      ready = subst (ReadyAt start p c.args.tables.now.always c.args.tables.now.relations.items c.args.tables.now.universe) same c.requires.ready;
+      formed = subst (λ (es : List Atom). IsWellFormed (arities_of p) (length es) e) same formed.0;
+      room = subst (λ (es : List Atom). HasRoomFor (size start) (TermsOf p (reverse es) e)) same (domain_first p (reverse env) e c.in-Quantified.quantifier (formula_tree c.in-Quantified.g.value) (size start) room);
+    }
+
+pub truth-neither-requires-clause-operand : goal.truth-neither-requires-clause-operand
+truth-neither-requires-clause-operand t c = c.in_ok-inner-in-Not.ensures.told.says.there
+
+pub truth-returns-in_ok-is_compared-in-Compared : goal.truth-returns-in_ok-is_compared-in-Compared
+truth-returns-in_ok-is_compared-in-Compared t c =
+    let p = c.args.problem.now in
+    let start = c.args.circuit.now in
+    let new = c.is_compared.new.circuit in
+    let node = c.in_ok-is_compared-in-Compared.field-0 in
+    let f = compared c.in-Compared.comparison (expression_tree c.in-Compared.a) (expression_tree c.in-Compared.b) in
+    record {
+      told = subst (ToldAt start new p c.args.env.now.items node) (sym c.in-Compared.is) (subst (λ (es : List Atom). IsTold start new p (reverse es) f node) c.as_slice.ensures.value c.in_ok-is_compared-in-Compared.ensures);
+      env = refl;
+    }
+
+pub truth-returns-in_ok-has_at_least-in-AtLeast : goal.truth-returns-in_ok-has_at_least-in-AtLeast
+truth-returns-in_ok-has_at_least-in-AtLeast t c =
+    let p = c.args.problem.now in
+    let start = c.args.circuit.now in
+    let new = c.has_at_least.new.circuit in
+    let node = c.in_ok-has_at_least-in-AtLeast.field-0 in
+    let f = at_least c.in-AtLeast.n (expression_tree c.in-AtLeast.e) in
+    record {
+      told = subst (ToldAt start new p c.args.env.now.items node) (sym c.in-AtLeast.is) (subst (λ (es : List Atom). IsTold start new p (reverse es) f node) c.as_slice-in-AtLeast.ensures.value c.in_ok-has_at_least-in-AtLeast.ensures);
+      env = refl;
+    }
+
+pub truth-returns-in_ok-neither-in-Not-clause-env : goal.truth-returns-in_ok-neither-in-Not-clause-env
+truth-returns-in_ok-neither-in-Not-clause-env t c = c.in_ok-inner-in-Not.ensures.env
+
+pub truth-returns-in_ok-true_of-in-Junction-clause-env : goal.truth-returns-in_ok-true_of-in-Junction-clause-env
+truth-returns-in_ok-true_of-in-Junction-clause-env t c = c.in_ok-true_of-in-Junction.ensures.env
+
+pub truth-returns-in_ok-true_for-in-Quantified-clause-env : goal.truth-returns-in_ok-true_for-in-Quantified-clause-env
+truth-returns-in_ok-true_for-in-Quantified-clause-env t c = c.in_ok-true_for-in-Quantified.ensures.env
+
+pub true_of-constant-requires : goal.true_of-constant-requires
+true_of-constant-requires t c = record { room = room_now (size c.args.circuit.now) c.requires.room.0 c.requires.room.2 }
+
+pub true_of-connected-requires-clause-first : goal.true_of-connected-requires-clause-first
+true_of-connected-requires-clause-first t c = there_later c.loop-part.circuit c.truth.new.circuit c.loop-part.so_far c.in_ok-node.ensures.told.spends.extends c.loop-part.invariant.says.there
+
+pub true_of-connected-requires-clause-second : goal.true_of-connected-requires-clause-second
+true_of-connected-requires-clause-second t c = c.in_ok-node.ensures.told.says.there
+
+pub true_of-returns-clause-env : goal.true_of-returns-clause-env
+true_of-returns-clause-env t c = c.loop-part.invariant.env
+
+pub true_for-true_at_those-requires : goal.true_for-true_at_those-requires
+true_for-true_at_those-requires t c =
+    let room = subst (RowsRoomAt c.args.circuit.now c.args.problem.now (reverse c.args.env.now.items) (formula_tree c.args.f.now) c.args.entries.now) c.in-All.is c.requires.room in
+    (search (rules, the_lemmas), (c.requires.ready, (c.requires.proper, (c.requires.single, (c.requires.nodes, (c.requires.atoms, room))))))
+
+pub true_for-true_at_those-requires-in-Exists : goal.true_for-true_at_those-requires-in-Exists
+true_for-true_at_those-requires-in-Exists t c =
+    let room = subst (RowsRoomAt c.args.circuit.now c.args.problem.now (reverse c.args.env.now.items) (formula_tree c.args.f.now) c.args.entries.now) c.in-Exists.is c.requires.room in
+    (search (rules, the_lemmas), (c.requires.ready, (c.requires.proper, (c.requires.single, (c.requires.nodes, (c.requires.atoms, room))))))
+
+pub true_for-true_for_at_most_one-requires : goal.true_for-true_for_at_most_one-requires
+true_for-true_for_at_most_one-requires t c =
+    let room = subst (RowsRoomAt c.args.circuit.now c.args.problem.now (reverse c.args.env.now.items) (formula_tree c.args.f.now) c.args.entries.now) c.in-Lone.is c.requires.room in
+    (search (rules, the_lemmas), (c.requires.ready, (c.requires.proper, (c.requires.single, (c.requires.nodes, (c.requires.atoms, room))))))
+
+pub true_for-returns-in_ok-true_at_those-in-All : goal.true_for-returns-in_ok-true_at_those-in-All
+true_for-returns-in_ok-true_at_those-in-All t c = record {
+  told = subst (GroundedAt c.args.circuit.now c.true_at_those.new.circuit c.in_ok-true_at_those-in-All.field-0 c.args.problem.now (reverse c.args.env.now.items) (formula_tree c.args.f.now) c.args.entries.now) (sym c.in-All.is) c.in_ok-true_at_those-in-All.ensures.told;
+  env = c.in_ok-true_at_those-in-All.ensures.env;
+}
+
+pub true_for-returns-in_ok-true_at_those-in-Exists : goal.true_for-returns-in_ok-true_at_those-in-Exists
+true_for-returns-in_ok-true_at_those-in-Exists t c = record {
+  told = subst (GroundedAt c.args.circuit.now c.true_at_those-in-Exists.new.circuit c.in_ok-true_at_those-in-Exists.field-0 c.args.problem.now (reverse c.args.env.now.items) (formula_tree c.args.f.now) c.args.entries.now) (sym c.in-Exists.is) c.in_ok-true_at_those-in-Exists.ensures.told;
+  env = c.in_ok-true_at_those-in-Exists.ensures.env;
+}
+
+pub true_for-returns-in_ok-true_for_at_most_one-in-Lone : goal.true_for-returns-in_ok-true_for_at_most_one-in-Lone
+true_for-returns-in_ok-true_for_at_most_one-in-Lone t c = record {
+  told = subst (GroundedAt c.args.circuit.now c.true_for_at_most_one.new.circuit c.in_ok-true_for_at_most_one-in-Lone.field-0 c.args.problem.now (reverse c.args.env.now.items) (formula_tree c.args.f.now) c.args.entries.now) (sym c.in-Lone.is) c.in_ok-true_for_at_most_one-in-Lone.ensures.told;
+  env = c.in_ok-true_for_at_most_one-in-Lone.ensures.env;
+}
+
+pub true_at_those-constant-requires : goal.true_at_those-constant-requires
+true_at_those-constant-requires t c = record { room = room_now (size c.args.circuit.now) c.requires.room.0 c.requires.room.2 }
+
+pub true_at_those-guarded_also-requires-clause-so_far : goal.true_at_those-guarded_also-requires-clause-so_far
+true_at_those-guarded_also-requires-clause-so_far t c = there_later c.loop-entry.circuit c.true_at.new.circuit c.loop-entry.so_far c.in_ok-body.ensures.told.spends.extends c.loop-entry.invariant.told.says.there
+
+pub true_at_those-guarded_also-requires-clause-body : goal.true_at_those-guarded_also-requires-clause-body
+true_at_those-guarded_also-requires-clause-body t c = c.in_ok-body.ensures.told.says.there
+
+pub true_at_those-returns-clause-env : goal.true_at_those-returns-clause-env
+true_at_those-returns-clause-env t c = c.loop-entry.invariant.env
+
+pub true_for_at_most_one-constant-requires : goal.true_for_at_most_one-constant-requires
+true_for_at_most_one-constant-requires t c = record { room = room_now (size c.args.circuit.now) c.requires.room.0 c.requires.room.2 }
+
+pub true_for_at_most_one-constant-requires-2 : goal.true_for_at_most_one-constant-requires-2
+true_for_at_most_one-constant-requires-2 t c = record { room = room_before (size c.args.circuit.now) (size c.constant.new.circuit) c.requires.room.0 c.constant.ensures.size c.requires.room.2 }
+
+pub true_for_at_most_one-lone_still-requires-clause-lone : goal.true_for_at_most_one-lone_still-requires-clause-lone
+true_for_at_most_one-lone_still-requires-clause-lone t c = there_later c.loop-entry.circuit c.true_at.new.circuit c.loop-entry.lone c.in_ok-body.ensures.told.spends.extends c.loop-entry.invariant.told.says.there
+
+pub true_for_at_most_one-lone_still-requires-clause-found : goal.true_for_at_most_one-lone_still-requires-clause-found
+true_for_at_most_one-lone_still-requires-clause-found t c = there_later c.loop-entry.circuit c.true_at.new.circuit c.loop-entry.found c.in_ok-body.ensures.told.spends.extends c.loop-entry.invariant.found.there
+
+pub true_for_at_most_one-lone_still-requires-clause-body : goal.true_for_at_most_one-lone_still-requires-clause-body
+true_for_at_most_one-lone_still-requires-clause-body t c = c.in_ok-body.ensures.told.says.there
+
+pub true_for_at_most_one-met_also-requires-clause-any : goal.true_for_at_most_one-met_also-requires-clause-any
+true_for_at_most_one-met_also-requires-clause-any t c = there_later c.true_at.new.circuit c.lone_still.new.circuit c.loop-entry.found c.lone_still.ensures.extends (there_later c.loop-entry.circuit c.true_at.new.circuit c.loop-entry.found c.in_ok-body.ensures.told.spends.extends c.loop-entry.invariant.found.there)
+
+pub true_for_at_most_one-met_also-requires-clause-guard : goal.true_for_at_most_one-met_also-requires-clause-guard
+true_for_at_most_one-met_also-requires-clause-guard t c =
+    there_later c.true_at.new.circuit c.lone_still.new.circuit c.entry-item.result.node c.lone_still.ensures.extends
+    (guard_there c.args.entries.now c.loop-entry.entry-index c.entry-item.result c.loop-entry.invariant.told.spends.extends c.in_ok-body.ensures.told.spends.extends c.requires.nodes c.loop-entry-test.true c.entry-item.is)
+
+pub true_for_at_most_one-met_also-requires-clause-body : goal.true_for_at_most_one-met_also-requires-clause-body
+true_for_at_most_one-met_also-requires-clause-body t c = there_later c.true_at.new.circuit c.lone_still.new.circuit c.in_ok-body.body c.lone_still.ensures.extends c.in_ok-body.ensures.told.says.there
+
+pub true_for_at_most_one-returns-clause-env : goal.true_for_at_most_one-returns-clause-env
+true_for_at_most_one-returns-clause-env t c = c.loop-entry.invariant.env
+
+pub true_at-returns-clause-told : goal.true_at-returns-clause-told
+true_at-returns-clause-told t c =
+    let start = c.args.circuit.now in
+    let new = c.truth.new.circuit in
+    let env = c.args.env.now.items in
+    let a = c.args.atom in
+    let turned : reverse c.push.new.self.items ≡ a ∷ reverse env = ap reverse c.in_ok-push.ensures.items ∙ reverse-append env (a ∷ []) in
+    subst (λ (es : List Atom). IsTold start new c.args.problem.now es (formula_tree c.args.f.now) c.in_ok-node.node) turned c.in_ok-node.ensures.told

@@ -1,15 +1,94 @@
-use Rattle.std.proofs.Common.{◌<◌, length, List, ℕ, Bool, subst, arith}
+use Rattle.std.proofs.Common.{◌<◌, ◌≤◌, ◌+◌, ◌*◌, length, take, List, ℕ, Bool, ap, sym, ◌∙◌, subst, arith}
 use Rattle.tuple_core.specs.declared.atom.Atom.{Atom}
-use Rattle.tuple_core.specs.Operators.{BeginsWith, IsFirstIn}
+use Rattle.tuple_core.specs.Operators.{Pred, BeginsWith, IsFirstIn}
 use Rattle.tuple_core.specs.Gains.{Same, SomeGives}
 use Rattle.tuple_core.proofs.Congruence.{same_itself}
+use Rattle.bool_circuit.specs.Network.{size}
 use Rattle.bool_circuit.proofs.CallerLemmas.{Extends-trans}
+use Rattle.bool_circuit.proofs.Values.{Extends-refl}
 use Rattle.bool_matrix.specs.declared.entry.Entry.{Entry}
-use Rattle.bool_matrix.specs.Cells.{Cells, AtEntry, TrueAt, TrueIn, MatrixGains}
-use Rattle.bool_matrix.proofs.Loops.{matrix_more, matrix_all, matrix_same, matrix_kept, matrix_around, entry_of, entries_same, kept_true, fits_tuple}
+use Rattle.bool_matrix.specs.Cells.{Cells, IsOf, AtEntry, TrueAt, TrueIn, MatrixGains}
+use Rattle.bool_matrix.proofs.Loops.{of_kept, node_kept, matrix_later, matrix_none, entry_fits, matrix_more, matrix_all, matrix_same, matrix_kept, matrix_around, entry_of, entries_same, kept_true, fits_tuple}
 use Rattle.bool_matrix.proofs.Nodes.{true_unless_kept, true_at_kept}
 use Rattle.bool_matrix.proofs.Keys.{first_found}
 use Rattle.bool_matrix.proofs.matrix.Matrix.overridden.Goals as goal
+
+-- the room is enough for the first atoms
+room_firsts : (start own others : ℕ) {most : ℕ} → start + 16 * (own + 2 * others) < most → start + others < most
+room_firsts start own others room = omega arith
+
+size_start : (start others now : ℕ) → now ≤ start + others → now ≤ start + others + 3 * 0
+size_start start others now made = omega arith
+
+-- and for one entry more
+room_next : (start now own others i : ℕ) {most : ℕ} → i < own → now ≤ start + others + 3 * i → start + 16 * (own + 2 * others) < most → now + 2 < most
+room_next start now own others i within made room = omega arith
+
+size_all : (start now own others i : ℕ) → i ≤ own → now ≤ start + others + 3 * i → now ≤ start + 16 * (own + 2 * others)
+size_all start now own others i within made = omega arith
+
+pub firsts-requires : goal.firsts-requires
+firsts-requires c = record {
+  of = c.requires.of_other;
+  room = room_firsts (size c.args.circuit.now) (length c.args.self.now.entries) (length c.args.other.now.entries) c.requires.room;
+}
+
+pub loop-entry-init : goal.loop-entry-init
+loop-entry-init c =
+    let old = c.args.circuit.now in
+    let v = c.firsts.new.circuit in
+    let other = c.args.other.now in
+    let out = c.in_ok-out.out in
+    let xs : List Entry = c.entries-entry-items.result.now in
+    let R : (ℕ → Bool) → Entry → Pred = λ inputs e t. TrueAt old inputs e t × ((x : Atom) → BeginsWith x e.tuple → IsFirstIn (TrueIn old other inputs) x → ⊥) in
+    let of : IsOf old out = subst (λ (m : Cells). IsOf old m) (sym c.in_ok-out.ensures) c.requires.of_other in
+    let extends = c.firsts.ensures.extends in
+    record {
+      extends = extends;
+      gains = matrix_later old v out extends of v out (λ s. SomeGives (take 0 xs) (R s)) (SomeGives (take 0 xs) AtEntry) (matrix_none xs R AtEntry v out (of_kept old v out extends of));
+      firsts = Extends-refl v;
+      size = size_start (size old) (length other.entries) (size v) c.in_ok-firsts.ensures.size;
+    }
+
+pub add_unless-requires : goal.add_unless-requires
+add_unless-requires c =
+    let old = c.args.circuit.now in
+    let self = c.args.self.now in
+    let v = c.firsts.new.circuit in
+    let w = c.loop-entry.circuit in
+    let inv = c.loop-entry.invariant in
+    let x = c.entry-item.result in
+    let i = c.loop-entry.entry-index in
+    let xs : List Entry = c.entries-entry-items.result.now in
+    let same = c.entries-entry-items.ensures.value in
+    let l = c.loop-entry-test.true in
+    let within : i < length self.entries = subst (λ (es : List Entry). i < length es) same l in
+    record {
+      arity = entry_fits self xs i x same c.entries-entry-items.ensures.well l c.entry-item.is ∙ c.requires.left ∙ sym (inv.gains.arity ∙ ap (λ (m : Cells). m.arity) c.in_ok-out.ensures ∙ c.requires.right);
+      node = node_kept old w x.node inv.extends (entry_of old self xs i x same c.requires.of l c.entry-item.is);
+      of = inv.gains.of;
+      of_filter = of_kept v w c.in_ok-firsts.firsts inv.firsts c.in_ok-firsts.ensures.is.of;
+      room = room_next (size old) (size w) (length self.entries) (length c.args.other.now.entries) i within inv.size c.requires.room;
+    }
+
+pub returns-in_err-firsts-clause-extends : goal.returns-in_err-firsts-clause-extends
+returns-in_err-firsts-clause-extends c = c.firsts.ensures.extends
+
+pub returns-in_err-out-clause-extends : goal.returns-in_err-out-clause-extends
+returns-in_err-out-clause-extends c = c.firsts.ensures.extends
+
+pub returns-in_err-add_unless-clause-extends : goal.returns-in_err-add_unless-clause-extends
+returns-in_err-add_unless-clause-extends c = Extends-trans c.args.circuit.now c.loop-entry.circuit c.add_unless.new.circuit c.loop-entry.invariant.extends c.add_unless.ensures.extends
+
+pub returns-clause-extends : goal.returns-clause-extends
+returns-clause-extends c = c.loop-entry.invariant.extends
+
+pub returns-clause-size : goal.returns-clause-size
+returns-clause-size c =
+    let self = c.args.self.now in
+    let i = c.loop-entry.entry-index in
+    let within : i ≤ length self.entries = subst (λ (es : List Entry). i ≤ length es) c.entries-entry-items.ensures.value c.loop-entry.auto.entry-index-end in
+    size_all (size c.args.circuit.now) (size c.loop-entry.circuit) (length self.entries) (length c.args.other.now.entries) i within c.loop-entry.invariant.size
 
 pub loop-entry-preserved : goal.loop-entry-preserved
 loop-entry-preserved c =

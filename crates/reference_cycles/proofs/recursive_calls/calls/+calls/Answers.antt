@@ -4,6 +4,11 @@ use Rattle.named_model.specs.Phrase.{links_of, steps_of, domains_of}
 use Rattle.named_model.specs.View.{phrase_view, phrases_view, link_view, step_view, domain_view}
 use Rattle.reference_cycles.specs.Recursion.Calls.{calls_in_step}
 use Rattle.reference_cycles.proofs.Recursion.Adding.{added_more, added_all, step_more}
+use Rattle.named_model.proofs.phrase.Phrase.TheLaws.{the_size}
+use Rattle.named_model.proofs.phrase.Link.TheLaws.{the_size as link_size}
+use Rattle.named_model.proofs.phrase.Step.TheLaws.{the_size as step_size}
+use Rattle.named_model.proofs.phrase.Domain.TheLaws.{the_size as domain_size}
+use Rattle.reference_cycles.proofs.Recursion.Smaller.{part_falls, row_falls, item_falls, block_smaller, body_smaller, bracketed_smaller, called_smaller, conclusion_smaller, condition_smaller, domain_smaller, domains_smaller, else_smaller, first_smaller, head_smaller, in_brackets_smaller, joined_smaller, left_smaller, let_body_smaller, links_smaller, operand_smaller, prefixed_smaller, premise_smaller, right_smaller, steps_smaller, then_smaller, values_smaller}
 use Rattle.reference_cycles.proofs.recursive_calls.calls.+calls.Goals as goal
 
 pub add_all-loop-phrase-preserved : goal.add_all-loop-phrase-preserved
@@ -37,3 +42,111 @@ add_domains-loop-domain-preserved t c =
 pub add_domains-returns : goal.add_domains-returns
 add_domains-returns t c =
     added_all (λ xs. calls_in_domains (domains_of (map domain_view xs))) c.args.domains.now c.loop-domain.domain-index c.loop-domain.calls.items _ refl c.loop-domain-test.false c.loop-domain.invariant
+
+pub add-add_all-requires : goal.add-add_all-requires
+add-add_all-requires t c =
+    (row_falls the_size t the_size _ _ c.decreases c.in-Called.is _ _ c.deref.ensures.value (called_smaller _ _ _), tt)
+
+pub add-add-requires : goal.add-add-requires
+add-add-requires t c =
+    (part_falls the_size t the_size _ _ c.decreases c.in-Bracketed.is _ _ c.deref-in-Bracketed.ensures (bracketed_smaller _ _), tt)
+
+pub add-add_all-requires-in-Block : goal.add-add_all-requires-in-Block
+add-add_all-requires-in-Block t c =
+    (row_falls the_size t the_size _ _ c.decreases c.in-Block.is _ _ c.deref-in-Block.ensures.value (block_smaller _ _), tt)
+
+pub add-add-requires-in-Prefixed : goal.add-add-requires-in-Prefixed
+add-add-requires-in-Prefixed t c =
+    (part_falls the_size t the_size _ _ c.decreases c.in-Prefixed.is _ _ c.deref-in-Prefixed.ensures (prefixed_smaller _ _ _), tt)
+
+pub add-add-requires-in-Chain : goal.add-add-requires-in-Chain
+add-add-requires-in-Chain t c =
+    (part_falls the_size t the_size _ _ c.decreases c.in-Chain.is _ _ c.deref-in-Chain.ensures (first_smaller _ _), tt)
+
+pub add-add_links-requires : goal.add-add_links-requires
+add-add_links-requires t c =
+    (row_falls the_size t link_size _ _ c.decreases c.in-Chain.is _ _ c.deref-in-Chain-2.ensures.value (links_smaller _ _), tt)
+
+pub add-add-requires-in-Path : goal.add-add-requires-in-Path
+add-add-requires-in-Path t c =
+    (part_falls the_size t the_size _ _ c.decreases c.in-Path.is _ _ c.deref-in-Path.ensures (head_smaller _ _), tt)
+
+pub add-add_steps-requires : goal.add-add_steps-requires
+add-add_steps-requires t c =
+    (row_falls the_size t step_size _ _ c.decreases c.in-Path.is _ _ c.deref-in-Path-2.ensures.value (steps_smaller _ _), tt)
+
+pub add-add-requires-in-Compared : goal.add-add-requires-in-Compared
+add-add-requires-in-Compared t c =
+    (part_falls the_size t the_size _ _ c.decreases c.in-Compared.is _ _ c.deref-in-Compared.ensures (left_smaller _ _ _), tt)
+
+pub add-add-requires-in-Compared-2 : goal.add-add-requires-in-Compared-2
+add-add-requires-in-Compared-2 t c =
+    (part_falls the_size t the_size _ _ c.decreases c.in-Compared.is _ _ c.deref-in-Compared-2.ensures (right_smaller _ _ _), tt)
+
+pub add-add-requires-in-Implies : goal.add-add-requires-in-Implies
+add-add-requires-in-Implies t c =
+    (part_falls the_size t the_size _ _ c.decreases c.in-Implies.is _ _ c.deref-in-Implies.ensures (premise_smaller _ _ _), tt)
+
+pub add-add-requires-in-Implies-2 : goal.add-add-requires-in-Implies-2
+add-add-requires-in-Implies-2 t c =
+    (part_falls the_size t the_size _ _ c.decreases c.in-Implies.is _ _ c.deref-in-Implies-2.ensures (conclusion_smaller _ _ _), tt)
+
+pub add-add-requires-in-ImpliesElse : goal.add-add-requires-in-ImpliesElse
+add-add-requires-in-ImpliesElse t c =
+    (part_falls the_size t the_size _ _ c.decreases c.in-ImpliesElse.is _ _ c.deref-in-ImpliesElse.ensures (condition_smaller _ _ _ _), tt)
+
+pub add-add-requires-in-ImpliesElse-2 : goal.add-add-requires-in-ImpliesElse-2
+add-add-requires-in-ImpliesElse-2 t c =
+    (part_falls the_size t the_size _ _ c.decreases c.in-ImpliesElse.is _ _ c.deref-in-ImpliesElse-2.ensures (then_smaller _ _ _ _), tt)
+
+pub add-add-requires-in-ImpliesElse-3 : goal.add-add-requires-in-ImpliesElse-3
+add-add-requires-in-ImpliesElse-3 t c =
+    (part_falls the_size t the_size _ _ c.decreases c.in-ImpliesElse.is _ _ c.deref-in-ImpliesElse-3.ensures (else_smaller _ _ _ _), tt)
+
+pub add-add_domains-requires : goal.add-add_domains-requires
+add-add_domains-requires t c =
+    (row_falls the_size t domain_size _ _ c.decreases c.in-Quantified.is _ _ c.deref-in-Quantified.ensures.value (domains_smaller _ _ _ _), tt)
+
+pub add-add-requires-in-Quantified : goal.add-add-requires-in-Quantified
+add-add-requires-in-Quantified t c =
+    (part_falls the_size t the_size _ _ c.decreases c.in-Quantified.is _ _ c.deref-in-Quantified-2.ensures (body_smaller _ _ _ _), tt)
+
+pub add-add_all-requires-in-Let : goal.add-add_all-requires-in-Let
+add-add_all-requires-in-Let t c =
+    (row_falls the_size t the_size _ _ c.decreases c.in-Let.is _ _ c.deref-in-Let.ensures.value (values_smaller _ _ _), tt)
+
+pub add-add-requires-in-Let : goal.add-add-requires-in-Let
+add-add-requires-in-Let t c =
+    (part_falls the_size t the_size _ _ c.decreases c.in-Let.is _ _ c.deref-in-Let-2.ensures (let_body_smaller _ _ _), tt)
+
+pub add_all-add-requires : goal.add_all-add-requires
+add_all-add-requires t c =
+    (item_falls the_size t _ _ _ c.decreases c.loop-phrase-test.true c.phrase-item.is, tt)
+
+pub add_links-add_link-requires : goal.add_links-add_link-requires
+add_links-add_link-requires t c =
+    (item_falls link_size t _ _ _ c.decreases c.loop-link-test.true c.link-item.is, tt)
+
+pub add_steps-add_step-requires : goal.add_steps-add_step-requires
+add_steps-add_step-requires t c =
+    (item_falls step_size t _ _ _ c.decreases c.loop-step-test.true c.step-item.is, tt)
+
+pub add_domains-add_domain-requires : goal.add_domains-add_domain-requires
+add_domains-add_domain-requires t c =
+    (item_falls domain_size t _ _ _ c.decreases c.loop-domain-test.true c.domain-item.is, tt)
+
+pub add_link-add-requires : goal.add_link-add-requires
+add_link-add-requires t c =
+    (part_falls link_size t the_size c.args.link.now c.args.link.now c.decreases refl c.args.link.now.operand c.args.link.now.operand refl (operand_smaller _), tt)
+
+pub add_domain-add-requires : goal.add_domain-add-requires
+add_domain-add-requires t c =
+    (part_falls domain_size t the_size c.args.domain.now c.args.domain.now c.decreases refl c.args.domain.now.domain c.args.domain.now.domain refl (domain_smaller _), tt)
+
+pub add_step-add-requires : goal.add_step-add-requires
+add_step-add-requires t c =
+    (part_falls step_size t the_size _ _ c.decreases c.in-Join.is c.in-Join.phrase c.in-Join.phrase refl (joined_smaller _ _), tt)
+
+pub add_step-add_all-requires : goal.add_step-add_all-requires
+add_step-add_all-requires t c =
+    (row_falls step_size t the_size _ _ c.decreases c.in-Brackets.is _ _ c.deref.ensures.value (in_brackets_smaller _ _), tt)

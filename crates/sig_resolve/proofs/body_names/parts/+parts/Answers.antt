@@ -1,9 +1,12 @@
-use Rattle.std.proofs.Common.{◌≡◌, ◌+◌, [], ◌∷◌, map, length, drop, true, false, ap, ◌∙◌, sym, subst, arith, vec_len, Vec, Global}
+use Rattle.std.proofs.Common.{◌≡◌, ◌+◌, [], ◌∷◌, ◌++◌, map, length, drop, true, false, refl, ap, ◌∙◌, sym, subst, arith, vec_len, Vec, Global}
 use Rattle.std.specs.Option.{option_copied}
 use Rattle.std.proofs.lemmas.Result.{err_from_is_err_and}
 use Rattle.alloy_syntax.specs.declared.tree.Node.{Node}
-use Rattle.alloy_syntax.specs.Tree.{trees_of, steps_of, declarations_of, bindings_of}
+use Rattle.alloy_syntax.specs.Tree as tree
+use Rattle.alloy_syntax.specs.Tree.{trees_of, links_of, steps_of, declarations_of, bindings_of}
 use Rattle.alloy_syntax.specs.View.{view, views, link_view, step_view, declaration_view, binding_view}
+use Rattle.named_model.specs.declared.phrase.Phrase.{Phrase}
+use Rattle.named_model.specs.declared.phrase.Phrase.TheVariants as part
 use Rattle.named_model.specs.Names as spec
 use Rattle.named_model.specs.Names.{Globals}
 use Rattle.named_model.specs.Phrase as phrase
@@ -11,6 +14,9 @@ use Rattle.named_model.specs.View as seen
 use Rattle.name_tables.specs.InForce.{InForce}
 use Rattle.name_tables.specs.Told.{IsTold, Answers}
 use Rattle.sig_resolve.specs.Bodies.Each.{faults_of_step, resolved_before, domain_resolved}
+use Rattle.sig_resolve.proofs.Bodies.Arms.{handed, nothing_made, told_second, told_at, made_at, told_of, made_of, bracketed_made, prefixed_made, none_in_both, compared_made, implies_made, else_made}
+use Rattle.sig_resolve.proofs.Bodies.SeenNodes.{bracketed_node, block_node, prefixed_node, chain_node, compared_node, implies_node, else_node}
+use Rattle.name_tables.proofs.Telling.{told_first}
 use Rattle.sig_resolve.proofs.Bodies.Calls.{call_taken, call_told, call_kept, call_joined, plain_told}
 use Rattle.sig_resolve.proofs.Bodies.Depths.{declarations_inside, bindings_inside, all_left}
 use Rattle.sig_resolve.proofs.Bodies.SeenPaths.{called_seen}
@@ -207,3 +213,263 @@ part-returns-in_ok-inner-in-Let-clause-names t c =
     let n : InForce = c.args.names.now in
     let bs = bindings_of (map binding_view c.deref-in-Let.result.now) in
     all_left n c.boxed-in-Let.new.names c.leave_until-in-Let.new.names c.depth-depth-in-Let.result (spec.behind_bindings n.locals bs) (bindings_inside bs n.locals) (c.in_ok-inner-in-Let.ensures.names ∙ c.in_ok-values-in-Let.ensures.names) c.leave_until-in-Let.ensures.left c.depth-depth-in-Let.ensures
+
+pub part-returns-in_err-boxed-in-Bracketed-clause-names : goal.part-returns-in_err-boxed-in-Bracketed-clause-names
+part-returns-in_err-boxed-in-Bracketed-clause-names t c =
+    nothing_made c.from_residual-in_err-boxed-in-Bracketed.result (c.boxed.new.names ≡ c.args.names.now) c.from_residual-in_err-boxed-in-Bracketed.ensures.0
+
+pub part-returns-in_err-boxed-in-Bracketed-clause-value : goal.part-returns-in_err-boxed-in-Bracketed-clause-value
+part-returns-in_err-boxed-in-Bracketed-clause-value t c =
+    let n : InForce = c.args.names.now in
+    let a = c.in-Bracketed in
+    let e = c.in_err-boxed-in-Bracketed.field-0.0 in
+    let told = told_at e n n c.deref.result.now a.inner.value refl c.deref.ensures c.in_err-boxed-in-Bracketed.ensures.value in
+    handed (λ (x : Phrase). seen.phrase_view x ≡ spec.resolved n.globals n.locals (view c.args.node.now)) c.from_residual-in_err-boxed-in-Bracketed.result e (spec.faults_of n.globals n.locals c.args.behind (view c.args.node.now)) c.from_residual-in_err-boxed-in-Bracketed.ensures.1 (told_of n c.args.behind c.args.node.now (tree.bracketed a.place (view a.inner.value)) e (ap view a.is ∙ bracketed_node a.place a.inner) (told))
+
+pub part-returns-in_ok-boxed-in-Bracketed-clause-names : goal.part-returns-in_ok-boxed-in-Bracketed-clause-names
+part-returns-in_ok-boxed-in-Bracketed-clause-names t c =
+    c.in_ok-boxed-in-Bracketed.ensures.names
+
+pub part-returns-in_ok-boxed-in-Bracketed-clause-value : goal.part-returns-in_ok-boxed-in-Bracketed-clause-value
+part-returns-in_ok-boxed-in-Bracketed-clause-value t c =
+    let n : InForce = c.args.names.now in
+    let a = c.in-Bracketed in
+    let one = made_at (seen.phrase_view c.in_ok-boxed-in-Bracketed.field-0.value) n n c.deref.result.now a.inner.value refl c.deref.ensures c.in_ok-boxed-in-Bracketed.ensures.value in
+    made_of n c.args.behind c.args.node.now (tree.bracketed a.place (view a.inner.value)) (seen.phrase_view (part.Bracketed a.place c.in_ok-boxed-in-Bracketed.field-0)) (ap view a.is ∙ bracketed_node a.place a.inner) ((one.0, bracketed_made n a.place a.inner c.in_ok-boxed-in-Bracketed.field-0 one))
+
+pub part-returns-in_err-boxed-in-Prefixed-clause-names : goal.part-returns-in_err-boxed-in-Prefixed-clause-names
+part-returns-in_err-boxed-in-Prefixed-clause-names t c =
+    nothing_made c.from_residual-in_err-boxed-in-Prefixed.result (c.boxed-in-Prefixed.new.names ≡ c.args.names.now) c.from_residual-in_err-boxed-in-Prefixed.ensures.0
+
+pub part-returns-in_err-boxed-in-Prefixed-clause-value : goal.part-returns-in_err-boxed-in-Prefixed-clause-value
+part-returns-in_err-boxed-in-Prefixed-clause-value t c =
+    let n : InForce = c.args.names.now in
+    let a = c.in-Prefixed in
+    let e = c.in_err-boxed-in-Prefixed.field-0.0 in
+    let told = told_at e n n c.deref-in-Prefixed.result.now a.inner.value refl c.deref-in-Prefixed.ensures c.in_err-boxed-in-Prefixed.ensures.value in
+    handed (λ (x : Phrase). seen.phrase_view x ≡ spec.resolved n.globals n.locals (view c.args.node.now)) c.from_residual-in_err-boxed-in-Prefixed.result e (spec.faults_of n.globals n.locals c.args.behind (view c.args.node.now)) c.from_residual-in_err-boxed-in-Prefixed.ensures.1 (told_of n c.args.behind c.args.node.now (tree.prefixed a.prefix a.place (view a.inner.value)) e (ap view a.is ∙ prefixed_node a.prefix a.place a.inner) (told))
+
+pub part-returns-in_ok-boxed-in-Prefixed-clause-names : goal.part-returns-in_ok-boxed-in-Prefixed-clause-names
+part-returns-in_ok-boxed-in-Prefixed-clause-names t c =
+    c.in_ok-boxed-in-Prefixed.ensures.names
+
+pub part-returns-in_ok-boxed-in-Prefixed-clause-value : goal.part-returns-in_ok-boxed-in-Prefixed-clause-value
+part-returns-in_ok-boxed-in-Prefixed-clause-value t c =
+    let n : InForce = c.args.names.now in
+    let a = c.in-Prefixed in
+    let one = made_at (seen.phrase_view c.in_ok-boxed-in-Prefixed.field-0.value) n n c.deref-in-Prefixed.result.now a.inner.value refl c.deref-in-Prefixed.ensures c.in_ok-boxed-in-Prefixed.ensures.value in
+    made_of n c.args.behind c.args.node.now (tree.prefixed a.prefix a.place (view a.inner.value)) (seen.phrase_view (part.Prefixed a.prefix a.place c.in_ok-boxed-in-Prefixed.field-0)) (ap view a.is ∙ prefixed_node a.prefix a.place a.inner) ((one.0, prefixed_made n a.prefix a.place a.inner c.in_ok-boxed-in-Prefixed.field-0 one))
+
+pub part-returns-in_err-left-in-Compared-clause-names : goal.part-returns-in_err-left-in-Compared-clause-names
+part-returns-in_err-left-in-Compared-clause-names t c =
+    nothing_made c.from_residual-in_err-left-in-Compared.result (c.boxed-in-Compared.new.names ≡ c.args.names.now) c.from_residual-in_err-left-in-Compared.ensures.0
+
+pub part-returns-in_err-left-in-Compared-clause-value : goal.part-returns-in_err-left-in-Compared-clause-value
+part-returns-in_err-left-in-Compared-clause-value t c =
+    let n : InForce = c.args.names.now in
+    let a = c.in-Compared in
+    let e = c.in_err-left-in-Compared.field-0.0 in
+    let told = told_at e n n c.deref-in-Compared.result.now a.left.value refl c.deref-in-Compared.ensures c.in_err-left-in-Compared.ensures.value in
+    handed (λ (x : Phrase). seen.phrase_view x ≡ spec.resolved n.globals n.locals (view c.args.node.now)) c.from_residual-in_err-left-in-Compared.result e (spec.faults_of n.globals n.locals c.args.behind (view c.args.node.now)) c.from_residual-in_err-left-in-Compared.ensures.1 (told_of n c.args.behind c.args.node.now (tree.compared (view a.left.value) a.comparing (view a.right.value)) e (ap view a.is ∙ compared_node a.left a.comparing a.right) (told_first e (spec.faults_of n.globals n.locals 0 (view a.left.value)) (spec.faults_of n.globals n.locals 0 (view a.right.value)) told))
+
+pub part-returns-in_err-boxed-in-Compared-clause-names : goal.part-returns-in_err-boxed-in-Compared-clause-names
+part-returns-in_err-boxed-in-Compared-clause-names t c =
+    nothing_made c.from_residual-in_err-boxed-in-Compared.result (c.boxed-in-Compared-2.new.names ≡ c.args.names.now) c.from_residual-in_err-boxed-in-Compared.ensures.0
+
+pub part-returns-in_err-boxed-in-Compared-clause-value : goal.part-returns-in_err-boxed-in-Compared-clause-value
+part-returns-in_err-boxed-in-Compared-clause-value t c =
+    let n : InForce = c.args.names.now in
+    let a = c.in-Compared in
+    let e = c.in_err-boxed-in-Compared.field-0.0 in
+    let one = made_at (seen.phrase_view c.in_ok-left-in-Compared.left.value) n n c.deref-in-Compared.result.now a.left.value refl c.deref-in-Compared.ensures c.in_ok-left-in-Compared.ensures.value in
+    let told = told_at e c.boxed-in-Compared.new.names n c.deref-in-Compared-2.result.now a.right.value c.in_ok-left-in-Compared.ensures.names c.deref-in-Compared-2.ensures c.in_err-boxed-in-Compared.ensures.value in
+    handed (λ (x : Phrase). seen.phrase_view x ≡ spec.resolved n.globals n.locals (view c.args.node.now)) c.from_residual-in_err-boxed-in-Compared.result e (spec.faults_of n.globals n.locals c.args.behind (view c.args.node.now)) c.from_residual-in_err-boxed-in-Compared.ensures.1 (told_of n c.args.behind c.args.node.now (tree.compared (view a.left.value) a.comparing (view a.right.value)) e (ap view a.is ∙ compared_node a.left a.comparing a.right) (told_second e (spec.faults_of n.globals n.locals 0 (view a.left.value)) (spec.faults_of n.globals n.locals 0 (view a.right.value)) one.0 told))
+
+pub part-returns-in_ok-boxed-in-Compared-clause-names : goal.part-returns-in_ok-boxed-in-Compared-clause-names
+part-returns-in_ok-boxed-in-Compared-clause-names t c =
+    c.in_ok-boxed-in-Compared.ensures.names ∙ c.in_ok-left-in-Compared.ensures.names
+
+pub part-returns-in_ok-boxed-in-Compared-clause-value : goal.part-returns-in_ok-boxed-in-Compared-clause-value
+part-returns-in_ok-boxed-in-Compared-clause-value t c =
+    let n : InForce = c.args.names.now in
+    let a = c.in-Compared in
+    let one = made_at (seen.phrase_view c.in_ok-left-in-Compared.left.value) n n c.deref-in-Compared.result.now a.left.value refl c.deref-in-Compared.ensures c.in_ok-left-in-Compared.ensures.value in
+    let two = made_at (seen.phrase_view c.in_ok-boxed-in-Compared.field-0.value) c.boxed-in-Compared.new.names n c.deref-in-Compared-2.result.now a.right.value c.in_ok-left-in-Compared.ensures.names c.deref-in-Compared-2.ensures c.in_ok-boxed-in-Compared.ensures.value in
+    made_of n c.args.behind c.args.node.now (tree.compared (view a.left.value) a.comparing (view a.right.value)) (seen.phrase_view (part.Compared c.in_ok-left-in-Compared.left a.comparing c.in_ok-boxed-in-Compared.field-0)) (ap view a.is ∙ compared_node a.left a.comparing a.right) ((none_in_both n a.left a.right c.in_ok-left-in-Compared.left c.in_ok-boxed-in-Compared.field-0 one two, compared_made n a.left a.right c.in_ok-left-in-Compared.left c.in_ok-boxed-in-Compared.field-0 a.comparing one two))
+
+pub part-returns-in_err-left-in-Implies-clause-names : goal.part-returns-in_err-left-in-Implies-clause-names
+part-returns-in_err-left-in-Implies-clause-names t c =
+    nothing_made c.from_residual-in_err-left-in-Implies.result (c.boxed-in-Implies.new.names ≡ c.args.names.now) c.from_residual-in_err-left-in-Implies.ensures.0
+
+pub part-returns-in_err-left-in-Implies-clause-value : goal.part-returns-in_err-left-in-Implies-clause-value
+part-returns-in_err-left-in-Implies-clause-value t c =
+    let n : InForce = c.args.names.now in
+    let a = c.in-Implies in
+    let e = c.in_err-left-in-Implies.field-0.0 in
+    let told = told_at e n n c.deref-in-Implies.result.now a.left.value refl c.deref-in-Implies.ensures c.in_err-left-in-Implies.ensures.value in
+    handed (λ (x : Phrase). seen.phrase_view x ≡ spec.resolved n.globals n.locals (view c.args.node.now)) c.from_residual-in_err-left-in-Implies.result e (spec.faults_of n.globals n.locals c.args.behind (view c.args.node.now)) c.from_residual-in_err-left-in-Implies.ensures.1 (told_of n c.args.behind c.args.node.now (tree.implies (view a.left.value) a.place (view a.right.value)) e (ap view a.is ∙ implies_node a.left a.place a.right) (told_first e (spec.faults_of n.globals n.locals 0 (view a.left.value)) (spec.faults_of n.globals n.locals 0 (view a.right.value)) told))
+
+pub part-returns-in_err-boxed-in-Implies-clause-names : goal.part-returns-in_err-boxed-in-Implies-clause-names
+part-returns-in_err-boxed-in-Implies-clause-names t c =
+    nothing_made c.from_residual-in_err-boxed-in-Implies.result (c.boxed-in-Implies-2.new.names ≡ c.args.names.now) c.from_residual-in_err-boxed-in-Implies.ensures.0
+
+pub part-returns-in_err-boxed-in-Implies-clause-value : goal.part-returns-in_err-boxed-in-Implies-clause-value
+part-returns-in_err-boxed-in-Implies-clause-value t c =
+    let n : InForce = c.args.names.now in
+    let a = c.in-Implies in
+    let e = c.in_err-boxed-in-Implies.field-0.0 in
+    let one = made_at (seen.phrase_view c.in_ok-left-in-Implies.left.value) n n c.deref-in-Implies.result.now a.left.value refl c.deref-in-Implies.ensures c.in_ok-left-in-Implies.ensures.value in
+    let told = told_at e c.boxed-in-Implies.new.names n c.deref-in-Implies-2.result.now a.right.value c.in_ok-left-in-Implies.ensures.names c.deref-in-Implies-2.ensures c.in_err-boxed-in-Implies.ensures.value in
+    handed (λ (x : Phrase). seen.phrase_view x ≡ spec.resolved n.globals n.locals (view c.args.node.now)) c.from_residual-in_err-boxed-in-Implies.result e (spec.faults_of n.globals n.locals c.args.behind (view c.args.node.now)) c.from_residual-in_err-boxed-in-Implies.ensures.1 (told_of n c.args.behind c.args.node.now (tree.implies (view a.left.value) a.place (view a.right.value)) e (ap view a.is ∙ implies_node a.left a.place a.right) (told_second e (spec.faults_of n.globals n.locals 0 (view a.left.value)) (spec.faults_of n.globals n.locals 0 (view a.right.value)) one.0 told))
+
+pub part-returns-in_ok-boxed-in-Implies-clause-names : goal.part-returns-in_ok-boxed-in-Implies-clause-names
+part-returns-in_ok-boxed-in-Implies-clause-names t c =
+    c.in_ok-boxed-in-Implies.ensures.names ∙ c.in_ok-left-in-Implies.ensures.names
+
+pub part-returns-in_ok-boxed-in-Implies-clause-value : goal.part-returns-in_ok-boxed-in-Implies-clause-value
+part-returns-in_ok-boxed-in-Implies-clause-value t c =
+    let n : InForce = c.args.names.now in
+    let a = c.in-Implies in
+    let one = made_at (seen.phrase_view c.in_ok-left-in-Implies.left.value) n n c.deref-in-Implies.result.now a.left.value refl c.deref-in-Implies.ensures c.in_ok-left-in-Implies.ensures.value in
+    let two = made_at (seen.phrase_view c.in_ok-boxed-in-Implies.field-0.value) c.boxed-in-Implies.new.names n c.deref-in-Implies-2.result.now a.right.value c.in_ok-left-in-Implies.ensures.names c.deref-in-Implies-2.ensures c.in_ok-boxed-in-Implies.ensures.value in
+    made_of n c.args.behind c.args.node.now (tree.implies (view a.left.value) a.place (view a.right.value)) (seen.phrase_view (part.Implies c.in_ok-left-in-Implies.left a.place c.in_ok-boxed-in-Implies.field-0)) (ap view a.is ∙ implies_node a.left a.place a.right) ((none_in_both n a.left a.right c.in_ok-left-in-Implies.left c.in_ok-boxed-in-Implies.field-0 one two, implies_made n a.left a.right c.in_ok-left-in-Implies.left c.in_ok-boxed-in-Implies.field-0 a.place one two))
+
+pub part-returns-in_err-left-in-ImpliesElse-clause-names : goal.part-returns-in_err-left-in-ImpliesElse-clause-names
+part-returns-in_err-left-in-ImpliesElse-clause-names t c =
+    nothing_made c.from_residual-in_err-left-in-ImpliesElse.result (c.boxed-in-ImpliesElse.new.names ≡ c.args.names.now) c.from_residual-in_err-left-in-ImpliesElse.ensures.0
+
+pub part-returns-in_err-left-in-ImpliesElse-clause-value : goal.part-returns-in_err-left-in-ImpliesElse-clause-value
+part-returns-in_err-left-in-ImpliesElse-clause-value t c =
+    let n : InForce = c.args.names.now in
+    let a = c.in-ImpliesElse in
+    let e = c.in_err-left-in-ImpliesElse.field-0.0 in
+    let told = told_at e n n c.deref-in-ImpliesElse.result.now a.left.value refl c.deref-in-ImpliesElse.ensures c.in_err-left-in-ImpliesElse.ensures.value in
+    handed (λ (x : Phrase). seen.phrase_view x ≡ spec.resolved n.globals n.locals (view c.args.node.now)) c.from_residual-in_err-left-in-ImpliesElse.result e (spec.faults_of n.globals n.locals c.args.behind (view c.args.node.now)) c.from_residual-in_err-left-in-ImpliesElse.ensures.1 (told_of n c.args.behind c.args.node.now (tree.implies_else (view a.left.value) a.place (view a.right.value) (view a.other.value)) e (ap view a.is ∙ else_node a.left a.place a.right a.other) (told_first e (spec.faults_of n.globals n.locals 0 (view a.left.value) ++ spec.faults_of n.globals n.locals 0 (view a.right.value)) (spec.faults_of n.globals n.locals 0 (view a.other.value)) (told_first e (spec.faults_of n.globals n.locals 0 (view a.left.value)) (spec.faults_of n.globals n.locals 0 (view a.right.value)) told)))
+
+pub part-returns-in_err-right-in-ImpliesElse-clause-names : goal.part-returns-in_err-right-in-ImpliesElse-clause-names
+part-returns-in_err-right-in-ImpliesElse-clause-names t c =
+    nothing_made c.from_residual-in_err-right-in-ImpliesElse.result (c.boxed-in-ImpliesElse-2.new.names ≡ c.args.names.now) c.from_residual-in_err-right-in-ImpliesElse.ensures.0
+
+pub part-returns-in_err-right-in-ImpliesElse-clause-value : goal.part-returns-in_err-right-in-ImpliesElse-clause-value
+part-returns-in_err-right-in-ImpliesElse-clause-value t c =
+    let n : InForce = c.args.names.now in
+    let a = c.in-ImpliesElse in
+    let e = c.in_err-right-in-ImpliesElse.field-0.0 in
+    let one = made_at (seen.phrase_view c.in_ok-left-in-ImpliesElse.left.value) n n c.deref-in-ImpliesElse.result.now a.left.value refl c.deref-in-ImpliesElse.ensures c.in_ok-left-in-ImpliesElse.ensures.value in
+    let told = told_at e c.boxed-in-ImpliesElse.new.names n c.deref-in-ImpliesElse-2.result.now a.right.value c.in_ok-left-in-ImpliesElse.ensures.names c.deref-in-ImpliesElse-2.ensures c.in_err-right-in-ImpliesElse.ensures.value in
+    handed (λ (x : Phrase). seen.phrase_view x ≡ spec.resolved n.globals n.locals (view c.args.node.now)) c.from_residual-in_err-right-in-ImpliesElse.result e (spec.faults_of n.globals n.locals c.args.behind (view c.args.node.now)) c.from_residual-in_err-right-in-ImpliesElse.ensures.1 (told_of n c.args.behind c.args.node.now (tree.implies_else (view a.left.value) a.place (view a.right.value) (view a.other.value)) e (ap view a.is ∙ else_node a.left a.place a.right a.other) (told_first e (spec.faults_of n.globals n.locals 0 (view a.left.value) ++ spec.faults_of n.globals n.locals 0 (view a.right.value)) (spec.faults_of n.globals n.locals 0 (view a.other.value)) (told_second e (spec.faults_of n.globals n.locals 0 (view a.left.value)) (spec.faults_of n.globals n.locals 0 (view a.right.value)) one.0 told)))
+
+pub part-returns-in_err-boxed-in-ImpliesElse-clause-names : goal.part-returns-in_err-boxed-in-ImpliesElse-clause-names
+part-returns-in_err-boxed-in-ImpliesElse-clause-names t c =
+    nothing_made c.from_residual-in_err-boxed-in-ImpliesElse.result (c.boxed-in-ImpliesElse-3.new.names ≡ c.args.names.now) c.from_residual-in_err-boxed-in-ImpliesElse.ensures.0
+
+pub part-returns-in_err-boxed-in-ImpliesElse-clause-value : goal.part-returns-in_err-boxed-in-ImpliesElse-clause-value
+part-returns-in_err-boxed-in-ImpliesElse-clause-value t c =
+    let n : InForce = c.args.names.now in
+    let a = c.in-ImpliesElse in
+    let e = c.in_err-boxed-in-ImpliesElse.field-0.0 in
+    let one = made_at (seen.phrase_view c.in_ok-left-in-ImpliesElse.left.value) n n c.deref-in-ImpliesElse.result.now a.left.value refl c.deref-in-ImpliesElse.ensures c.in_ok-left-in-ImpliesElse.ensures.value in
+    let two = made_at (seen.phrase_view c.in_ok-right-in-ImpliesElse.right.value) c.boxed-in-ImpliesElse.new.names n c.deref-in-ImpliesElse-2.result.now a.right.value c.in_ok-left-in-ImpliesElse.ensures.names c.deref-in-ImpliesElse-2.ensures c.in_ok-right-in-ImpliesElse.ensures.value in
+    let right_names = c.in_ok-right-in-ImpliesElse.ensures.names ∙ c.in_ok-left-in-ImpliesElse.ensures.names in
+    let told = told_at e c.boxed-in-ImpliesElse-2.new.names n c.deref-in-ImpliesElse-3.result.now a.other.value right_names c.deref-in-ImpliesElse-3.ensures c.in_err-boxed-in-ImpliesElse.ensures.value in
+    handed (λ (x : Phrase). seen.phrase_view x ≡ spec.resolved n.globals n.locals (view c.args.node.now)) c.from_residual-in_err-boxed-in-ImpliesElse.result e (spec.faults_of n.globals n.locals c.args.behind (view c.args.node.now)) c.from_residual-in_err-boxed-in-ImpliesElse.ensures.1 (told_of n c.args.behind c.args.node.now (tree.implies_else (view a.left.value) a.place (view a.right.value) (view a.other.value)) e (ap view a.is ∙ else_node a.left a.place a.right a.other) (told_second e (spec.faults_of n.globals n.locals 0 (view a.left.value) ++ spec.faults_of n.globals n.locals 0 (view a.right.value)) (spec.faults_of n.globals n.locals 0 (view a.other.value)) (none_in_both n a.left a.right c.in_ok-left-in-ImpliesElse.left c.in_ok-right-in-ImpliesElse.right one two) told))
+
+pub part-returns-in_ok-boxed-in-ImpliesElse-clause-names : goal.part-returns-in_ok-boxed-in-ImpliesElse-clause-names
+part-returns-in_ok-boxed-in-ImpliesElse-clause-names t c =
+    c.in_ok-boxed-in-ImpliesElse.ensures.names ∙ (c.in_ok-right-in-ImpliesElse.ensures.names ∙ c.in_ok-left-in-ImpliesElse.ensures.names)
+
+pub part-returns-in_ok-boxed-in-ImpliesElse-clause-value : goal.part-returns-in_ok-boxed-in-ImpliesElse-clause-value
+part-returns-in_ok-boxed-in-ImpliesElse-clause-value t c =
+    let n : InForce = c.args.names.now in
+    let a = c.in-ImpliesElse in
+    let one = made_at (seen.phrase_view c.in_ok-left-in-ImpliesElse.left.value) n n c.deref-in-ImpliesElse.result.now a.left.value refl c.deref-in-ImpliesElse.ensures c.in_ok-left-in-ImpliesElse.ensures.value in
+    let two = made_at (seen.phrase_view c.in_ok-right-in-ImpliesElse.right.value) c.boxed-in-ImpliesElse.new.names n c.deref-in-ImpliesElse-2.result.now a.right.value c.in_ok-left-in-ImpliesElse.ensures.names c.deref-in-ImpliesElse-2.ensures c.in_ok-right-in-ImpliesElse.ensures.value in
+    let right_names = c.in_ok-right-in-ImpliesElse.ensures.names ∙ c.in_ok-left-in-ImpliesElse.ensures.names in
+    let three = made_at (seen.phrase_view c.in_ok-boxed-in-ImpliesElse.field-0.value) c.boxed-in-ImpliesElse-2.new.names n c.deref-in-ImpliesElse-3.result.now a.other.value right_names c.deref-in-ImpliesElse-3.ensures c.in_ok-boxed-in-ImpliesElse.ensures.value in
+    made_of n c.args.behind c.args.node.now (tree.implies_else (view a.left.value) a.place (view a.right.value) (view a.other.value)) (seen.phrase_view (part.ImpliesElse c.in_ok-left-in-ImpliesElse.left a.place c.in_ok-right-in-ImpliesElse.right c.in_ok-boxed-in-ImpliesElse.field-0)) (ap view a.is ∙ else_node a.left a.place a.right a.other) ((ap (λ fs. fs ++ spec.faults_of n.globals n.locals 0 (view a.other.value)) (none_in_both n a.left a.right c.in_ok-left-in-ImpliesElse.left c.in_ok-right-in-ImpliesElse.right one two) ∙ three.0, else_made n a.left a.right c.in_ok-left-in-ImpliesElse.left c.in_ok-right-in-ImpliesElse.right a.place a.other c.in_ok-boxed-in-ImpliesElse.field-0 one two three))
+
+pub part-returns-in_err-domains-in-Quantified-clause-names : goal.part-returns-in_err-domains-in-Quantified-clause-names
+part-returns-in_err-domains-in-Quantified-clause-names t c =
+    nothing_made c.from_residual-in_err-domains-in-Quantified.result (c.domains.new.names ≡ c.args.names.now) c.from_residual-in_err-domains-in-Quantified.ensures.0
+
+pub part-returns-in_err-first-in-Chain-clause-names : goal.part-returns-in_err-first-in-Chain-clause-names
+part-returns-in_err-first-in-Chain-clause-names t c =
+    nothing_made c.from_residual-in_err-first-in-Chain.result (c.boxed-in-Chain.new.names ≡ c.args.names.now) c.from_residual-in_err-first-in-Chain.ensures.0
+
+pub part-returns-in_err-formulas-in-Block-clause-names : goal.part-returns-in_err-formulas-in-Block-clause-names
+part-returns-in_err-formulas-in-Block-clause-names t c =
+    nothing_made c.from_residual-in_err-formulas-in-Block.result (c.formulas.new.names ≡ c.args.names.now) c.from_residual-in_err-formulas-in-Block.ensures.0
+
+pub part-returns-in_err-head-in-Path-clause-names : goal.part-returns-in_err-head-in-Path-clause-names
+part-returns-in_err-head-in-Path-clause-names t c =
+    nothing_made c.from_residual-in_err-head-in-Path.result (c.part.new.names ≡ c.args.names.now) c.from_residual-in_err-head-in-Path.ensures.0
+
+pub part-returns-in_err-inner-in-Let-clause-names : goal.part-returns-in_err-inner-in-Let-clause-names
+part-returns-in_err-inner-in-Let-clause-names t c =
+    nothing_made c.from_residual-in_err-inner-in-Let.result (c.boxed-in-Let.new.names ≡ c.args.names.now) c.from_residual-in_err-inner-in-Let.ensures.0
+
+pub part-returns-in_err-inner-in-Quantified-clause-names : goal.part-returns-in_err-inner-in-Quantified-clause-names
+part-returns-in_err-inner-in-Quantified-clause-names t c =
+    nothing_made c.from_residual-in_err-inner-in-Quantified.result (c.boxed-in-Quantified.new.names ≡ c.args.names.now) c.from_residual-in_err-inner-in-Quantified.ensures.0
+
+pub part-returns-in_err-links-in-Chain-clause-names : goal.part-returns-in_err-links-in-Chain-clause-names
+part-returns-in_err-links-in-Chain-clause-names t c =
+    nothing_made c.from_residual-in_err-links-in-Chain.result (c.links.new.names ≡ c.args.names.now) c.from_residual-in_err-links-in-Chain.ensures.0
+
+pub part-returns-in_err-path-in-Path-clause-names : goal.part-returns-in_err-path-in-Path-clause-names
+part-returns-in_err-path-in-Path-clause-names t c =
+    nothing_made c.from_residual-in_err-path-in-Path.result (c.path.new.names ≡ c.args.names.now) c.from_residual-in_err-path-in-Path.ensures.0
+
+pub part-returns-in_err-values-in-Let-clause-names : goal.part-returns-in_err-values-in-Let-clause-names
+part-returns-in_err-values-in-Let-clause-names t c =
+    nothing_made c.from_residual-in_err-values-in-Let.result (c.values.new.names ≡ c.args.names.now) c.from_residual-in_err-values-in-Let.ensures.0
+
+pub part-returns-in_err-first-in-Chain-clause-value : goal.part-returns-in_err-first-in-Chain-clause-value
+part-returns-in_err-first-in-Chain-clause-value t c =
+    let n : InForce = c.args.names.now in
+    let a = c.in-Chain in
+    let e = c.in_err-first-in-Chain.field-0.0 in
+    let told = told_at e n n c.deref-in-Chain.result.now a.first.value refl c.deref-in-Chain.ensures c.in_err-first-in-Chain.ensures.value in
+    handed (λ (x : Phrase). seen.phrase_view x ≡ spec.resolved n.globals n.locals (view c.args.node.now)) c.from_residual-in_err-first-in-Chain.result e (spec.faults_of n.globals n.locals c.args.behind (view c.args.node.now)) c.from_residual-in_err-first-in-Chain.ensures.1 (told_of n c.args.behind c.args.node.now (tree.chain (view a.first.value) (links_of (map link_view a.others.items))) e (ap view a.is ∙ chain_node a.first a.others) (told_first e (spec.faults_of n.globals n.locals 0 (view a.first.value)) (spec.link_faults n.globals n.locals (links_of (map link_view a.others.items))) told))
+
+pub part-returns-in_err-links-in-Chain-clause-value : goal.part-returns-in_err-links-in-Chain-clause-value
+part-returns-in_err-links-in-Chain-clause-value t c =
+    let n : InForce = c.args.names.now in
+    let a = c.in-Chain in
+    let e = c.in_err-links-in-Chain.field-0.0 in
+    let one = made_at (seen.phrase_view c.in_ok-first-in-Chain.first.value) n n c.deref-in-Chain.result.now a.first.value refl c.deref-in-Chain.ensures c.in_ok-first-in-Chain.ensures.value in
+    let links = subst (λ (m : InForce). IsTold e (spec.link_faults m.globals m.locals (links_of (map link_view c.deref-in-Chain-2.result.now)))) c.in_ok-first-in-Chain.ensures.names c.in_err-links-in-Chain.ensures.value in
+    let told = subst (λ xs. IsTold e (spec.link_faults n.globals n.locals (links_of (map link_view xs)))) c.deref-in-Chain-2.ensures.value links in
+    handed (λ (x : Phrase). seen.phrase_view x ≡ spec.resolved n.globals n.locals (view c.args.node.now)) c.from_residual-in_err-links-in-Chain.result e (spec.faults_of n.globals n.locals c.args.behind (view c.args.node.now)) c.from_residual-in_err-links-in-Chain.ensures.1 (told_of n c.args.behind c.args.node.now (tree.chain (view a.first.value) (links_of (map link_view a.others.items))) e (ap view a.is ∙ chain_node a.first a.others) (told_second e (spec.faults_of n.globals n.locals 0 (view a.first.value)) (spec.link_faults n.globals n.locals (links_of (map link_view a.others.items))) one.0 told))
+
+pub part-returns-in_err-formulas-in-Block-clause-value : goal.part-returns-in_err-formulas-in-Block-clause-value
+part-returns-in_err-formulas-in-Block-clause-value t c =
+    let n : InForce = c.args.names.now in
+    let a = c.in-Block in
+    let e = c.in_err-formulas-in-Block.field-0.0 in
+    let told = subst (λ xs. IsTold e (spec.all_faults n.globals n.locals (trees_of (views xs)))) c.deref-in-Block.ensures.value c.in_err-formulas-in-Block.ensures.value in
+    handed (λ (x : Phrase). seen.phrase_view x ≡ spec.resolved n.globals n.locals (view c.args.node.now)) c.from_residual-in_err-formulas-in-Block.result e (spec.faults_of n.globals n.locals c.args.behind (view c.args.node.now)) c.from_residual-in_err-formulas-in-Block.ensures.1 (told_of n c.args.behind c.args.node.now (tree.block a.place (trees_of (views a.nodes.items))) e (ap view a.is ∙ block_node a.place a.nodes) (told))
+
+pub part-returns-in_ok-formulas-in-Block-clause-names : goal.part-returns-in_ok-formulas-in-Block-clause-names
+part-returns-in_ok-formulas-in-Block-clause-names t c =
+    c.in_ok-formulas-in-Block.ensures.names
+
+pub part-returns-in_ok-links-in-Chain-clause-names : goal.part-returns-in_ok-links-in-Chain-clause-names
+part-returns-in_ok-links-in-Chain-clause-names t c =
+    c.in_ok-links-in-Chain.ensures.names ∙ c.in_ok-first-in-Chain.ensures.names
+
+pub part-returns-in_ok-path-in-Path-clause-names : goal.part-returns-in_ok-path-in-Path-clause-names
+part-returns-in_ok-path-in-Path-clause-names t c =
+    c.in_ok-path-in-Path.ensures.names ∙ c.in_ok-head-in-Path.ensures.names
+
+pub part-returns-in-Constant-clause-names : goal.part-returns-in-Constant-clause-names
+part-returns-in-Constant-clause-names t c =
+    refl
+
+pub part-returns-in-Numbered-clause-names : goal.part-returns-in-Numbered-clause-names
+part-returns-in-Numbered-clause-names t c =
+    refl
+
+pub part-returns-in_ok-tied-in-Named-clause-names : goal.part-returns-in_ok-tied-in-Named-clause-names
+part-returns-in_ok-tied-in-Named-clause-names t c =
+    refl

@@ -1,7 +1,7 @@
 use Rattle.std.proofs.Common.{◌≡◌, ◌<◌, ◌≤◌, length, sym, ◌∙◌, arith}
 use Rattle.reference_cycles.specs.Cycles.Walks.{rows_of}
 use Rattle.reference_cycles.proofs.Cycles.NumbersMet.{among_is, rows_count, begun_at, further_at, met_below, few_met, ended_with, ended_without}
-use Rattle.reference_cycles.proofs.number_cycles.walk.leads_back.Goals as goal
+use Rattle.reference_cycles.proofs.number_cycles.walk.comes_back.Goals as goal
 
 pub row-requires-in-loop-next : goal.row-requires-in-loop-next
 row-requires-in-loop-next c =
@@ -31,5 +31,5 @@ pub returns-clause-no : goal.returns-clause-no
 returns-clause-no c = λ never.
     let count : length (rows_of c.args.rows.now) ≡ length c.args.rows.now = rows_count c.args.rows.now in
     let all : length c.loop-next.met.keys ≤ c.loop-next.next = omega (arith, c.loop-next-test.false, c.len.ensures.len) in
-    let there : c.args.start < length (rows_of c.args.rows.now) = omega (arith, c.requires, count) in
+    let there : c.args.start < length (rows_of c.args.rows.now) = omega (arith, c.requires.there, count) in
     ended_without (rows_of c.args.rows.now) c.args.start c.loop-next.met.keys c.loop-next.next c.loop-next.invariant all there (sym (among_is c.args.start c.loop-next.met.keys) ∙ (sym c.contains.ensures ∙ never))
