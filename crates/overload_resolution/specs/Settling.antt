@@ -1,5 +1,5 @@
+pub mod Built
 pub mod Inside
-pub mod Rest
 pub mod Same
 pub mod Single
 pub mod Told

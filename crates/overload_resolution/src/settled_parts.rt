@@ -2,6 +2,7 @@
 //! or the first fault. Want of memory is also answered where a bounding type that a shared name asks for would have too many
 //! lists.
 
+mod building;
 mod settling;
 
 pub use crate::settled_parts::settling::{domains, formulas, part};

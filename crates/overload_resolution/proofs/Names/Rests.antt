@@ -1,7 +1,7 @@
 -- Loops over parts: what is left asks as the whole does.
-use Rattle.std.proofs.Common.{◌≡◌, ℕ, ◌+◌, ◌<◌, ◌≤◌, Bool, true, false, ◌||◌, List, [], ◌∷◌, map, length, get_or, drop, refl, sym, ap, ◌∙◌}
+use Rattle.std.proofs.Common.{◌≡◌, ℕ, ◌+◌, ◌<◌, ◌≤◌, Bool, true, false, ◌||◌, List, [], ◌∷◌, length, get_or, drop, refl, sym, ap, ◌∙◌}
 use Rattle.std.proofs.lemmas.List.{drop_more, drop_all}
-use Rattle.named_model.specs.Phrase.{PhraseTree, StepTrees, StepTree, joined, in_brackets, step_first}
+use Rattle.named_model.specs.Phrase.{StepTrees, StepTree, joined, in_brackets, step_first}
 use Rattle.overload_resolution.specs.Names.Asking.{asks_in_steps, step_asks}
 
 -- a test of a list that is one of its first or of its rest

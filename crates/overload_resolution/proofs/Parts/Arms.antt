@@ -5,25 +5,22 @@ use Rattle.std.specs.Option.{option_map}
 use Rattle.alloy_lex.specs.declared.token.Place.{Place}
 use Rattle.named_model.specs.Answers.{◌>>=◌}
 use Rattle.named_model.specs.declared.phrase.Phrase.{Phrase}
-use Rattle.named_model.specs.declared.phrase.Step.{Join}
-use Rattle.named_model.specs.Phrase.{PhraseTree, called, PhraseTrees, StepTree, joined, StepTrees, join_first, brackets_first, step_first}
+use Rattle.named_model.specs.Phrase.{PhraseTree, called, PhraseTrees, StepTrees, join_first, brackets_first}
 use Rattle.named_model.specs.View.{phrase_view}
 use Rattle.model_types.specs.declared.fault.TypeFault.{TypeFault}
 use Rattle.model_types.specs.Bounding.{Lists}
 use Rattle.model_types.specs.Sorts as sorts
-use Rattle.model_types.specs.Typing.{Declared, Local, Settled, Arguments, type_in, is_shared, ends_of, call_kind, settled, arguments_settled}
+use Rattle.model_types.specs.Typing.{Declared, Local, Arguments, type_in, is_shared, ends_of, call_kind, settled, arguments_settled}
 use Rattle.model_types.specs.declared.part_sorts.kinds.Kind.{Kind}
-use Rattle.model_types.specs.Parts.Kinds.{kind_view}
 use Rattle.model_types.specs.Bounds.Same.{AreSame}
 use Rattle.overload_resolution.specs.Fields.Alike.{AreAlike}
 use Rattle.overload_resolution.specs.declared.shared_names.headers.Header.{Header}
 use Rattle.overload_resolution.specs.Names.Headers.{with_type}
-use Rattle.overload_resolution.specs.Settling.Single.{join_settled, step_settled, argument_first, argument_before, argument_asked, tops_of}
+use Rattle.overload_resolution.specs.Settling.Single.{argument_first, argument_before, argument_asked, tops_of}
 use Rattle.overload_resolution.specs.declared.typed_scopes.setting.Setting.{Setting}
 use Rattle.overload_resolution.specs.Scopes.Declaring.{types_by, declared_by}
 use Rattle.overload_resolution.specs.Scopes.Given.{settled_view}
-use Rattle.overload_resolution.specs.Parts.Views.{stepped_view}
-use Rattle.overload_resolution.proofs.Parts.PathHeads.{settled_by, join_seen}
+use Rattle.overload_resolution.proofs.Parts.PathHeads.{settled_by}
 
 -- ---- calls
 
@@ -62,11 +59,3 @@ module _ (d : Declared) (ls : List Local) where
       go : (b : Bool) → (if b then argument_before d ls (join_first p y rest) else Ok None) ≡ Ok None
       go true = refl
       go false = refl
-
-  -- ---- joins
-
-  pub join_stepped : (left : Place) (k : sorts.Kind) (a : Lists) (s : StepTree) (p : Place) (x : PhraseTree) (y : Phrase) (m : Kind) → s ≡ joined p x → join_settled d ls left k a p x ≡ Ok (settled_view (y, m))
-      → step_settled d ls left k a s ≡ Ok (stepped_view (Join p y, m))
-  join_stepped left k a s p x y m is one =
-      ap (step_settled d ls left k a) is ∙ ap (λ r. r >>= λ (z : Settled). Ok (record { before = join_first p z.tree; kind = z.kind })) one
-      ∙ ap (λ (v : StepTree). Ok (record { before = step_first v; kind = kind_view m })) (sym (join_seen p y))

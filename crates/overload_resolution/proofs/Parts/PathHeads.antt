@@ -1,6 +1,7 @@
 -- Heads of paths, behind the first argument that they ask for; and parts that stand inside local names.
 use Rattle.std.proofs.Common.{◌≡◌, ℕ, Bool, true, false, ◌||◌, List, [], ◌∷◌, map, drop, Option, Some, None, Result, Ok, Err, refl, sym, ap, ◌∙◌, if◌then◌else◌, Vec, Global}
 use Rattle.std.specs.List.{slice_get}
+use Rattle.std.specs.Option.{option_map, IfSome}
 use Rattle.alloy_lex.specs.declared.token.Place.{Place}
 use Rattle.alloy_syntax.specs.declared.tree.Quantifier.{Quantifier}
 use Rattle.named_model.specs.Answers.{◌>>=◌}
@@ -24,6 +25,7 @@ use Rattle.overload_resolution.proofs.Settling.SharedDeclarations.{asks_right}
 use Rattle.overload_resolution.specs.Settling.Told.{IsTold}
 use Rattle.overload_resolution.proofs.Settling.Asking.{tops_alike}
 use Rattle.overload_resolution.proofs.Settling.Reaching.{told_then}
+use Rattle.overload_resolution.specs.Scopes.Given.{settled_view}
 use Rattle.overload_resolution.specs.Parts.Given.{IsGivenFirst, IsGivenBefore}
 
 -- a part behind signatures that are alike
@@ -53,6 +55,10 @@ module _ (d : Declared) (ls : List Local) where
   path_apart tops x steps = head_apart (is_shared x) steps (behind_head x steps)
 
   module _ (tops : List ℕ) (x : PhraseTree) (steps : StepTrees) where
+    -- what is told of the argument that the head asks for is told of the path
+    pub path_asked_told : (e : TypeFault) → IsTold e (argument_asked d ls x steps) → IsTold e (settled d ls tops (path x steps))
+    path_asked_told e told = told_then e (argument_asked d ls x steps) (λ o. behind_head x steps (tops_of d ls o)) (settled d ls tops (path x steps)) (path_apart tops x steps) told
+
     module _ (given : Option Settled) (asked : argument_asked d ls x steps ≡ Ok given) where
       path_given : settled d ls tops (path x steps) ≡ behind_head x steps (tops_of d ls given)
       path_given = path_apart tops x steps ∙ ap (λ r. r >>= λ o. behind_head x steps (tops_of d ls o)) asked
@@ -113,3 +119,20 @@ join_comes steps s p x e is =
 pub given_brackets : (d : Declared) (ls : List Local) (given : Option (Phrase × Kind)) (s : Step) (p : Place) (xs : Vec Phrase Global) → s ≡ Brackets p xs → IsGivenBefore d ls given (step_first (step_view s) no_steps)
     → IsGivenFirst d ls given (phrases_view xs.items)
 given_brackets d ls given s p xs is h = h p (phrases_view xs.items) no_steps (ap (λ v. step_first v no_steps) (ap step_view is ∙ brackets_seen p xs))
+
+-- ---- the argument that the head asks for
+
+some_by : (r : Result Settled TypeFault) (z : Settled) → (r >>= λ y. Ok (Some y)) ≡ Ok (Some z) → r ≡ Ok z
+some_by (Ok y) z e = cc
+some_by (Err x) z e = absurd cc
+
+given_by : (b : Bool) (r : Result Settled TypeFault) (given : Option (Phrase × Kind)) → (if b then (r >>= λ y. Ok (Some y)) else Ok None) ≡ Ok (option_map settled_view given) → IfSome given (λ g. r ≡ Ok (settled_view g))
+given_by b r None e = tt
+given_by false r (Some g) e = absurd cc
+given_by true r (Some g) e = some_by r (settled_view g) e
+
+-- is the first in brackets that come first
+pub asked_before : (d : Declared) (ls : List Local) (x : PhraseTree) (steps : StepTrees) (given : Option (Phrase × Kind)) → argument_asked d ls x steps ≡ Ok (option_map settled_view given) → IsGivenBefore d ls given steps
+asked_before d ls x steps given asked p xs rest is y more are =
+    given_by (is_shared x) (settled d ls [] y) given
+    (sym (ap (λ (ss : StepTrees). argument_asked d ls x ss) is ∙ ap (λ (zs : PhraseTrees). argument_asked d ls x (brackets_first p zs rest)) are) ∙ asked)

@@ -1,5 +1,5 @@
 -- Where the type of what stands before asks which field a name is.
-use Rattle.std.specs.Prelude.{Bool, true, false, ◌||◌}
+use Rattle.std.specs.Prelude.{Bool, false, ◌||◌}
 use Rattle.alloy_syntax.specs.declared.tree.Operator.{Operator}
 use Rattle.alloy_syntax.specs.declared.tree.Operator.TheVariants as operator
 use Rattle.named_model.specs.Phrase.{PhraseTree, LinkTrees, no_links, more_links, StepTrees, no_steps, join_first, brackets_first, LinkTree, StepTree, joined, in_brackets}

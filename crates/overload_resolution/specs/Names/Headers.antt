@@ -1,5 +1,5 @@
 -- Headers, and what arguments owe to them.
-use Rattle.std.specs.Prelude.{ℕ, List, Option, Some, None, Ok, Err}
+use Rattle.std.specs.Prelude.{ℕ, List, Option, Some, None, Err}
 use Rattle.alloy_lex.specs.declared.token.Place.{Place}
 use Rattle.model_types.specs.declared.fault.TypeFault.TheVariants as fault
 use Rattle.model_types.specs.Bounding.{Lists}

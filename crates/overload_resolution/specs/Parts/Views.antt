@@ -11,7 +11,7 @@ use Rattle.model_types.specs.Sorts as sorts
 use Rattle.model_types.specs.Typing as typing
 use Rattle.model_types.specs.declared.part_sorts.kinds.Kind.{Kind}
 use Rattle.model_types.specs.Parts.Kinds.{kind_view}
-use Rattle.overload_resolution.specs.declared.settled_parts.settling.Arguments.{Arguments}
+use Rattle.overload_resolution.specs.declared.settled_parts.building.Arguments.{Arguments}
 use Rattle.overload_resolution.specs.Settling.Single.{Linked, Stepped}
 
 abbrev pub phrases_seen : Vec Phrase Global → PhraseTrees

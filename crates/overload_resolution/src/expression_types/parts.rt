@@ -63,24 +63,24 @@ fn part_type(
     work.look()?;
     let depth = depth.inside()?;
     match phrase {
-        Phrase::Refers(_, referent) => Ok(referent_type(alloc, work, known, locals, *referent)?),
+        Phrase::Refers(_, referent) => referent_type(alloc, work, known, locals, *referent),
         Phrase::Called(_, number, arguments) => {
             let types = part_types(alloc, work, known, depth, locals, arguments)?;
-            Ok(called_type(alloc, work, known, depth, *number, &types)?)
+            called_type(alloc, work, known, depth, *number, &types)
         }
-        Phrase::Constant(constant, _) => Ok(constant_type(alloc, work, &known.tops, *constant)?),
-        Phrase::Bracketed(_, inner) => Ok(part_type(alloc, work, known, depth, locals, inner)?),
+        Phrase::Constant(constant, _) => constant_type(alloc, work, &known.tops, *constant),
+        Phrase::Bracketed(_, inner) => part_type(alloc, work, known, depth, locals, inner),
         Phrase::Prefixed(prefix, _, inner) => {
             let a = part_type(alloc, work, known, depth, locals, inner)?;
-            Ok(prefix_type(alloc, work, &known.tops, *prefix, a)?)
+            prefix_type(alloc, work, &known.tops, *prefix, a)
         }
         Phrase::Chain(first, links) => {
             let a = part_type(alloc, work, known, depth, locals, first)?;
-            Ok(with_links(alloc, work, known, depth, locals, a, links)?)
+            with_links(alloc, work, known, depth, locals, a, links)
         }
         Phrase::Path(head, steps) => {
             let a = part_type(alloc, work, known, depth, locals, head)?;
-            Ok(with_steps(alloc, work, known, depth, locals, a, steps)?)
+            with_steps(alloc, work, known, depth, locals, a, steps)
         }
         Phrase::Numbered(_)
         | Phrase::Block(_, _)

@@ -12,31 +12,29 @@ ghost use Rattle.overload_resolution.specs.Scopes.Declaring.{declared_by, AreTab
 ghost use Rattle.overload_resolution.specs.Settling.Told.{Gives};
 ghost use Rattle.overload_resolution.specs.Scopes.Given.{settled_view};
 ghost use Rattle.overload_resolution.specs.Parts.Given.{GivesBehind, relation_view, IsGiven, IsGivenFirst, IsGivenBefore};
-ghost use Rattle.overload_resolution.specs.Parts.Views.{phrases_seen, arguments_view, linked_view, links_seen, stepped_view, steps_seen, bracketed_view, domains_seen};
+ghost use Rattle.overload_resolution.specs.Parts.Views.{phrases_seen, arguments_view, linked_view, links_seen, stepped_view, steps_seen, domains_seen};
 ghost use Rattle.overload_resolution.specs.Scopes.Zipped.{IsInside};
-ghost use Rattle.overload_resolution.specs.Settling.Rest.{chain_rest, path_rest, compared_rest, implies_rest, else_rest, quantified_rest, let_rest};
-ghost use Rattle.overload_resolution.specs.Settling.Single.{link_settled, connected, combined, step_settled, join_settled, brackets_settled, relation_settled, domain_settled, argument_asked, argument_first, tops_of};
+ghost use Rattle.overload_resolution.specs.Settling.Single.{link_settled, step_settled, relation_settled, argument_asked, argument_first, tops_of};
 
+use crate::settled_parts::building::{
+    Arguments, block_of, bracketed, bracketed_of, brackets_step, chain_of, combined, compared_of,
+    connected, domain_of, else_of, formula_of, implies_of, join_step, joined, let_of, path_of,
+    prefixed_of, put_argument, put_link, put_step, quantified_of, relation_of,
+};
 use crate::shared_fields::Tops;
 use crate::shared_fields::tops::{ends_of, tops_behind};
 use crate::shared_names::asking::{asks_in_links, asks_in_steps, is_shared};
 use crate::shared_names::call_kind;
 use crate::shared_names::walk::{is_among, is_in, is_in_domains};
 use crate::typed_scopes::names::referent_settled;
-use crate::typed_scopes::types::{
-    enter_all, leave_until, type_after, type_inside, type_where, type_with,
-};
+use crate::typed_scopes::types::{enter_all, leave_until, type_inside, type_where};
 use crate::typed_scopes::{Scope, Setting};
 use alloy_lex::Place;
 use alloy_syntax::tree::{Comparing, Constant, Operator, Prefix, Quantifier};
 use model_types::TypeFault;
 use model_types::bounding_types::BoundingType;
 use model_types::part_sorts::Kind;
-use model_types::part_sorts::arities::{
-    brackets_arity, constant_arity, is_connective, joined_arity, operator_arity,
-};
-use model_types::part_sorts::comparisons::{fits_left, may_stand_left};
-use model_types::part_sorts::kinds::{as_formula, as_relation, prefix_kind};
+use model_types::part_sorts::arities::{constant_arity, is_connective};
 use model_types::part_sorts::places::first_place;
 use named_model::phrase::{Domain, Link, Phrase, Step};
 use std::alloc::Global;
@@ -74,95 +72,29 @@ pub fn part(
     ensures locals { scope.new.locals ≡ scope.old.locals }
 {
     match phrase {
-        Phrase::Refers(place, referent) => {
-            referent_settled(setting, scope, tops, *place, *referent)
-        }
-        Phrase::Called(place, number, phrases) => {
-            call(alloc, setting, scope, phrases, *place, *number)
-        }
+        Phrase::Refers(place, name) => referent_settled(setting, scope, tops, *place, *name),
+        Phrase::Called(place, number, given) => call(alloc, setting, scope, given, *place, *number),
         Phrase::Numbered(number) => Ok((Phrase::Numbered(*number), Kind::Number)),
         Phrase::Constant(constant, place) => Ok(constant_settled(*constant, *place)),
         Phrase::Bracketed(place, inner) => {
-            in_round_brackets(alloc, setting, scope, tops, inner, *place)
+            bracketed_of(alloc, *place, part(alloc, setting, scope, tops, inner))
         }
-        Phrase::Block(place, phrases) => block(alloc, setting, scope, phrases, *place),
+        Phrase::Block(place, phrases) => block_of(*place, formulas(alloc, setting, scope, phrases)),
         Phrase::Prefixed(prefix, place, inner) => {
-            prefixed(alloc, setting, scope, inner, *prefix, *place)
+            prefixed(alloc, setting, scope, *prefix, *place, inner)
         }
-        Phrase::Chain(first, links) => {
-            let settled = plain(alloc, setting, scope, first)?;
-            chain(alloc, setting, scope, links, first_place(first), settled)
-        }
-        Phrase::Path(head, steps) => {
-            let given = argument_asked(alloc, setting, scope, steps, head)?;
-            let settled = head_settled(alloc, setting, scope, head, &given)?;
-            path(
-                alloc,
-                setting,
-                scope,
-                steps,
-                first_place(head),
-                settled,
-                given,
-            )
-        }
-        Phrase::Compared(left, comparing, right) => {
-            let settled = plain(alloc, setting, scope, left)?;
-            compared(
-                alloc,
-                setting,
-                scope,
-                right,
-                first_place(left),
-                settled,
-                *comparing,
-            )
-        }
-        Phrase::Implies(left, place, right) => {
-            let premise = formula(alloc, setting, scope, left)?;
-            implied(alloc, setting, scope, right, premise, *place)
-        }
+        Phrase::Chain(first, links) => chain(alloc, setting, scope, first, links),
+        Phrase::Path(head, steps) => path(alloc, setting, scope, head, steps),
+        Phrase::Compared(left, how, right) => compared(alloc, setting, scope, left, *how, right),
+        Phrase::Implies(left, place, right) => implied(alloc, setting, scope, left, *place, right),
         Phrase::ImpliesElse(left, place, right, other) => {
-            let premise = formula(alloc, setting, scope, left)?;
-            let second = formula(alloc, setting, scope, right)?;
-            or_else(alloc, setting, scope, other, premise, *place, second)
+            or_else(alloc, setting, scope, left, *place, right, other)
         }
         Phrase::Quantified(quantifier, place, variables, inner) => {
-            let depth = scope.locals.depth();
-            let asked = asks_quantified(variables, inner);
-            let others = variables_entered(alloc, setting, scope, asked, variables)?;
-            quantified(
-                alloc,
-                setting,
-                scope,
-                inner,
-                depth,
-                *quantifier,
-                *place,
-                others,
-            )
+            quantified(alloc, setting, scope, *quantifier, *place, variables, inner)
         }
-        Phrase::Let(place, phrases, inner) => {
-            let depth = scope.locals.depth();
-            let asked = asks_let(phrases, inner);
-            let others = values_entered(alloc, setting, scope, asked, phrases)?;
-            inside_let(alloc, setting, scope, inner, depth, *place, others)
-        }
+        Phrase::Let(place, values, inner) => in_let(alloc, setting, scope, *place, values, inner),
     }
-}
-
-// Whether a name of several fields stands in the domains of a quantifier or in what stands inside it.
-fn asks_quantified(variables: &[Domain], inner: &Phrase) -> bool
-    ensures { result ≡ shared_in_domains (domains_of (map domain_view variables.now)) || shared_in (phrase_view inner.now) }
-{
-    is_in_domains(variables) || is_in(inner)
-}
-
-// The same of the values of a `let`.
-fn asks_let(phrases: &[Phrase], inner: &Phrase) -> bool
-    ensures { result ≡ shared_among (phrases_view phrases.now) || shared_in (phrase_view inner.now) }
-{
-    is_among(phrases) || is_in(inner)
 }
 
 fn constant_settled(constant: Constant, place: Place) -> (Phrase, Kind)
@@ -191,165 +123,177 @@ fn call(
     Ok((Phrase::Called(place, number, arguments.phrases), kind))
 }
 
-#[cycle(parts)]
-fn in_round_brackets(
-    alloc: Global,
-    setting: &Setting,
-    scope: &mut Scope,
-    tops: &Tops,
-    inner: &Phrase,
-    place: Place,
-) -> Result<(Phrase, Kind), TypeFault>
-    requires { AreTables setting.now }
-    ensures value { Gives settled_view result (settled (declared_by setting.now) scope.old.locals tops.now (tree.bracketed place (phrase_view inner.now))) }
-    ensures locals { scope.new.locals ≡ scope.old.locals }
-{
-    let (inner, kind) = part(alloc, setting, scope, tops, inner)?;
-    Ok((Phrase::Bracketed(place, Box::new(alloc, inner)?), kind))
-}
-
-#[cycle(parts)]
-fn block(
-    alloc: Global,
-    setting: &Setting,
-    scope: &mut Scope,
-    phrases: &[Phrase],
-    place: Place,
-) -> Result<(Phrase, Kind), TypeFault>
-    requires { AreTables setting.now }
-    ensures value { Gives settled_view result (settled (declared_by setting.now) scope.old.locals [] (tree.block place (phrases_view phrases.now))) }
-    ensures locals { scope.new.locals ≡ scope.old.locals }
-{
-    let phrases = formulas(alloc, setting, scope, phrases)?;
-    Ok((Phrase::Block(place, phrases), Kind::Formula))
-}
-
+// A part behind an operator.
 #[cycle(parts)]
 fn prefixed(
     alloc: Global,
     setting: &Setting,
     scope: &mut Scope,
-    phrase: &Phrase,
     prefix: Prefix,
     place: Place,
+    phrase: &Phrase,
 ) -> Result<(Phrase, Kind), TypeFault>
     requires { AreTables setting.now }
     ensures value { Gives settled_view result (settled (declared_by setting.now) scope.old.locals [] (tree.prefixed prefix place (phrase_view phrase.now))) }
     ensures locals { scope.new.locals ≡ scope.old.locals }
 {
-    let (inner, kind) = plain(alloc, setting, scope, phrase)?;
-    let kind = prefix_kind(prefix, place, first_place(phrase), kind)?;
-    let inner = Box::new(alloc, inner)?;
-    Ok((Phrase::Prefixed(prefix, place, inner), kind))
+    let settled = plain(alloc, setting, scope, phrase);
+    prefixed_of(alloc, prefix, place, phrase, settled)
 }
 
-// A chain whose first operand is settled.
+// A chain of operands.
 #[cycle(parts)]
 fn chain(
     alloc: Global,
     setting: &Setting,
     scope: &mut Scope,
+    first: &Phrase,
     links: &[Link],
-    left: Place,
-    first: (Phrase, Kind),
 ) -> Result<(Phrase, Kind), TypeFault>
     requires { AreTables setting.now }
-    ensures value { Gives settled_view result (chain_rest (declared_by setting.now) scope.old.locals left (settled_view first) (links_of (map link_view links.now))) }
+    ensures value { Gives settled_view result (settled (declared_by setting.now) scope.old.locals [] (tree.chain (phrase_view first.now) (links_of (map link_view links.now)))) }
     ensures locals { scope.new.locals ≡ scope.old.locals }
 {
-    let (first, kind) = first;
-    let (others, kind) = behind(alloc, setting, scope, left, kind, links, &first)?;
-    Ok((Phrase::Chain(Box::new(alloc, first)?, others), kind))
+    let left = first_place(first);
+    let (first, kind) = plain(alloc, setting, scope, first)?;
+    let others = behind(alloc, setting, scope, left, kind, links, &first);
+    chain_of(alloc, first, others)
 }
 
-// A path whose head is settled, with the first argument that the head asked for.
+// A path, the head of which may ask for its first argument.
 #[cycle(parts)]
 fn path(
     alloc: Global,
     setting: &Setting,
     scope: &mut Scope,
+    head: &Phrase,
     steps: &[Step],
-    left: Place,
-    head: (Phrase, Kind),
-    given: Option<(Phrase, Kind)>,
 ) -> Result<(Phrase, Kind), TypeFault>
-    requires tables { AreTables setting.now }
-    requires given { IsGivenBefore (declared_by setting.now) scope.old.locals given (steps_of (map step_view steps.now)) }
-    ensures value { Gives settled_view result (path_rest (declared_by setting.now) scope.old.locals left (settled_view head) (steps_of (map step_view steps.now))) }
+    requires { AreTables setting.now }
+    ensures value { Gives settled_view result (settled (declared_by setting.now) scope.old.locals [] (tree.path (phrase_view head.now) (steps_of (map step_view steps.now)))) }
     ensures locals { scope.new.locals ≡ scope.old.locals }
 {
-    let (head, kind) = head;
-    let (others, kind) = after(alloc, setting, scope, left, kind, steps, &head, given)?;
-    Ok((Phrase::Path(Box::new(alloc, head)?, others), kind))
+    let left = first_place(head);
+    let given = argument_asked(alloc, setting, scope, steps, head)?;
+    let (head, kind) = head_settled(alloc, setting, scope, head, &given)?;
+    let others = after(alloc, setting, scope, left, kind, steps, &head, given);
+    path_of(alloc, head, others)
 }
 
-// A comparison whose left side is settled.
+// A comparison.
 #[cycle(parts)]
 fn compared(
     alloc: Global,
     setting: &Setting,
     scope: &mut Scope,
-    right: &Phrase,
-    left: Place,
-    first: (Phrase, Kind),
+    left: &Phrase,
     comparing: Comparing,
+    right: &Phrase,
 ) -> Result<(Phrase, Kind), TypeFault>
     requires { AreTables setting.now }
-    ensures value { Gives settled_view result (compared_rest (declared_by setting.now) scope.old.locals left (settled_view first) comparing (phrase_view right.now)) }
+    ensures value { Gives settled_view result (settled (declared_by setting.now) scope.old.locals [] (tree.compared (phrase_view left.now) comparing (phrase_view right.now))) }
     ensures locals { scope.new.locals ≡ scope.old.locals }
 {
-    let (first, kind) = first;
-    may_stand_left(comparing.comparison, left, kind)?;
-    let (second, other) = plain(alloc, setting, scope, right)?;
-    fits_left(comparing.place, first_place(right), kind, other)?;
-    let first = Box::new(alloc, first)?;
-    let second = Box::new(alloc, second)?;
-    Ok((Phrase::Compared(first, comparing, second), Kind::Formula))
+    let first = plain(alloc, setting, scope, left)?;
+    let second = plain(alloc, setting, scope, right);
+    compared_of(alloc, first_place(left), first, comparing, right, second)
 }
 
-// An implication whose premise is settled.
+// An implication.
 #[cycle(parts)]
 fn implied(
     alloc: Global,
     setting: &Setting,
     scope: &mut Scope,
-    right: &Phrase,
-    premise: Phrase,
+    left: &Phrase,
     place: Place,
+    right: &Phrase,
 ) -> Result<(Phrase, Kind), TypeFault>
     requires { AreTables setting.now }
-    ensures value { Gives settled_view result (implies_rest (declared_by setting.now) scope.old.locals (phrase_view premise) place (phrase_view right.now)) }
+    ensures value { Gives settled_view result (settled (declared_by setting.now) scope.old.locals [] (tree.implies (phrase_view left.now) place (phrase_view right.now))) }
     ensures locals { scope.new.locals ≡ scope.old.locals }
 {
-    let right = formula(alloc, setting, scope, right)?;
-    let premise = Box::new(alloc, premise)?;
-    let right = Box::new(alloc, right)?;
-    Ok((Phrase::Implies(premise, place, right), Kind::Formula))
+    let premise = formula(alloc, setting, scope, left)?;
+    let right = formula(alloc, setting, scope, right);
+    implies_of(alloc, premise, place, right)
 }
 
-// The same with a part behind `else`, which alone isn't settled yet.
+// The same with a part behind `else`.
 #[cycle(parts)]
 fn or_else(
     alloc: Global,
     setting: &Setting,
     scope: &mut Scope,
-    other: &Phrase,
-    premise: Phrase,
+    left: &Phrase,
     place: Place,
-    second: Phrase,
+    right: &Phrase,
+    other: &Phrase,
 ) -> Result<(Phrase, Kind), TypeFault>
     requires { AreTables setting.now }
-    ensures value { Gives settled_view result (else_rest (declared_by setting.now) scope.old.locals (phrase_view premise) place (phrase_view second) (phrase_view other.now)) }
+    ensures value { Gives settled_view result (settled (declared_by setting.now) scope.old.locals [] (tree.implies_else (phrase_view left.now) place (phrase_view right.now) (phrase_view other.now))) }
     ensures locals { scope.new.locals ≡ scope.old.locals }
 {
-    let other = formula(alloc, setting, scope, other)?;
-    let premise = Box::new(alloc, premise)?;
-    let second = Box::new(alloc, second)?;
-    let other = Box::new(alloc, other)?;
-    Ok((
-        Phrase::ImpliesElse(premise, place, second, other),
-        Kind::Formula,
-    ))
+    let premise = formula(alloc, setting, scope, left)?;
+    let second = formula(alloc, setting, scope, right);
+    let other = formula(alloc, setting, scope, other);
+    else_of(alloc, premise, place, second, other)
+}
+
+// Whether a name of several fields stands in the domains of a quantifier or in what stands inside it.
+fn asks_quantified(variables: &[Domain], inner: &Phrase) -> bool
+    ensures { result ≡ shared_in_domains (domains_of (map domain_view variables.now)) || shared_in (phrase_view inner.now) }
+{
+    is_in_domains(variables) || is_in(inner)
+}
+
+// The same of the values of a `let`.
+fn asks_let(phrases: &[Phrase], inner: &Phrase) -> bool
+    ensures { result ≡ shared_among (phrases_view phrases.now) || shared_in (phrase_view inner.now) }
+{
+    is_among(phrases) || is_in(inner)
+}
+
+// A quantifier.
+#[cycle(parts)]
+fn quantified(
+    alloc: Global,
+    setting: &Setting,
+    scope: &mut Scope,
+    quantifier: Quantifier,
+    place: Place,
+    variables: &[Domain],
+    inner: &Phrase,
+) -> Result<(Phrase, Kind), TypeFault>
+    requires { AreTables setting.now }
+    ensures value { Gives settled_view result (settled (declared_by setting.now) scope.old.locals [] (tree.quantified quantifier place (domains_of (map domain_view variables.now)) (phrase_view inner.now))) }
+    ensures locals { scope.new.locals ≡ scope.old.locals }
+{
+    let depth = scope.locals.depth();
+    let asked = asks_quantified(variables, inner);
+    let others = variables_entered(alloc, setting, scope, asked, variables)?;
+    let inner = formula_inside(alloc, setting, scope, inner, depth);
+    quantified_of(alloc, quantifier, place, others, inner)
+}
+
+// A `let`.
+#[cycle(parts)]
+fn in_let(
+    alloc: Global,
+    setting: &Setting,
+    scope: &mut Scope,
+    place: Place,
+    phrases: &[Phrase],
+    inner: &Phrase,
+) -> Result<(Phrase, Kind), TypeFault>
+    requires { AreTables setting.now }
+    ensures value { Gives settled_view result (settled (declared_by setting.now) scope.old.locals [] (tree.bound_by_let place (phrases_view phrases.now) (phrase_view inner.now))) }
+    ensures locals { scope.new.locals ≡ scope.old.locals }
+{
+    let depth = scope.locals.depth();
+    let asked = asks_let(phrases, inner);
+    let others = values_entered(alloc, setting, scope, asked, phrases)?;
+    let inner = formula_inside(alloc, setting, scope, inner, depth);
+    let_of(alloc, place, others, inner)
 }
 
 // The variables of a quantifier, which are entered. At a fault the local names are as before.
@@ -390,30 +334,6 @@ fn formula_inside(
     settled
 }
 
-// A quantifier whose variables are settled and entered. These are left, until so many local names are left.
-#[cycle(parts)]
-fn quantified(
-    alloc: Global,
-    setting: &Setting,
-    scope: &mut Scope,
-    phrase: &Phrase,
-    depth: usize,
-    quantifier: Quantifier,
-    place: Place,
-    variables: Vec<Domain>,
-) -> Result<(Phrase, Kind), TypeFault>
-    requires { AreTables setting.now }
-    ensures value { Gives settled_view result (quantified_rest (declared_by setting.now) scope.old.locals quantifier place (domains_seen variables) (phrase_view phrase.now)) }
-    ensures locals { (outer : List Local) → IsInside scope.old.locals outer → length outer ≡ depth → scope.new.locals ≡ outer }
-{
-    let inner = formula_inside(alloc, setting, scope, phrase, depth)?;
-    let inner = Box::new(alloc, inner)?;
-    Ok((
-        Phrase::Quantified(quantifier, place, variables, inner),
-        Kind::Formula,
-    ))
-}
-
 // The values of the names of a `let`, which are entered. At a fault the local names are as before.
 #[cycle(parts)]
 fn values_entered(
@@ -432,26 +352,6 @@ fn values_entered(
     let depth = scope.locals.depth();
     let made = values(alloc, setting, scope, asked, phrases);
     left_at_a_fault(scope, depth, made)
-}
-
-// A `let` whose values are settled and entered. These are left, until so many local names are left.
-#[cycle(parts)]
-fn inside_let(
-    alloc: Global,
-    setting: &Setting,
-    scope: &mut Scope,
-    phrase: &Phrase,
-    depth: usize,
-    place: Place,
-    values: Vec<Phrase>,
-) -> Result<(Phrase, Kind), TypeFault>
-    requires { AreTables setting.now }
-    ensures value { Gives settled_view result (let_rest (declared_by setting.now) scope.old.locals place (phrases_seen values) (phrase_view phrase.now)) }
-    ensures locals { (outer : List Local) → IsInside scope.old.locals outer → length outer ≡ depth → scope.new.locals ≡ outer }
-{
-    let inner = formula_inside(alloc, setting, scope, phrase, depth)?;
-    let inner = Box::new(alloc, inner)?;
-    Ok((Phrase::Let(place, values, inner), Kind::Formula))
 }
 
 // A part in whose place no shared name can stand.
@@ -482,9 +382,8 @@ fn formula(
     ensures value { Gives phrase_view result (formula_from (phrase_view phrase.now) (settled (declared_by setting.now) scope.old.locals [] (phrase_view phrase.now))) }
     ensures locals { scope.new.locals ≡ scope.old.locals }
 {
-    let (formula, kind) = plain(alloc, setting, scope, phrase)?;
-    as_formula(first_place(phrase), kind)?;
-    Ok(formula)
+    let settled = plain(alloc, setting, scope, phrase);
+    formula_of(phrase, settled)
 }
 
 /// Parts that have to be formulas.
@@ -507,7 +406,7 @@ pub fn formulas(
     Ok(all)
 }
 
-// A part that has to be a relation, and its arity.
+// A part that has to be a relation, and its arity; unless the part was settled before.
 #[cycle(parts)]
 fn relation(
     alloc: Global,
@@ -521,36 +420,13 @@ fn relation(
     ensures value { Gives relation_view result (relation_settled (declared_by setting.now) scope.old.locals (phrase_view phrase.now)) }
     ensures locals { scope.new.locals ≡ scope.old.locals }
 {
-    let (relation, kind) = once(alloc, setting, scope, phrase, given)?;
-    let arity = as_relation(first_place(phrase), kind)?;
-    Ok((relation, arity))
-}
-
-// A part, unless it was settled before.
-#[cycle(parts)]
-fn once(
-    alloc: Global,
-    setting: &Setting,
-    scope: &mut Scope,
-    phrase: &Phrase,
-    given: Option<(Phrase, Kind)>,
-) -> Result<(Phrase, Kind), TypeFault>
-    requires tables { AreTables setting.now }
-    requires given { IsGiven (declared_by setting.now) scope.old.locals given (phrase_view phrase.now) }
-    ensures value { Gives settled_view result (settled (declared_by setting.now) scope.old.locals [] (phrase_view phrase.now)) }
-    ensures locals { scope.new.locals ≡ scope.old.locals }
-{
     match given {
-        Some(settled) => Ok(settled),
-        None => plain(alloc, setting, scope, phrase),
+        Some(settled) => relation_of(phrase, Ok(settled)),
+        None => {
+            let settled = plain(alloc, setting, scope, phrase);
+            relation_of(phrase, settled)
+        }
     }
-}
-
-// Arguments, with their arities and the places where they begin.
-#[derive(Drop)]
-pub struct Arguments {
-    pub phrases: Vec<Phrase>,
-    pub arities: Vec<(usize, Place)>,
 }
 
 // Arguments, the first of which may have been settled before.
@@ -568,17 +444,17 @@ fn all_arguments(
     ensures locals { scope.new.locals ≡ scope.old.locals }
 {
     let mut given = given;
-    let mut all = Vec::new(alloc);
-    let mut arities = Vec::new(alloc);
+    let others = Vec::new(alloc);
+    let arities = Vec::new(alloc);
+    let mut all = Arguments {
+        phrases: others,
+        arities,
+    };
     for phrase in phrases {
         let (argument, arity) = relation(alloc, setting, scope, phrase, given.take())?;
-        all.push(argument)?;
-        arities.push((arity, first_place(phrase)))?;
+        put_argument(&mut all, argument, arity, first_place(phrase))?;
     }
-    Ok(Arguments {
-        phrases: all,
-        arities,
-    })
+    Ok(all)
 }
 
 // The operands of a chain behind the first one.
@@ -622,17 +498,8 @@ fn operands(
     let mut of = of;
     for link in links {
         let (another, next) = link_settled(alloc, setting, scope, left, kind, &of, link)?;
-        of = type_with(
-            alloc,
-            setting,
-            scope,
-            asked,
-            another.operator,
-            of,
-            &another.operand,
-        )?;
+        of = put_link(alloc, setting, scope, asked, of, another, &mut all)?;
         kind = next;
-        all.push(another)?;
     }
     Ok((all, kind))
 }
@@ -653,60 +520,12 @@ fn link_settled(
     ensures locals { scope.new.locals ≡ scope.old.locals }
 {
     if is_connective(link.operator) {
-        connected(alloc, setting, scope, left, kind, link)
+        let operand = formula(alloc, setting, scope, &link.operand);
+        connected(left, kind, link, operand)
     } else {
-        combined(alloc, setting, scope, left, kind, of, link)
+        let operand = operand(alloc, setting, scope, link.operator, of, &link.operand);
+        combined(left, kind, link, operand)
     }
-}
-
-#[cycle(parts)]
-fn connected(
-    alloc: Global,
-    setting: &Setting,
-    scope: &mut Scope,
-    left: Place,
-    kind: Kind,
-    link: &Link,
-) -> Result<(Link, Kind), TypeFault>
-    requires { AreTables setting.now }
-    ensures value { Gives linked_view result (connected (declared_by setting.now) scope.old.locals left (kind_view kind) (link_view link.now)) }
-    ensures locals { scope.new.locals ≡ scope.old.locals }
-{
-    as_formula(left, kind)?;
-    let operand = formula(alloc, setting, scope, &link.operand)?;
-    let another = Link {
-        operator: link.operator,
-        place: link.place,
-        operand,
-    };
-    Ok((another, Kind::Formula))
-}
-
-#[cycle(parts)]
-fn combined(
-    alloc: Global,
-    setting: &Setting,
-    scope: &mut Scope,
-    left: Place,
-    kind: Kind,
-    of: &BoundingType,
-    link: &Link,
-) -> Result<(Link, Kind), TypeFault>
-    requires { AreTables setting.now }
-    ensures value { Gives linked_view result (combined (declared_by setting.now) scope.old.locals left (kind_view kind) of.now (link_view link.now)) }
-    ensures locals { scope.new.locals ≡ scope.old.locals }
-{
-    let first = as_relation(left, kind)?;
-    let (operand, kind) = operand(alloc, setting, scope, link.operator, of, &link.operand)?;
-    let begins = first_place(&link.operand);
-    let second = as_relation(begins, kind)?;
-    let arity = operator_arity(link.operator, link.place, left, begins, first, second)?;
-    let another = Link {
-        operator: link.operator,
-        place: link.place,
-        operand,
-    };
-    Ok((another, Kind::Relation(arity)))
 }
 
 // A part behind an operator, where what stands before it has this type.
@@ -845,9 +664,8 @@ fn all_steps(
             step,
             given.take(),
         )?;
-        of = type_after(alloc, setting, scope, asked, of, &another)?;
+        of = put_step(alloc, setting, scope, asked, of, another, &mut all)?;
         kind = next;
-        all.push(another)?;
     }
     Ok((all, kind))
 }
@@ -871,38 +689,14 @@ fn step_settled(
 {
     match step {
         Step::Join(place, operand) => {
-            let (operand, kind) = joined(alloc, setting, scope, left, kind, of, *place, operand)?;
-            Ok((Step::Join(*place, operand), kind))
+            let second = member(alloc, setting, scope, of, operand);
+            join_step(*place, joined(left, kind, *place, operand, second))
         }
         Step::Brackets(place, phrases) => {
-            let (others, kind) = bracketed(
-                alloc, setting, scope, left, kind, *place, phrases, given,
-            )?;
-            Ok((Step::Brackets(*place, others), kind))
+            let others = all_arguments(alloc, setting, scope, phrases, given);
+            brackets_step(*place, bracketed(left, kind, *place, others))
         }
     }
-}
-
-#[cycle(parts)]
-fn joined(
-    alloc: Global,
-    setting: &Setting,
-    scope: &mut Scope,
-    left: Place,
-    kind: Kind,
-    of: &BoundingType,
-    place: Place,
-    phrase: &Phrase,
-) -> Result<(Phrase, Kind), TypeFault>
-    requires { AreTables setting.now }
-    ensures value { Gives settled_view result (join_settled (declared_by setting.now) scope.old.locals left (kind_view kind) of.now place (phrase_view phrase.now)) }
-    ensures locals { scope.new.locals ≡ scope.old.locals }
-{
-    let first = as_relation(left, kind)?;
-    let (operand, kind) = member(alloc, setting, scope, of, phrase)?;
-    let second = as_relation(first_place(phrase), kind)?;
-    let arity = joined_arity(place, first, second)?;
-    Ok((operand, Kind::Relation(arity)))
 }
 
 // A part behind a join, where what stands before it has this type.
@@ -920,28 +714,6 @@ fn member(
 {
     let tops = ends_of(alloc, of)?;
     part(alloc, setting, scope, &tops, phrase)
-}
-
-#[cycle(parts)]
-fn bracketed(
-    alloc: Global,
-    setting: &Setting,
-    scope: &mut Scope,
-    left: Place,
-    kind: Kind,
-    place: Place,
-    phrases: &[Phrase],
-    given: Option<(Phrase, Kind)>,
-) -> Result<(Vec<Phrase>, Kind), TypeFault>
-    requires tables { AreTables setting.now }
-    requires given { IsGivenFirst (declared_by setting.now) scope.old.locals given (phrases_view phrases.now) }
-    ensures value { Gives bracketed_view result (brackets_settled (declared_by setting.now) scope.old.locals left (kind_view kind) place (phrases_view phrases.now)) }
-    ensures locals { scope.new.locals ≡ scope.old.locals }
-{
-    let first = as_relation(left, kind)?;
-    let others = all_arguments(alloc, setting, scope, phrases, given)?;
-    let arity = brackets_arity(place, first, &others.arities)?;
-    Ok((others.phrases, Kind::Relation(arity)))
 }
 
 /// Domains, which have to be unary where they are a quantifier's; their variables or parameters are entered, with types where
@@ -962,7 +734,8 @@ pub fn domains(
 {
     let mut all = Vec::new(alloc);
     for variable in variables {
-        let (domain, arity) = domain_settled(alloc, setting, scope, single, &variable.domain)?;
+        let settled = relation(alloc, setting, scope, &variable.domain, None);
+        let (domain, arity) = domain_of(single, &variable.domain, settled)?;
         enter_all(alloc, setting, scope, asked, variable.count, arity, &domain)?;
         all.push(Domain {
             disjoint: variable.disjoint,
@@ -972,28 +745,6 @@ pub fn domains(
         })?;
     }
     Ok(all)
-}
-
-// A domain, and its arity.
-#[cycle(parts)]
-fn domain_settled(
-    alloc: Global,
-    setting: &Setting,
-    scope: &mut Scope,
-    single: bool,
-    phrase: &Phrase,
-) -> Result<(Phrase, usize), TypeFault>
-    requires { AreTables setting.now }
-    ensures value { Gives relation_view result (domain_settled single (declared_by setting.now) scope.old.locals (phrase_view phrase.now)) }
-    ensures locals { scope.new.locals ≡ scope.old.locals }
-{
-    let (domain, arity) = relation(alloc, setting, scope, phrase, None)?;
-    if single && arity != 1 {
-        return Err(TypeFault::NotUnary {
-            place: first_place(phrase),
-        });
-    }
-    Ok((domain, arity))
 }
 
 // The values of the names of a `let`, which are entered, with types where these are asked for.

@@ -1,9 +1,10 @@
 use Rattle.std.specs.List.{list_any}
 use Rattle.overload_resolution.proofs.Expressions.Chaining.{typed_turn, typed_end, linked_turn, linked_end, stepped_turn, stepped_end}
 use Rattle.overload_resolution.proofs.Expressions.Calling.{called_body, called_unknown}
-use Rattle.overload_resolution.proofs.Expressions.PartTypes.{named_whole, called_whole, chain_whole, path_whole}
+use Rattle.overload_resolution.proofs.Expressions.PartTypes.{named_whole, called_whole, constant_whole, bracketed_whole, prefixed_whole, chain_whole, path_whole}
 use Rattle.named_model.specs.View.{phrase_view}
 use Rattle.std.proofs.Common.{ap, ◌∙◌, sym}
+use Rattle.std.proofs.lemmas.Result.{IfOk-weaker}
 use Rattle.overload_resolution.proofs.expression_types.parts.+parts.Goals as goal
 
 pub opened_type-returns-in_ok-part_type-in-Some : goal.opened_type-returns-in_ok-part_type-in-Some
@@ -42,25 +43,51 @@ pub with_steps-returns : goal.with_steps-returns
 with_steps-returns t c =
     stepped_end c.args.known.now c.args.depth.calls c.args.locals.now c.args.head c.args.steps.now c.loop-step.step-index c.loop-step.all c.loop-step-test.false c.loop-step.invariant
 
-pub part_type-returns-in_ok-referent_type-in-Refers : goal.part_type-returns-in_ok-referent_type-in-Refers
-part_type-returns-in_ok-referent_type-in-Refers t c =
-    named_whole c.args.known.now c.args.depth.calls c.in_ok-depth.depth.calls c.args.locals.now c.args.phrase.now c.in_ok-referent_type-in-Refers.field-0 c.in_ok-depth.ensures.calls
-    c.in-Refers.field-0 c.in-Refers.referent c.in-Refers.is c.in_ok-referent_type-in-Refers.ensures
+pub part_type-returns-in-Refers : goal.part_type-returns-in-Refers
+part_type-returns-in-Refers t c =
+    IfOk-weaker c.referent_type.result _ _
+    (λ found made. named_whole c.args.known.now c.args.depth.calls c.in_ok-depth.depth.calls c.args.locals.now c.args.phrase.now found c.in_ok-depth.ensures.calls
+    c.in-Refers.field-0 c.in-Refers.referent c.in-Refers.is made)
+    c.referent_type.ensures
 
-pub part_type-returns-in_ok-called_type-in-Called : goal.part_type-returns-in_ok-called_type-in-Called
-part_type-returns-in_ok-called_type-in-Called t c =
-    called_whole c.args.known.now c.args.depth.calls c.in_ok-depth.depth.calls c.args.locals.now c.args.phrase.now c.in_ok-called_type-in-Called.field-0 c.in_ok-depth.ensures.calls
-    c.in-Called.field-0 c.in-Called.number c.in-Called.arguments c.deref.result.now c.in_ok-types-in-Called.types.items c.deref-in-Called.result.now
-    c.in-Called.is c.deref.ensures.value c.deref-in-Called.ensures.value c.in_ok-types-in-Called.ensures c.in_ok-called_type-in-Called.ensures
+pub part_type-returns-in_ok-types-in-Called : goal.part_type-returns-in_ok-types-in-Called
+part_type-returns-in_ok-types-in-Called t c =
+    IfOk-weaker c.called_type.result _ _
+    (λ found made. called_whole c.args.known.now c.args.depth.calls c.in_ok-depth.depth.calls c.args.locals.now c.args.phrase.now found c.in_ok-depth.ensures.calls
+    c.in-Called.field-0 c.in-Called.number c.in-Called.arguments c.deref.result.now c.in_ok-types-in-Called.types.items c.deref-in-Called.result.now c.in-Called.is c.deref.ensures.value c.deref-in-Called.ensures.value c.in_ok-types-in-Called.ensures made)
+    c.called_type.ensures
 
-pub part_type-returns-in_ok-with_links-in-Chain : goal.part_type-returns-in_ok-with_links-in-Chain
-part_type-returns-in_ok-with_links-in-Chain t c =
-    chain_whole c.args.known.now c.args.depth.calls c.in_ok-depth.depth.calls c.args.locals.now c.args.phrase.now c.in_ok-with_links-in-Chain.field-0 c.in_ok-depth.ensures.calls
-    c.in-Chain.first c.deref-in-Chain.result.now c.in-Chain.links c.deref-in-Chain-2.result.now c.in_ok-a-in-Chain.a
-    c.in-Chain.is c.deref-in-Chain.ensures c.deref-in-Chain-2.ensures.value c.in_ok-a-in-Chain.ensures c.in_ok-with_links-in-Chain.ensures
+pub part_type-returns-in-Constant : goal.part_type-returns-in-Constant
+part_type-returns-in-Constant t c =
+    IfOk-weaker c.constant_type.result _ _
+    (λ found made. constant_whole c.args.known.now c.args.depth.calls c.in_ok-depth.depth.calls c.args.locals.now c.args.phrase.now found c.in_ok-depth.ensures.calls
+    c.in-Constant.constant c.in-Constant.field-1 c.deref-in-Constant.result.now c.in-Constant.is c.deref-in-Constant.ensures.value made)
+    c.constant_type.ensures
 
-pub part_type-returns-in_ok-with_steps-in-Path : goal.part_type-returns-in_ok-with_steps-in-Path
-part_type-returns-in_ok-with_steps-in-Path t c =
-    path_whole c.args.known.now c.args.depth.calls c.in_ok-depth.depth.calls c.args.locals.now c.args.phrase.now c.in_ok-with_steps-in-Path.field-0 c.in_ok-depth.ensures.calls
-    c.in-Path.head c.deref-in-Path.result.now c.in-Path.steps c.deref-in-Path-2.result.now c.in_ok-a-in-Path.a
-    c.in-Path.is c.deref-in-Path.ensures c.deref-in-Path-2.ensures.value c.in_ok-a-in-Path.ensures c.in_ok-with_steps-in-Path.ensures
+pub part_type-returns-in-Bracketed : goal.part_type-returns-in-Bracketed
+part_type-returns-in-Bracketed t c =
+    IfOk-weaker c.part_type.result _ _
+    (λ found made. bracketed_whole c.args.known.now c.args.depth.calls c.in_ok-depth.depth.calls c.args.locals.now c.args.phrase.now found c.in_ok-depth.ensures.calls
+    c.in-Bracketed.field-0 c.in-Bracketed.inner c.deref-in-Bracketed.result.now c.in-Bracketed.is c.deref-in-Bracketed.ensures made)
+    c.part_type.ensures
+
+pub part_type-returns-in_ok-a-in-Prefixed : goal.part_type-returns-in_ok-a-in-Prefixed
+part_type-returns-in_ok-a-in-Prefixed t c =
+    IfOk-weaker c.prefix_type.result _ _
+    (λ found made. prefixed_whole c.args.known.now c.args.depth.calls c.in_ok-depth.depth.calls c.args.locals.now c.args.phrase.now found c.in_ok-depth.ensures.calls
+    c.in-Prefixed.prefix c.in-Prefixed.field-1 c.in-Prefixed.inner c.deref-in-Prefixed.result.now c.in_ok-a-in-Prefixed.a c.deref-in-Prefixed-2.result.now c.in-Prefixed.is c.deref-in-Prefixed.ensures c.deref-in-Prefixed-2.ensures.value c.in_ok-a-in-Prefixed.ensures made)
+    c.prefix_type.ensures
+
+pub part_type-returns-in_ok-a-in-Chain : goal.part_type-returns-in_ok-a-in-Chain
+part_type-returns-in_ok-a-in-Chain t c =
+    IfOk-weaker c.with_links.result _ _
+    (λ found made. chain_whole c.args.known.now c.args.depth.calls c.in_ok-depth.depth.calls c.args.locals.now c.args.phrase.now found c.in_ok-depth.ensures.calls
+    c.in-Chain.first c.deref-in-Chain.result.now c.in-Chain.links c.deref-in-Chain-2.result.now c.in_ok-a-in-Chain.a c.in-Chain.is c.deref-in-Chain.ensures c.deref-in-Chain-2.ensures.value c.in_ok-a-in-Chain.ensures made)
+    c.with_links.ensures
+
+pub part_type-returns-in_ok-a-in-Path : goal.part_type-returns-in_ok-a-in-Path
+part_type-returns-in_ok-a-in-Path t c =
+    IfOk-weaker c.with_steps.result _ _
+    (λ found made. path_whole c.args.known.now c.args.depth.calls c.in_ok-depth.depth.calls c.args.locals.now c.args.phrase.now found c.in_ok-depth.ensures.calls
+    c.in-Path.head c.deref-in-Path.result.now c.in-Path.steps c.deref-in-Path-2.result.now c.in_ok-a-in-Path.a c.in-Path.is c.deref-in-Path.ensures c.deref-in-Path-2.ensures.value c.in_ok-a-in-Path.ensures made)
+    c.with_steps.ensures

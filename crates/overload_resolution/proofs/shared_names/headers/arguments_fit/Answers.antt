@@ -1,4 +1,4 @@
-use Rattle.std.proofs.Common.{◌≡◌, ◌<◌, length, arith}
+use Rattle.std.proofs.Common.{arith}
 use Rattle.overload_resolution.proofs.Names.Parameters.{more}
 use Rattle.model_types.specs.Typing.{arguments_fit}
 use Rattle.overload_resolution.proofs.shared_names.headers.arguments_fit.Goals as goal
