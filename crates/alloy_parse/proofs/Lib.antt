@@ -1,4 +1,5 @@
 pub mod Depth
+pub mod Falls
 pub mod Operands
 pub mod Sizes
 pub mod Nodes

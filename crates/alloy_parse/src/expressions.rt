@@ -1,5 +1,6 @@
 //! Expressions, formulas and numbers, read from tokens.
 
+mod arrows;
 mod binders;
 mod chains;
 pub mod levels;

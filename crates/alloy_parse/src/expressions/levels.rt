@@ -1,91 +1,24 @@
-// What stands between the levels of operators: implications, negations, comparisons, sizes and arrows.
-ghost use Rattle.std.specs.Prelude.{◌≡◌, ◌<◌, ◌≤◌, true, length, map, IfOk};
+// What stands between the levels of operators: implications, negations, comparisons and sizes.
+ghost use Rattle.std.specs.Prelude.{◌≡◌, ◌<◌, true, length, IfOk};
 ghost use Rattle.alloy_syntax.specs.Gives.{Gives};
 ghost use Rattle.alloy_parse.specs.Nodes.Reader.{ReadsWithin};
-ghost use Rattle.alloy_syntax.specs.View.{view, link_view};
-ghost use Rattle.alloy_syntax.specs.Readers.{many};
-ghost use Rattle.alloy_parse.specs.Behind.{arrowed, compared_with, right_side, otherwise};
-ghost use Rattle.alloy_syntax.specs.Nodes.{within, begins_arrow, arrow_over, arrows_over, size_over, sum_over, counted_over, comparison_over, negation_over, implication_over, implied_over, node_over};
+ghost use Rattle.alloy_syntax.specs.View.{view};
+ghost use Rattle.alloy_parse.specs.Behind.{compared_with, right_side, otherwise};
+ghost use Rattle.alloy_syntax.specs.Nodes.{within, size_over, sum_over, counted_over, comparison_over, negation_over, implication_over, implied_over, node_over};
 
 use crate::expressions::rules::{Read, Rules};
 use crate::expressions::signs::{
-    begins_arrow, begins_comparison, begins_declaration, comparing, counting_of, is_counting,
-    quantifier_of,
+    begins_comparison, begins_declaration, comparing, counting_of, is_counting, quantifier_of,
 };
 use alloy_lex::Place;
 use alloy_syntax::Class;
-use alloy_syntax::cursor::{after, fitted, is_mark, next_is, place_at};
-use alloy_syntax::parse_stop::{ParseStop, Tokens};
-use alloy_syntax::reading::{Around, Form, Inside, Level};
-use alloy_syntax::tree::{Comparing, Link, Node, Operator, Prefix, Quantifier};
+use alloy_syntax::cursor::{after, next_is, place_at};
+use alloy_syntax::parse_stop::Tokens;
+use alloy_syntax::reading::{Around, Inside, Level};
+use alloy_syntax::tree::{Comparing, Node, Prefix, Quantifier};
 use std::alloc::Global;
 
 impl<F: for<'a> Fn(Global, Tokens<'a>, u32, Around, Inside) -> Read<'a, Node>> Rules<F> {
-    #[cycle(levels)]
-    #[tactic(auto, unfolding(alloy_syntax::specs::Nodes::arrows_over, alloy_syntax::specs::Nodes::restrict_over))]
-    pub fn arrows<'a>(&self, tokens: Tokens<'a>, around: Around) -> Read<'a, Node>
-        requires { ReadsWithin self.now.room (F.pre self.now.reader) (F.post self.now.reader) }
-        ensures value { Gives (λ x. (view x.0, x.1.left.now)) result (arrows_over (within true self.now.room) around tokens.entry.left.now) }
-        ensures shorter { IfOk result (λ x. length x.1.left.now < length tokens.entry.left.now) }
-    {
-        let (first, rest) = self.chain(tokens, around, Level::Restrict)?;
-        if !begins_arrow(rest) {
-            return Ok((first, rest));
-        }
-        self.arrowed(first, rest, around)
-    }
-
-    // The first operand, with the arrows and operands behind it.
-    #[cycle(levels)]
-    fn arrowed<'a>(&self, first: Node, tokens: Tokens<'a>, around: Around) -> Read<'a, Node>
-        requires { ReadsWithin self.now.room (F.pre self.now.reader) (F.post self.now.reader) }
-        ensures value { Gives (λ x. (view x.0, x.1.left.now)) result (arrowed (within true self.now.room) around (view first) tokens.entry.left.now) }
-        ensures shorter { IfOk result (λ x. length x.1.left.now ≤ length tokens.entry.left.now) }
-    {
-        let first = Box::new(self.alloc, first)?;
-        let (links, rest) = self.arrow_links(tokens, around)?;
-        Ok((Node::Chain(first, links), rest))
-    }
-
-    #[cycle(levels)]
-    fn arrow_links<'a>(&self, tokens: Tokens<'a>, around: Around) -> Read<'a, Vec<Link>>
-        requires { ReadsWithin self.now.room (F.pre self.now.reader) (F.post self.now.reader) }
-        ensures value { Gives (λ x. (map link_view x.0.items, x.1.left.now)) result (many begins_arrow (arrow_over (within true self.now.room) around) tokens.entry.left.now) }
-        ensures shorter { IfOk result (λ x. length x.1.left.now ≤ length tokens.entry.left.now) }
-    {
-        let mut all = Vec::new(self.alloc);
-        let mut rest = tokens;
-        'each: while begins_arrow(rest) {
-            let (another, behind) = self.arrow_link(rest, around)?;
-            all.push(another)?;
-            rest = behind;
-        }
-        Ok((fitted(all), rest))
-    }
-
-    #[cycle(levels)]
-    #[tactic(auto, unfolding(alloy_syntax::specs::Nodes::arrow_over, alloy_syntax::specs::Nodes::restrict_over))]
-    fn arrow_link<'a>(&self, tokens: Tokens<'a>, around: Around) -> Read<'a, Link>
-        requires { ReadsWithin self.now.room (F.pre self.now.reader) (F.post self.now.reader) }
-        ensures value { Gives (λ x. (link_view x.0, x.1.left.now)) result (arrow_over (within true self.now.room) around tokens.entry.left.now) }
-        ensures shorter { IfOk result (λ x. length x.1.left.now < length tokens.entry.left.now) }
-    {
-        if is_mark(tokens) {
-            return Err(ParseStop::Unsupported(Form::ArrowMultiplicity, tokens));
-        }
-        let rest = after(tokens);
-        if is_mark(rest) {
-            return Err(ParseStop::Unsupported(Form::ArrowMultiplicity, rest));
-        }
-        let (operand, rest) = self.chain(rest, around, Level::Restrict)?;
-        let link = Link {
-            operator: Operator::Product,
-            place: place_at(tokens),
-            operand,
-        };
-        Ok((link, rest))
-    }
-
     #[cycle(levels)]
     #[tactic(auto, unfolding(alloy_syntax::specs::Nodes::size_over, alloy_syntax::specs::Nodes::override_over))]
     pub fn size<'a>(&self, tokens: Tokens<'a>, around: Around) -> Read<'a, Node>

@@ -1,6 +1,6 @@
 use Rattle.std.proofs.Common.{◌≤◌, ◌+◌, ◌*◌, true, map, length}
 use Rattle.alloy_syntax.specs.Readers.{many}
-use Rattle.alloy_syntax.specs.Nodes.{within, begins_link, link_over, begins_arrow, arrow_over}
+use Rattle.alloy_syntax.specs.Nodes.{within, begins_link, link_over}
 use Rattle.alloy_syntax.specs.View.{link_view}
 use Rattle.alloy_syntax.proofs.Loop.{Reads}
 use Rattle.alloy_parse.specs.Nodes.Levels.{operand_over, levels_below}
@@ -47,19 +47,6 @@ decreases-counted g l = 61
 abbrev pub decreases-size : goal.decreases-size
 decreases-size g l = 48
 
--- between `&` and `<:`
-abbrev pub decreases-arrows : goal.decreases-arrows
-decreases-arrows g l = 16
-
-abbrev pub decreases-arrowed : goal.decreases-arrowed
-decreases-arrowed g l = 15
-
-abbrev pub decreases-arrow_links : goal.decreases-arrow_links
-decreases-arrow_links g l = 14
-
-abbrev pub decreases-arrow_link : goal.decreases-arrow_link
-decreases-arrow_link g l = 13
-
 -- loops
 
 abbrev pub invariant-links-each : goal.invariant-links-each
@@ -70,12 +57,3 @@ invariant-links-each g l = record {
 
 abbrev pub decreases-links-each : goal.decreases-links-each
 decreases-links-each g l = length l.rest.left.now
-
-abbrev pub invariant-arrow_links-each : goal.invariant-arrow_links-each
-invariant-arrow_links-each g l = record {
-  reads : Reads begins_arrow (arrow_over (within true l.self.room) l.around) (map link_view l.all.items) l.rest.left.now (many begins_arrow (arrow_over (within true l.self.room) l.around) l.tokens.left.now);
-  shorter : length l.rest.left.now ≤ length l.tokens.left.now;
-}
-
-abbrev pub decreases-arrow_links-each : goal.decreases-arrow_links-each
-decreases-arrow_links-each g l = length l.rest.left.now
