@@ -11,7 +11,7 @@ use Rattle.clap.specs.declared.error.kind.ErrorKind.TheVariants.{ArgumentConflic
 use Rattle.clap.specs.declared.builder.value_parser.ValueParser.{ValueParser}
 use Rattle.clap.specs.declared.builder.value_parser.ValueParser.TheVariants.{Signed}
 use Rattle.command_words.specs.Words.{AreOptions, IsBehind, IsBudget, IsBudgetAlone, IsNumber, IsWorkers, Says, SaysNone}
-use Rattle.command_words.specs.Program.{ReadsBudget, ReadsLoad, ReadsNumber, ReadsOptions, ReadsWithBudget, ReadsWithOptions, program}
+use Rattle.command_words.specs.Program.{IsReadBy, ReadsBudget, ReadsLoad, ReadsNumber, ReadsOptions, ReadsWithBudget, ReadsWithOptions, program}
 use Rattle.command_words.specs.declared.reading.Command.{Command}
 use Rattle.command_words.specs.declared.reading.Command.TheVariants.{Run, Check, Distinct, Assert, Facts, Load, Crew}
 use Rattle.command_words.proofs.CommandLemmas.{first_word, is_first_word, name_said, second_byte}
@@ -432,21 +432,17 @@ said_load words (Some d) is reads = record {
   some = subst (Says words) (sym reads.4) (all_words is.parts, is.are, read_load is.parts is.pass reads.0 reads.1 reads.2 reads.3);
 }
 
-pub is_said : (words : List Text) (found : Found) (said : Option Command) → has_dashes words ≡ false → fault_of program words ≡ [] → found ≡ subcommand_of program words
-    → ((rows : List Row) → found ≡ Some (codes "run", rows) → ReadsWithOptions Run rows said) → ((rows : List Row) → found ≡ Some (codes "distinct", rows) → ReadsWithOptions Distinct rows said)
-    → ((rows : List Row) → found ≡ Some (codes "crew", rows) → ReadsWithOptions Crew rows said)
-    → ((rows : List Row) → found ≡ Some (codes "assert", rows) → ReadsWithBudget Assert rows said) → ((rows : List Row) → found ≡ Some (codes "facts", rows) → ReadsWithBudget Facts rows said)
-    → ((rows : List Row) → found ≡ Some (codes "load", rows) → ReadsLoad rows said) → ((rows : List Row) → found ≡ Some (codes "check", rows) → said ≡ Some Check) → IsSaid words said
-is_said words found said safe none is by_run by_distinct by_crew by_assert by_facts by_load check =
+pub is_said : (words : List Text) (found : Found) (said : Option Command) → has_dashes words ≡ false → fault_of program words ≡ [] → found ≡ subcommand_of program words → IsReadBy found said → IsSaid words said
+is_said words found said safe none is read =
     elim (accepted words safe none) [
-      | inl e ↦ said_check words said e (check [] (is ∙ ap (subcommand_of program) e ∙ check_rows))
-      | inr (inl l) ↦ said_load words said l (by_load (rows_of_load (parts_rows [] l.parts)) (is ∙ l.rows))
+      | inl e ↦ said_check words said e (read.check [] (is ∙ ap (subcommand_of program) e ∙ check_rows))
+      | inr (inl l) ↦ said_load words said l (read.load (rows_of_load (parts_rows [] l.parts)) (is ∙ l.rows))
       | inr (inr r) ↦ said_with r.0 words said r.1 (reads r.0 (matched r.1.uses) (is ∙ r.1.rows))
     ]
   where
     reads : (c : WithOptions) (rows : List Row) → found ≡ Some (name_with c, rows) → Reads c rows said
-    reads run = by_run
-    reads distinct = by_distinct
-    reads crew = by_crew
-    reads asserts = by_assert
-    reads facts = by_facts
+    reads run = read.run
+    reads distinct = read.distinct
+    reads crew = read.crew
+    reads asserts = read.asserts
+    reads facts = read.facts

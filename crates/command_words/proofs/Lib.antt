@@ -9,3 +9,4 @@ pub mod ReadOptions
 pub mod LoadCommand
 pub mod CommandsOfWords
 pub mod ReadNumber
+pub mod MetCommand

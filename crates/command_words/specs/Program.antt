@@ -6,7 +6,7 @@ use Rattle.clap.specs.declared.builder.value_parser.ValueParser.{ValueParser}
 use Rattle.clap.specs.declared.builder.value_parser.ValueParser.TheVariants.{Signed}
 use Rattle.command_words.specs.Words.{IsNumber, number_after, default_budget}
 use Rattle.command_words.specs.declared.reading.Command.{Command}
-use Rattle.command_words.specs.declared.reading.Command.TheVariants.{Load}
+use Rattle.command_words.specs.declared.reading.Command.TheVariants.{Run, Check, Distinct, Assert, Facts, Load, Crew}
 use Rattle.command_words.specs.declared.reading.Options.{Options}
 
 -- an option by its long name, with a number
@@ -88,3 +88,13 @@ abbrev pub ReadsLoad : List Row → Option Command → Type 0
 ReadsLoad rows said = MatchOption said
     (ReadsGiven (codes "number") rows None ⊎ ReadsNumber 4 (codes "workers") rows None)
     (λ c. (number : ℕ) × (workers : ℕ) × ReadsGiven (codes "number") rows (Some number) × ReadsNumber 4 (codes "workers") rows (Some workers) × (c ≡ Load number workers))
+
+-- what is read by the name of the command that was matched
+pub record IsReadBy (found : Option (Text × List Row)) (said : Option Command) : Type 0 where
+  pub run : (rows : List Row) → found ≡ Some (codes "run", rows) → ReadsWithOptions Run rows said
+  pub distinct : (rows : List Row) → found ≡ Some (codes "distinct", rows) → ReadsWithOptions Distinct rows said
+  pub crew : (rows : List Row) → found ≡ Some (codes "crew", rows) → ReadsWithOptions Crew rows said
+  pub asserts : (rows : List Row) → found ≡ Some (codes "assert", rows) → ReadsWithBudget Assert rows said
+  pub facts : (rows : List Row) → found ≡ Some (codes "facts", rows) → ReadsWithBudget Facts rows said
+  pub load : (rows : List Row) → found ≡ Some (codes "load", rows) → ReadsLoad rows said
+  pub check : (rows : List Row) → found ≡ Some (codes "check", rows) → said ≡ Some Check

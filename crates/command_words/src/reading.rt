@@ -1,13 +1,13 @@
 // Reading the words.
-ghost use Rattle.std.specs.Prelude.{◌≡◌, ◌↔◌, IfOk, IfSome, IfNone, IsTrue, List, ℕ, Some, codes, false};
-ghost use Rattle.clap.specs.Words.{Row, app_of, found_of, rows_of, rule_of, subcommand_rows_of};
+ghost use Rattle.std.specs.Prelude.{◌≡◌, ◌↔◌, IfOk, IfSome, IfNone, IsTrue, List, ℕ, codes, false};
+ghost use Rattle.clap.specs.Words.{app_of, found_of, rows_of, rule_of, subcommand_rows_of};
 ghost use Rattle.clap.specs.Simple.{new_app, with_subcommand};
 ghost use Rattle.clap.specs.declared.builder.command.Command.TheViews.{out-Command as fields_of};
 ghost use Rattle.command_words.specs.Words.{IsNumber, Says, SaysNone};
-ghost use Rattle.command_words.specs.Program.{command_with_options, load_command, load_number, number_option, program, without_commands, workers, ReadsBudget, ReadsGiven, ReadsLoad, ReadsNumber, ReadsOptions, ReadsWithBudget, ReadsWithOptions};
+ghost use Rattle.command_words.specs.Program.{command_with_options, load_command, load_number, number_option, program, without_commands, workers, IsReadBy, ReadsBudget, ReadsGiven, ReadsLoad, ReadsNumber, ReadsOptions, ReadsWithBudget, ReadsWithOptions};
 ghost use Rattle.command_words.specs.Read.{texts, has_escape};
 ghost use Rattle.command_words.specs.declared.reading.Command.{Command as Said};
-ghost use Rattle.command_words.specs.declared.reading.Command.TheVariants.{Assert, Check, Crew, Distinct, Facts, Run};
+ghost use Rattle.command_words.specs.declared.reading.Command.TheVariants.{Assert, Crew, Distinct, Facts, Run};
 
 use clap::builder::ValueParser;
 use clap::error::ErrorKind;
@@ -261,13 +261,7 @@ fn load_with(matches: &ArgMatches<'_>) -> Option<Command>
 
 // The command that was matched.
 fn said_by(matches: &ArgMatches<'_>) -> Option<Command>
-    ensures run { (rows : List Row) → subcommand_rows_of matches.now ≡ Some (codes "run", rows) → ReadsWithOptions Run rows result }
-    ensures distinct { (rows : List Row) → subcommand_rows_of matches.now ≡ Some (codes "distinct", rows) → ReadsWithOptions Distinct rows result }
-    ensures crew { (rows : List Row) → subcommand_rows_of matches.now ≡ Some (codes "crew", rows) → ReadsWithOptions Crew rows result }
-    ensures asserts { (rows : List Row) → subcommand_rows_of matches.now ≡ Some (codes "assert", rows) → ReadsWithBudget Assert rows result }
-    ensures facts { (rows : List Row) → subcommand_rows_of matches.now ≡ Some (codes "facts", rows) → ReadsWithBudget Facts rows result }
-    ensures load { (rows : List Row) → subcommand_rows_of matches.now ≡ Some (codes "load", rows) → ReadsLoad rows result }
-    ensures check { (rows : List Row) → subcommand_rows_of matches.now ≡ Some (codes "check", rows) → result ≡ Some Check }
+    ensures { IsReadBy (subcommand_rows_of matches.now) result }
 {
     if let Some(options) = matches.subcommand_matches("run") {
         run_with(options)

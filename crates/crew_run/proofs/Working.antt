@@ -1,5 +1,5 @@
 -- What a worker knows from round to round.
-use Rattle.std.proofs.Common.{◌≡◌, ◌≤◌, ℕ, Some, List, [], take, sym, ◌∙◌, ap, subst, arith}
+use Rattle.std.proofs.Common.{◌≡◌, ◌≤◌, ℕ, Option, Some, List, [], take, sym, ◌∙◌, ap, subst, arith}
 use Rattle.atomic_table.specs.Seated.{TableId}
 use Rattle.translation_rules.specs.Translation.{Translated}
 use Rattle.crew_run.specs.declared.event.CrewEvent.{CrewEvent}
@@ -38,3 +38,11 @@ module _ (lock : TableId) (t : Translated) (budget most : ℕ) (old mid : Seen) 
   -- after the turn that writes
   pub read_still : (new : Seen) → WentOn lock mid new → HasRead new.view.seen reading
   read_still new wrote = read_grows mid.view.seen new.view.seen reading wrote.seen (all_read mid.view.seen reading read)
+
+-- a turn leaves the pass ready for the next
+pub ready_still : (lock : TableId) (base : Option CrewTask) (old new : Seen) → IsReady lock base old → WentOn lock old new → IsReady lock base new
+ready_still lock base old new ready went = record {
+  idle = went.idle;
+  number = λ none. ready.number (sym (ap (λ (v : V). v.number) went.same) ∙ none);
+  base_is = ap (λ (v : V). v.base) went.same ∙ ready.base_is;
+}

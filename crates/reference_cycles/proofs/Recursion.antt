@@ -1,3 +1,4 @@
 pub mod Adding
+pub mod CallsInParts
 pub mod Cycles
 pub mod Smaller

@@ -20,3 +20,4 @@ pub mod OneSetOfAtoms
 pub mod Unary
 pub mod Copies
 pub mod TwoRelations
+pub mod Smaller

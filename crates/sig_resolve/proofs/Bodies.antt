@@ -5,5 +5,7 @@ pub mod SeenPaths
 pub mod SeenNodes
 pub mod SeenPhrases
 pub mod Arms
+pub mod Listed
+pub mod Smaller
 pub mod Steps
 pub mod Calls

@@ -15,7 +15,7 @@ use Rattle.named_model.specs.View.{phrase_view}
 use Rattle.named_model.specs.Phrase.{PhraseTree, called, path, PhraseTrees, StepTrees, brackets_first}
 use Rattle.named_model.specs.Names.{Globals, header_at, takes, phrases_count, trees_count, path_of, call_of, all_resolved, steps_resolved, all_faults, step_faults}
 use Rattle.name_tables.specs.Told.{IsTold, Answers}
-use Rattle.name_tables.proofs.Telling.{told_first}
+use Rattle.name_tables.proofs.Telling.{told_first, told_second}
 use Rattle.sig_resolve.proofs.Bodies.Steps.{counted, first_is, node_brackets_seen}
 
 resolved_count : (g : Globals) (ls : List (List ℕ)) (ts : Trees) → phrases_count (all_resolved g ls ts) ≡ trees_count ts
@@ -56,6 +56,12 @@ module _ (g : Globals) (ls : List (List ℕ)) (steps : List Step) where
           made ∙ ap (λ a. path_of (called p n a) rest) given.1 ∙ ap (path_of (called p n inside)) behind.1
               ∙ sym (ap (λ b. if b then path_of (called p n inside) after else path (called p n xs) (brackets_first q inside after)) own),
         )
+
+    -- brackets without a fault, behind which there is one
+    pub call_rest_told : (e : NameFault) → Some s ≡ slice_get steps 0 → s ≡ Brackets q parts → all_faults g ls (trees_of (views parts.items)) ≡ [] → IsTold e (step_faults g ls (steps_of (map step_view (drop 1 steps)))) → IsTold e (step_faults g ls (steps_of (map step_view steps)))
+    call_rest_told e there is none told =
+        let more = steps_of (map step_view (drop 1 steps)) in
+        subst (λ (t : Steps). IsTold e (step_faults g ls t)) (sym (brackets_come steps s q parts there is)) (told_second e (all_faults g ls (trees_of (views parts.items))) (step_faults g ls more) none told)
 
     pub call_told : (e : NameFault) → Some s ≡ slice_get steps 0 → s ≡ Brackets q parts → IsTold e (all_faults g ls (trees_of (views parts.items))) → IsTold e (step_faults g ls (steps_of (map step_view steps)))
     call_told e there is told =

@@ -21,7 +21,7 @@ returns-in-Ok-clause-none c =
     let app = c.in_ok-program.ensures in
     let none = sym (ap (λ (a : App). fault_of a (texts words)) app) ∙ c.in-Ok.ensures.kinds (ap is_simple_and_free app ∙ free_program) in
     let found = (c.in-Ok.ensures.matches (ap is_simple app ∙ simple_program)).1 ∙ ap (λ (a : App). subcommand_of a (texts words)) app in
-    (is_said (texts words) (subcommand_rows_of c.in-Ok.matches) c.said_by.result safe none found c.said_by.ensures.run c.said_by.ensures.distinct c.said_by.ensures.crew c.said_by.ensures.asserts c.said_by.ensures.facts c.said_by.ensures.load c.said_by.ensures.check).none
+    (is_said (texts words) (subcommand_rows_of c.in-Ok.matches) c.said_by.result safe none found c.said_by.ensures).none
 
 pub returns-in-Ok-clause-some : goal.returns-in-Ok-clause-some
 returns-in-Ok-clause-some c =
@@ -30,7 +30,7 @@ returns-in-Ok-clause-some c =
     let app = c.in_ok-program.ensures in
     let none = sym (ap (λ (a : App). fault_of a (texts words)) app) ∙ c.in-Ok.ensures.kinds (ap is_simple_and_free app ∙ free_program) in
     let found = (c.in-Ok.ensures.matches (ap is_simple app ∙ simple_program)).1 ∙ ap (λ (a : App). subcommand_of a (texts words)) app in
-    (is_said (texts words) (subcommand_rows_of c.in-Ok.matches) c.said_by.result safe none found c.said_by.ensures.run c.said_by.ensures.distinct c.said_by.ensures.crew c.said_by.ensures.asserts c.said_by.ensures.facts c.said_by.ensures.load c.said_by.ensures.check).some
+    (is_said (texts words) (subcommand_rows_of c.in-Ok.matches) c.said_by.result safe none found c.said_by.ensures).some
 
 pub returns-in-Err-2-clause-none : goal.returns-in-Err-2-clause-none
 returns-in-Err-2-clause-none c =

@@ -1,11 +1,12 @@
-use Rattle.std.proofs.Common.{subst, sym, ◌∙◌, reverse, List, refl, ◌∷◌, length, All, IsTrue, ◌↔◌, rules, take, ◌+◌}
+use Rattle.std.proofs.Common.{◌≡◌, subst, sym, ◌∙◌, reverse, List, refl, ◌∷◌, length, All, IsTrue, ◌↔◌, rules, arith, take, ap, ◌+◌, ◌*◌, ◌<◌}
 use Rattle.std.specs.List.{Any}
+use Rattle.std.proofs.lemmas.List.{length_push}
+use denote.Param.Weighed.{most}
 use Rattle.tuple_core.specs.declared.atom.Atom.{Atom}
 use Rattle.tuple_core.specs.Operators.{Pred}
 use Rattle.tuple_core.specs.Rows.{Rows, IsRows, IsSetOf}
 use Rattle.tuple_core.proofs.Steps.{then_same, all_step, all_done, all_no}
 use Rattle.rel_formula.specs.declared.formula.Formula.{Formula}
-use Rattle.rel_formula.specs.declared.formula.Formula.TheViews.{the_lemmas}
 use Rattle.rel_formula.specs.declared.connectives.Quantifier.{Quantifier}
 use Rattle.rel_formula.specs.declared.connectives.Quantifier.TheVariants as quantifier
 use Rattle.rel_formula.specs.Kernel.{FormulaTree}
@@ -14,6 +15,8 @@ use Rattle.rel_formula.specs.Meaning.{Structure, InValue, HoldsFor, Truth}
 use Rattle.rel_formula.specs.Evaluation.{HoldsOf, IsTrueAt, IsTrueAtRows}
 use Rattle.rel_formula.specs.Shape.{arity_of, IsProper}
 use Rattle.rel_formula.specs.Tables.{Tabled, arities, tabled}
+use Rattle.rel_formula.proofs.formula.Formula.TheLaws.{the_size}
+use Rattle.rel_formula.proofs.Smaller.{part_falls, row_falls, item_falls, rank_falls, negation_smaller, junction_smaller, quantified_smaller}
 use Rattle.rel_formula.proofs.Counts.{distinct}
 use Rattle.rel_formula.proofs.AndOrParts.{Truth-Junction, IsProper-Junction}
 use Rattle.rel_formula.proofs.Loops.{any_none, found_first, found_none, found_two, none_two, for_all_is, for_some_is, for_two_is, says_not}
@@ -34,6 +37,20 @@ for_so_many : (q : Quantifier) (v : Rows) (P : Pred) (M : Structure) (env : List
 for_so_many quantifier.All v P M env f is well = for_all_is v P (λ a. Truth M (a ∷ env) f) is well.arities
 for_so_many quantifier.Exists v P M env f is well = for_some_is v P (λ a. Truth M (a ∷ env) f) is well.arities
 for_so_many quantifier.Lone v P M env f is well = for_two_is v P (λ a. Truth M (a ∷ env) f) is well.arities (distinct v.rows well.ascending)
+
+-- the ranks of the functions: the one at an atom is 1 above that of a formula, and so on
+two_below_four : 2 < 4
+two_below_four = omega arith
+
+three_below_four : 3 < 4
+three_below_four = omega arith
+
+-- where the formula is proper under these variables, or under one more
+abbrev ProperWith : Tabled → List Atom → Formula → Type 0
+ProperWith tables env f = IsProper (arities tables) (length env) (formula_tree f)
+
+abbrev ProperUnder : Tabled → List Atom → Formula → Type 0
+ProperUnder tables env f = IsProper (arities tables) (length env + 1) (formula_tree f)
 
 pub all_true-loop-part-preserved : goal.all_true-loop-part-preserved
 all_true-loop-part-preserved t c =
@@ -135,7 +152,7 @@ pub truth-true_of-requires : goal.truth-true_of-requires
 truth-true_of-requires t c =
     let ns = arities c.args.tables.now in
     let d = length c.args.env.now.items in
-    (search (rules, the_lemmas), subst (All (λ (f : Formula). IsProper ns d (formula_tree f))) (sym c.deref-in-Junction.ensures.value) ((IsProper-Junction ns d c.in-Junction.connective c.in-Junction.parts).0 (subst (λ (f : Formula). IsProper ns d (formula_tree f)) c.in-Junction.is c.requires.proper)))
+    (row_falls the_size 4 2 0 t two_below_four _ _ c.decreases c.in-Junction.is _ _ c.deref-in-Junction.ensures.value (junction_smaller _ _), subst (All (λ (f : Formula). IsProper ns d (formula_tree f))) (sym c.deref-in-Junction.ensures.value) ((IsProper-Junction ns d c.in-Junction.connective c.in-Junction.parts).0 (subst (λ (f : Formula). IsProper ns d (formula_tree f)) c.in-Junction.is c.requires.proper)))
 
 pub truth-returns-in_ok-true_of-in-Junction-clause-truth : goal.truth-returns-in_ok-true_of-in-Junction-clause-truth
 truth-returns-in_ok-true_of-in-Junction-clause-truth t c =
@@ -160,3 +177,84 @@ truth-returns-in_ok-true_for-in-Quantified-clause-truth t c =
     let rows = subst (λ zs. holds ↔ IsTrueAtRows q M env g zs) c.rows.ensures.value told in
     subst (Tells c.args.tables.now c.args.env.now.items holds) (sym c.in-Quantified.is)
     (then_same rows (for_so_many q c.in_ok-domain-in-Quantified.domain (InValue M env e) M env g domain c.rows.ensures.well))
+
+pub truth-truth-requires : goal.truth-truth-requires
+truth-truth-requires t c =
+    let P : Formula → Type 0 = ProperWith c.args.tables.now c.args.env.now.items in
+    (part_falls the_size 4 0 0 t (omega arith) _ _ c.decreases c.in-Not.is _ _ c.deref.ensures (negation_smaller _), subst P (sym c.deref.ensures) (subst P c.in-Not.is c.requires.proper))
+
+pub truth-true_for-requires : goal.truth-true_for-requires
+truth-true_for-requires t c =
+    let ns = arities c.args.tables.now in
+    let d = length c.args.env.now.items in
+    let formed = subst (λ (f : Formula). IsProper ns d (formula_tree f)) c.in-Quantified.is c.requires.proper in (
+      part_falls the_size 4 3 0 t three_below_four _ _ c.decreases c.in-Quantified.is _ _ c.deref-in-Quantified.ensures (quantified_smaller _ _ _),
+      (
+        subst (λ (f : Formula). IsProper ns (d + 1) (formula_tree f)) (sym c.deref-in-Quantified.ensures) formed.2,
+        (let one = formed.1 in search rules),
+      ),
+    )
+
+pub true_of-all_true-requires : goal.true_of-all_true-requires
+true_of-all_true-requires t c = (rank_falls (4 * most the_size c.args.parts.now) 1 2 t (omega arith) c.decreases, c.requires.proper)
+
+pub all_true-truth-requires : goal.all_true-truth-requires
+all_true-truth-requires t c =
+    let x = c.part-item.result in (
+      item_falls the_size 4 0 1 t (omega arith) c.args.parts.now c.loop-part.part-index x c.decreases c.loop-part-test.true c.part-item.is,
+      subst (λ es. ProperWith c.args.tables.now es x) (sym c.loop-part.invariant.env) (subst (ProperWith c.args.tables.now c.args.env.now.items) (sym c.part-item.is) (c.requires.proper c.loop-part.part-index x c.loop-part-test.true)),
+    )
+
+pub true_of-any_true-requires : goal.true_of-any_true-requires
+true_of-any_true-requires t c = (rank_falls (4 * most the_size c.args.parts.now) 1 2 t (omega arith) c.decreases, c.requires.proper)
+
+pub any_true-truth-requires : goal.any_true-truth-requires
+any_true-truth-requires t c =
+    let x = c.part-item.result in (
+      item_falls the_size 4 0 1 t (omega arith) c.args.parts.now c.loop-part.part-index x c.decreases c.loop-part-test.true c.part-item.is,
+      subst (λ es. ProperWith c.args.tables.now es x) (sym c.loop-part.invariant.env) (subst (ProperWith c.args.tables.now c.args.env.now.items) (sym c.part-item.is) (c.requires.proper c.loop-part.part-index x c.loop-part-test.true)),
+    )
+
+pub true_for-true_for_all-requires : goal.true_for-true_for_all-requires
+true_for-true_for_all-requires t c = (rank_falls (4 * the_size c.args.f.now) 2 3 t (omega arith) c.decreases, (c.requires.proper, c.requires.single))
+
+pub true_for_all-true_at-requires : goal.true_for_all-true_at-requires
+true_for_all-true_at-requires t c =
+    let x = c.row-item.result in (
+      rank_falls (4 * the_size c.args.f.now) 1 2 t (omega arith) c.decreases,
+      (
+        subst (λ es. ProperUnder c.args.tables.now es c.args.f.now) (sym c.loop-row.invariant.env) c.requires.proper,
+        subst (λ (row : List Atom). length row ≡ 1) (sym c.row-item.is) (c.requires.single c.loop-row.row-index x c.loop-row-test.true),
+      ),
+    )
+
+pub true_for-true_for_some-requires : goal.true_for-true_for_some-requires
+true_for-true_for_some-requires t c = (rank_falls (4 * the_size c.args.f.now) 2 3 t (omega arith) c.decreases, (c.requires.proper, c.requires.single))
+
+pub true_for_some-true_at-requires : goal.true_for_some-true_at-requires
+true_for_some-true_at-requires t c =
+    let x = c.row-item.result in (
+      rank_falls (4 * the_size c.args.f.now) 1 2 t (omega arith) c.decreases,
+      (
+        subst (λ es. ProperUnder c.args.tables.now es c.args.f.now) (sym c.loop-row.invariant.env) c.requires.proper,
+        subst (λ (row : List Atom). length row ≡ 1) (sym c.row-item.is) (c.requires.single c.loop-row.row-index x c.loop-row-test.true),
+      ),
+    )
+
+pub true_for-true_for_at_most_one-requires : goal.true_for-true_for_at_most_one-requires
+true_for-true_for_at_most_one-requires t c = (rank_falls (4 * the_size c.args.f.now) 2 3 t (omega arith) c.decreases, (c.requires.proper, c.requires.single))
+
+pub true_for_at_most_one-true_at-requires : goal.true_for_at_most_one-true_at-requires
+true_for_at_most_one-true_at-requires t c =
+    let x = c.row-item.result in (
+      rank_falls (4 * the_size c.args.f.now) 1 2 t (omega arith) c.decreases,
+      (
+        subst (λ es. ProperUnder c.args.tables.now es c.args.f.now) (sym c.loop-row.invariant.env) c.requires.proper,
+        subst (λ (row : List Atom). length row ≡ 1) (sym c.row-item.is) (c.requires.single c.loop-row.row-index x c.loop-row-test.true),
+      ),
+    )
+
+pub true_at-truth-requires : goal.true_at-truth-requires
+true_at-truth-requires t c =
+    let more = ap length c.in_ok-push.ensures.items ∙ length_push c.args.env.now.items c.first.result in
+    (rank_falls (4 * the_size c.args.f.now) 0 1 t (omega arith) c.decreases, subst (λ n. IsProper (arities c.args.tables.now) n (formula_tree c.args.f.now)) (sym more) c.requires.proper)

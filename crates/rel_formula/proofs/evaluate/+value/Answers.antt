@@ -7,6 +7,8 @@ use Rattle.rel_formula.specs.View.{expression_tree}
 use Rattle.rel_formula.specs.Meaning.{InValue}
 use Rattle.rel_formula.specs.Shape.{arity_of, IsWellFormed}
 use Rattle.rel_formula.specs.Tables.{Tabled, arities, tabled}
+use Rattle.rel_formula.proofs.formula.Expression.TheLaws.{the_size}
+use Rattle.rel_formula.proofs.Smaller.{argument_falls, left_smaller, right_smaller, operand_smaller}
 use Rattle.rel_formula.proofs.Valued.{variable_is}
 use Rattle.rel_formula.proofs.evaluate.+value.Goals as goal
 
@@ -14,9 +16,31 @@ use Rattle.rel_formula.proofs.evaluate.+value.Goals as goal
 abbrev IsValue : Tabled → List Atom → Rows → Expression → Type 0
 IsValue tables env v e = IsSetOf v (arity_of (arities tables) (expression_tree e)) (InValue (tabled tables) (reverse env) (expression_tree e))
 
+-- where the expression is well formed under these variables
+abbrev FormedWith : Tabled → List Atom → Expression → Type 0
+FormedWith tables env e = IsWellFormed (arities tables) (length env) (expression_tree e)
+
+pub value-requires : goal.value-requires
+value-requires t c =
+    let P : Expression → Type 0 = FormedWith c.args.tables.now c.args.env.now in
+    let formed = subst P c.in-Binary.is c.requires in
+    (argument_falls the_size t _ _ _ _ c.decreases c.in-Binary.is c.deref.ensures (left_smaller _ _ _), subst P (sym c.deref.ensures) formed.0)
+
+pub value-requires-in-Binary : goal.value-requires-in-Binary
+value-requires-in-Binary t c =
+    let P : Expression → Type 0 = FormedWith c.args.tables.now c.args.env.now in
+    let formed = subst P c.in-Binary.is c.requires in
+    (argument_falls the_size t _ _ _ _ c.decreases c.in-Binary.is c.deref-in-Binary.ensures (right_smaller _ _ _), subst P (sym c.deref-in-Binary.ensures) formed.1)
+
+pub value-requires-in-Unary : goal.value-requires-in-Unary
+value-requires-in-Unary t c =
+    let P : Expression → Type 0 = FormedWith c.args.tables.now c.args.env.now in
+    let formed = subst P c.in-Unary.is c.requires in
+    (argument_falls the_size t _ _ _ _ c.decreases c.in-Unary.is c.deref-in-Unary.ensures (operand_smaller _ _), subst P (sym c.deref-in-Unary.ensures) formed.0)
+
 pub returns-in_ok-single-in-Var : goal.returns-in_ok-single-in-Var
 returns-in_ok-single-in-Var t c =
-    let formed = subst (λ (e : Expression). IsWellFormed (arities c.args.tables.now) (length c.args.env.now) (expression_tree e)) c.in-Var.is c.requires in
+    let formed = subst (FormedWith c.args.tables.now c.args.env.now) c.in-Var.is c.requires in
     subst (IsValue c.args.tables.now c.args.env.now c.in_ok-single-in-Var.field-0) (sym c.in-Var.is)
     (variable_is c.args.env.now c.in-Var.i c.in_ok-single-in-Var.field-0 _ (record { top = 0; place = 0 }) formed refl c.in_ok-single-in-Var.ensures)
 

@@ -1,4 +1,4 @@
-use Rattle.std.proofs.Common.{◌≡◌, ◌+◌, [], ◌∷◌, ◌++◌, map, length, drop, true, false, refl, ap, ◌∙◌, sym, subst, arith, vec_len, Vec, Global}
+use Rattle.std.proofs.Common.{◌≡◌, ◌+◌, ◌*◌, [], ◌∷◌, ◌++◌, map, length, drop, true, false, refl, ap, ◌∙◌, sym, subst, arith, vec_len, Box, Vec, Global}
 use Rattle.std.specs.Option.{option_copied}
 use Rattle.std.proofs.lemmas.Result.{err_from_is_err_and}
 use Rattle.alloy_syntax.specs.declared.tree.Node.{Node}
@@ -17,11 +17,21 @@ use Rattle.sig_resolve.specs.Bodies.Each.{faults_of_step, resolved_before, domai
 use Rattle.sig_resolve.proofs.Bodies.Arms.{handed, nothing_made, told_second, told_at, made_at, told_of, made_of, bracketed_made, prefixed_made, none_in_both, compared_made, implies_made, else_made}
 use Rattle.sig_resolve.proofs.Bodies.SeenNodes.{bracketed_node, block_node, prefixed_node, chain_node, compared_node, implies_node, else_node}
 use Rattle.name_tables.proofs.Telling.{told_first}
-use Rattle.sig_resolve.proofs.Bodies.Calls.{call_taken, call_told, call_kept, call_joined, plain_told}
+use Rattle.sig_resolve.proofs.Bodies.Listed.{moved, only_memory, DomainsTold, ValuesTold, StepsTold, HeadTold, HeadMade, AllMade, LinksMade, DomainsMade, ValuesMade, PathMade, bracketed, behind_domains, behind_values}
+use Rattle.sig_resolve.proofs.Bodies.Listed.{named_told, named_made, numbered_made, constant_made, block_made, chain_made, head_told, steps_told, path_made, domains_told, within_told, quantified_made, values_told, inner_told, let_made}
+use Rattle.sig_resolve.proofs.Bodies.Calls.{call_taken, call_told, call_rest_told, call_kept, call_joined, plain_told}
 use Rattle.sig_resolve.proofs.Bodies.Depths.{declarations_inside, bindings_inside, all_left}
 use Rattle.sig_resolve.proofs.Bodies.SeenPaths.{called_seen}
 use Rattle.sig_resolve.proofs.Bodies.Nodes.{nodes_more, nodes_fault, nodes_all, links_more, links_fault, links_all, steps_more, steps_fault, steps_all}
 use Rattle.sig_resolve.proofs.Bodies.Variables.{DomainsLeft, ValuesLeft, declarations_behind, bindings_behind, domains_more, domains_mark, domains_fault, domains_all, values_more, values_fault, values_all}
+use Rattle.sig_resolve.proofs.Bodies.Smaller.{part_falls, row_falls, item_falls, rank_falls, bracketed_smaller, block_smaller, prefixed_smaller, first_smaller, links_smaller, head_smaller, steps_smaller, left_smaller, right_smaller, premise_smaller, conclusion_smaller}
+use Rattle.sig_resolve.proofs.Bodies.Smaller.{condition_smaller, then_smaller, else_smaller, declarations_smaller, body_smaller, bindings_smaller, let_body_smaller, operand_smaller, domain_smaller, value_smaller, joined_smaller, in_brackets_smaller}
+use Rattle.alloy_syntax.proofs.tree.Node.TheLaws.{the_size}
+use Rattle.alloy_syntax.proofs.tree.Link.TheLaws.{the_size as link_size}
+use Rattle.alloy_syntax.proofs.tree.Step.TheLaws.{the_size as step_size}
+use Rattle.alloy_syntax.proofs.tree.Declaration.TheLaws.{the_size as declaration_size}
+use Rattle.alloy_syntax.proofs.tree.Binding.TheLaws.{the_size as binding_size}
+use denote.Param.Weighed.{most}
 use Rattle.sig_resolve.proofs.body_names.parts.+parts.Goals as goal
 
 pub formulas-loop-node-preserved : goal.formulas-loop-node-preserved
@@ -473,3 +483,402 @@ part-returns-in-Numbered-clause-names t c =
 pub part-returns-in_ok-tied-in-Named-clause-names : goal.part-returns-in_ok-tied-in-Named-clause-names
 part-returns-in_ok-tied-in-Named-clause-names t c =
     refl
+
+pub part-returns-in_err-tied-in-Named-clause-value : goal.part-returns-in_err-tied-in-Named-clause-value
+part-returns-in_err-tied-in-Named-clause-value t c =
+    let n : InForce = c.args.names.now in
+    let a = c.in-Named in
+    handed (λ (x : Phrase). seen.phrase_view x ≡ spec.resolved n.globals n.locals (view c.args.node.now)) c.from_residual.result c.in_err-tied-in-Named.field-0.0 (spec.faults_of n.globals n.locals c.args.behind (view c.args.node.now)) c.from_residual.ensures.1 (named_told n c.args.behind c.args.node.now a.name c.in_err-tied-in-Named.field-0.0 a.is c.in_err-tied-in-Named.ensures)
+
+pub part-returns-in_ok-tied-in-Named-clause-value : goal.part-returns-in_ok-tied-in-Named-clause-value
+part-returns-in_ok-tied-in-Named-clause-value t c =
+    let n : InForce = c.args.names.now in
+    let a = c.in-Named in
+    named_made n c.args.behind c.args.node.now a.name (seen.phrase_view c.in_ok-tied-in-Named.field-0) a.is c.in_ok-tied-in-Named.ensures
+
+pub part-returns-in-Numbered-clause-value : goal.part-returns-in-Numbered-clause-value
+part-returns-in-Numbered-clause-value t c =
+    let n : InForce = c.args.names.now in
+    let a = c.in-Numbered in
+    numbered_made n c.args.behind c.args.node.now a.number a.is
+
+pub part-returns-in-Constant-clause-value : goal.part-returns-in-Constant-clause-value
+part-returns-in-Constant-clause-value t c =
+    let n : InForce = c.args.names.now in
+    let a = c.in-Constant in
+    constant_made n c.args.behind c.args.node.now a.constant a.place a.is
+
+pub part-returns-in_ok-formulas-in-Block-clause-value : goal.part-returns-in_ok-formulas-in-Block-clause-value
+part-returns-in_ok-formulas-in-Block-clause-value t c =
+    let n : InForce = c.args.names.now in
+    let a = c.in-Block in
+    let made = moved (AllMade (seen.phrases_view c.in_ok-formulas-in-Block.field-0.items)) n n c.deref-in-Block.result.now a.nodes.items refl c.deref-in-Block.ensures.value c.in_ok-formulas-in-Block.ensures.value in
+    block_made n c.args.behind c.args.node.now a.place a.nodes c.in_ok-formulas-in-Block.field-0 a.is made
+
+pub part-returns-in_ok-links-in-Chain-clause-value : goal.part-returns-in_ok-links-in-Chain-clause-value
+part-returns-in_ok-links-in-Chain-clause-value t c =
+    let n : InForce = c.args.names.now in
+    let a = c.in-Chain in
+    let first = c.in_ok-first-in-Chain.first in
+    let links = c.in_ok-links-in-Chain.field-0 in
+    let one = made_at (seen.phrase_view first.value) n n c.deref-in-Chain.result.now a.first.value refl c.deref-in-Chain.ensures c.in_ok-first-in-Chain.ensures.value in
+    let two = moved (LinksMade (phrase.links_of (map seen.link_view links.items))) c.boxed-in-Chain.new.names n c.deref-in-Chain-2.result.now a.others.items c.in_ok-first-in-Chain.ensures.names c.deref-in-Chain-2.ensures.value c.in_ok-links-in-Chain.ensures.value in
+    chain_made n c.args.behind c.args.node.now a.first a.others first links a.is one two
+
+pub part-returns-in_err-head-in-Path-clause-value : goal.part-returns-in_err-head-in-Path-clause-value
+part-returns-in_err-head-in-Path-clause-value t c =
+    let n : InForce = c.args.names.now in
+    let a = c.in-Path in
+    let count = c.bracketed_in.ensures ∙ ap bracketed c.deref-in-Path.ensures.value in
+    let e = c.in_err-head-in-Path.field-0.0 in
+    let told = moved (HeadTold n e) c.bracketed_in.result (bracketed a.steps.items) c.deref-in-Path-2.result.now a.head.value count c.deref-in-Path-2.ensures c.in_err-head-in-Path.ensures.value in
+    handed (λ (x : Phrase). seen.phrase_view x ≡ spec.resolved n.globals n.locals (view c.args.node.now)) c.from_residual-in_err-head-in-Path.result e (spec.faults_of n.globals n.locals c.args.behind (view c.args.node.now)) c.from_residual-in_err-head-in-Path.ensures.1 (head_told n c.args.behind c.args.node.now a.head a.steps a.is e told)
+
+pub part-returns-in_err-path-in-Path-clause-value : goal.part-returns-in_err-path-in-Path-clause-value
+part-returns-in_err-path-in-Path-clause-value t c =
+    let n : InForce = c.args.names.now in
+    let a = c.in-Path in
+    let count = c.bracketed_in.ensures ∙ ap bracketed c.deref-in-Path.ensures.value in
+    let e = c.in_err-path-in-Path.field-0.0 in
+    let head = seen.phrase_view c.in_ok-head-in-Path.head in
+    let one = moved (HeadMade n head) c.bracketed_in.result (bracketed a.steps.items) c.deref-in-Path-2.result.now a.head.value count c.deref-in-Path-2.ensures c.in_ok-head-in-Path.ensures.value in
+    let told = moved (StepsTold e) c.part.new.names n c.deref-in-Path-3.result.now a.steps.items c.in_ok-head-in-Path.ensures.names c.deref-in-Path-3.ensures.value c.in_err-path-in-Path.ensures.value in
+    handed (λ (x : Phrase). seen.phrase_view x ≡ spec.resolved n.globals n.locals (view c.args.node.now)) c.from_residual-in_err-path-in-Path.result e (spec.faults_of n.globals n.locals c.args.behind (view c.args.node.now)) c.from_residual-in_err-path-in-Path.ensures.1 (steps_told n c.args.behind c.args.node.now a.head a.steps a.is head one e told)
+
+pub part-returns-in_ok-path-in-Path-clause-value : goal.part-returns-in_ok-path-in-Path-clause-value
+part-returns-in_ok-path-in-Path-clause-value t c =
+    let n : InForce = c.args.names.now in
+    let a = c.in-Path in
+    let count = c.bracketed_in.ensures ∙ ap bracketed c.deref-in-Path.ensures.value in
+    let head = seen.phrase_view c.in_ok-head-in-Path.head in
+    let one = moved (HeadMade n head) c.bracketed_in.result (bracketed a.steps.items) c.deref-in-Path-2.result.now a.head.value count c.deref-in-Path-2.ensures c.in_ok-head-in-Path.ensures.value in
+    let whole = seen.phrase_view c.in_ok-path-in-Path.field-0 in
+    let two = moved (PathMade head whole) c.part.new.names n c.deref-in-Path-3.result.now a.steps.items c.in_ok-head-in-Path.ensures.names c.deref-in-Path-3.ensures.value c.in_ok-path-in-Path.ensures.value in
+    path_made n c.args.behind c.args.node.now a.head a.steps a.is head one whole two
+
+pub part-returns-in_err-domains-in-Quantified-clause-value : goal.part-returns-in_err-domains-in-Quantified-clause-value
+part-returns-in_err-domains-in-Quantified-clause-value t c =
+    let n : InForce = c.args.names.now in
+    let a = c.in-Quantified in
+    let e = c.in_err-domains-in-Quantified.field-0.0 in
+    let told = moved (DomainsTold e) n n c.deref-in-Quantified.result.now a.declarations.items refl c.deref-in-Quantified.ensures.value c.in_err-domains-in-Quantified.ensures.value in
+    handed (λ (x : Phrase). seen.phrase_view x ≡ spec.resolved n.globals n.locals (view c.args.node.now)) c.from_residual-in_err-domains-in-Quantified.result e (spec.faults_of n.globals n.locals c.args.behind (view c.args.node.now)) c.from_residual-in_err-domains-in-Quantified.ensures.1 (domains_told n c.args.behind c.args.node.now a.quantifier a.place a.declarations a.inner a.is e told)
+
+pub part-returns-in_err-inner-in-Quantified-clause-value : goal.part-returns-in_err-inner-in-Quantified-clause-value
+part-returns-in_err-inner-in-Quantified-clause-value t c =
+    let n : InForce = c.args.names.now in
+    let a = c.in-Quantified in
+    let e = c.in_err-inner-in-Quantified.field-0.0 in
+    let domains = c.in_ok-domains-in-Quantified.domains in
+    let found = phrase.domains_of (map seen.domain_view domains.items) in
+    let one = moved (DomainsMade found) n n c.deref-in-Quantified.result.now a.declarations.items refl c.deref-in-Quantified.ensures.value c.in_ok-domains-in-Quantified.ensures.value in
+    let names = c.in_ok-domains-in-Quantified.ensures.names ∙ ap (behind_domains n) c.deref-in-Quantified.ensures.value in
+    let told = told_at e c.domains.new.names (behind_domains n a.declarations.items) c.deref-in-Quantified-2.result.now a.inner.value names c.deref-in-Quantified-2.ensures c.in_err-inner-in-Quantified.ensures.value in
+    handed (λ (x : Phrase). seen.phrase_view x ≡ spec.resolved n.globals n.locals (view c.args.node.now)) c.from_residual-in_err-inner-in-Quantified.result e (spec.faults_of n.globals n.locals c.args.behind (view c.args.node.now)) c.from_residual-in_err-inner-in-Quantified.ensures.1 (within_told n c.args.behind c.args.node.now a.quantifier a.place a.declarations a.inner a.is found one e told)
+
+pub part-returns-in_ok-inner-in-Quantified-clause-value : goal.part-returns-in_ok-inner-in-Quantified-clause-value
+part-returns-in_ok-inner-in-Quantified-clause-value t c =
+    let n : InForce = c.args.names.now in
+    let a = c.in-Quantified in
+    let domains = c.in_ok-domains-in-Quantified.domains in
+    let found = phrase.domains_of (map seen.domain_view domains.items) in
+    let one = moved (DomainsMade found) n n c.deref-in-Quantified.result.now a.declarations.items refl c.deref-in-Quantified.ensures.value c.in_ok-domains-in-Quantified.ensures.value in
+    let names = c.in_ok-domains-in-Quantified.ensures.names ∙ ap (behind_domains n) c.deref-in-Quantified.ensures.value in
+    let inner = c.in_ok-inner-in-Quantified.inner in
+    let two = made_at (seen.phrase_view inner.value) c.domains.new.names (behind_domains n a.declarations.items) c.deref-in-Quantified-2.result.now a.inner.value names c.deref-in-Quantified-2.ensures c.in_ok-inner-in-Quantified.ensures.value in
+    quantified_made n c.args.behind c.args.node.now a.quantifier a.place a.declarations a.inner a.is found one domains inner refl two
+
+pub part-returns-in_err-values-in-Let-clause-value : goal.part-returns-in_err-values-in-Let-clause-value
+part-returns-in_err-values-in-Let-clause-value t c =
+    let n : InForce = c.args.names.now in
+    let a = c.in-Let in
+    let e = c.in_err-values-in-Let.field-0.0 in
+    let told = moved (ValuesTold e) n n c.deref-in-Let.result.now a.bindings.items refl c.deref-in-Let.ensures.value c.in_err-values-in-Let.ensures.value in
+    handed (λ (x : Phrase). seen.phrase_view x ≡ spec.resolved n.globals n.locals (view c.args.node.now)) c.from_residual-in_err-values-in-Let.result e (spec.faults_of n.globals n.locals c.args.behind (view c.args.node.now)) c.from_residual-in_err-values-in-Let.ensures.1 (values_told n c.args.behind c.args.node.now a.place a.bindings a.inner a.is e told)
+
+pub part-returns-in_err-inner-in-Let-clause-value : goal.part-returns-in_err-inner-in-Let-clause-value
+part-returns-in_err-inner-in-Let-clause-value t c =
+    let n : InForce = c.args.names.now in
+    let a = c.in-Let in
+    let e = c.in_err-inner-in-Let.field-0.0 in
+    let values = c.in_ok-values-in-Let.values in
+    let found = seen.phrases_view values.items in
+    let one = moved (ValuesMade found) n n c.deref-in-Let.result.now a.bindings.items refl c.deref-in-Let.ensures.value c.in_ok-values-in-Let.ensures.value in
+    let names = c.in_ok-values-in-Let.ensures.names ∙ ap (behind_values n) c.deref-in-Let.ensures.value in
+    let told = told_at e c.values.new.names (behind_values n a.bindings.items) c.deref-in-Let-2.result.now a.inner.value names c.deref-in-Let-2.ensures c.in_err-inner-in-Let.ensures.value in
+    handed (λ (x : Phrase). seen.phrase_view x ≡ spec.resolved n.globals n.locals (view c.args.node.now)) c.from_residual-in_err-inner-in-Let.result e (spec.faults_of n.globals n.locals c.args.behind (view c.args.node.now)) c.from_residual-in_err-inner-in-Let.ensures.1 (inner_told n c.args.behind c.args.node.now a.place a.bindings a.inner a.is found one e told)
+
+pub part-returns-in_ok-inner-in-Let-clause-value : goal.part-returns-in_ok-inner-in-Let-clause-value
+part-returns-in_ok-inner-in-Let-clause-value t c =
+    let n : InForce = c.args.names.now in
+    let a = c.in-Let in
+    let values = c.in_ok-values-in-Let.values in
+    let found = seen.phrases_view values.items in
+    let one = moved (ValuesMade found) n n c.deref-in-Let.result.now a.bindings.items refl c.deref-in-Let.ensures.value c.in_ok-values-in-Let.ensures.value in
+    let names = c.in_ok-values-in-Let.ensures.names ∙ ap (behind_values n) c.deref-in-Let.ensures.value in
+    let inner = c.in_ok-inner-in-Let.inner in
+    let two = made_at (seen.phrase_view inner.value) c.values.new.names (behind_values n a.bindings.items) c.deref-in-Let-2.result.now a.inner.value names c.deref-in-Let-2.ensures c.in_ok-inner-in-Let.ensures.value in
+    let_made n c.args.behind c.args.node.now a.place a.bindings a.inner a.is found one values inner refl two
+
+pub part-boxed-requires : goal.part-boxed-requires
+part-boxed-requires t c = (part_falls 1 0 t the_size the_size (omega arith) _ _ c.decreases c.in-Bracketed.is _ _ c.deref.ensures (bracketed_smaller _ _), tt)
+
+pub part-formulas-requires : goal.part-formulas-requires
+part-formulas-requires t c = (row_falls 1 0 t the_size the_size (omega arith) _ _ c.decreases c.in-Block.is _ _ c.deref-in-Block.ensures.value (block_smaller _ _), tt)
+
+pub part-boxed-requires-in-Prefixed : goal.part-boxed-requires-in-Prefixed
+part-boxed-requires-in-Prefixed t c = (part_falls 1 0 t the_size the_size (omega arith) _ _ c.decreases c.in-Prefixed.is _ _ c.deref-in-Prefixed.ensures (prefixed_smaller _ _ _), tt)
+
+pub part-boxed-requires-in-Chain : goal.part-boxed-requires-in-Chain
+part-boxed-requires-in-Chain t c = (part_falls 1 0 t the_size the_size (omega arith) _ _ c.decreases c.in-Chain.is _ _ c.deref-in-Chain.ensures (first_smaller _ _), tt)
+
+pub part-links-requires : goal.part-links-requires
+part-links-requires t c = (row_falls 1 0 t the_size link_size (omega arith) _ _ c.decreases c.in-Chain.is _ _ c.deref-in-Chain-2.ensures.value (links_smaller _ _), tt)
+
+pub part-part-requires : goal.part-part-requires
+part-part-requires t c = (part_falls 0 0 t the_size the_size (omega arith) _ _ c.decreases c.in-Path.is _ _ c.deref-in-Path-2.ensures (head_smaller _ _), tt)
+
+pub part-path-requires : goal.part-path-requires
+part-path-requires t c = (row_falls 4 0 t the_size step_size (omega arith) _ _ c.decreases c.in-Path.is _ _ c.deref-in-Path-3.ensures.value (steps_smaller _ _), tt)
+
+pub part-boxed-requires-in-Compared : goal.part-boxed-requires-in-Compared
+part-boxed-requires-in-Compared t c = (part_falls 1 0 t the_size the_size (omega arith) _ _ c.decreases c.in-Compared.is _ _ c.deref-in-Compared.ensures (left_smaller _ _ _), tt)
+
+pub part-boxed-requires-in-Compared-2 : goal.part-boxed-requires-in-Compared-2
+part-boxed-requires-in-Compared-2 t c = (part_falls 1 0 t the_size the_size (omega arith) _ _ c.decreases c.in-Compared.is _ _ c.deref-in-Compared-2.ensures (right_smaller _ _ _), tt)
+
+pub part-boxed-requires-in-Implies : goal.part-boxed-requires-in-Implies
+part-boxed-requires-in-Implies t c = (part_falls 1 0 t the_size the_size (omega arith) _ _ c.decreases c.in-Implies.is _ _ c.deref-in-Implies.ensures (premise_smaller _ _ _), tt)
+
+pub part-boxed-requires-in-Implies-2 : goal.part-boxed-requires-in-Implies-2
+part-boxed-requires-in-Implies-2 t c = (part_falls 1 0 t the_size the_size (omega arith) _ _ c.decreases c.in-Implies.is _ _ c.deref-in-Implies-2.ensures (conclusion_smaller _ _ _), tt)
+
+pub part-boxed-requires-in-ImpliesElse : goal.part-boxed-requires-in-ImpliesElse
+part-boxed-requires-in-ImpliesElse t c = (part_falls 1 0 t the_size the_size (omega arith) _ _ c.decreases c.in-ImpliesElse.is _ _ c.deref-in-ImpliesElse.ensures (condition_smaller _ _ _ _), tt)
+
+pub part-boxed-requires-in-ImpliesElse-2 : goal.part-boxed-requires-in-ImpliesElse-2
+part-boxed-requires-in-ImpliesElse-2 t c = (part_falls 1 0 t the_size the_size (omega arith) _ _ c.decreases c.in-ImpliesElse.is _ _ c.deref-in-ImpliesElse-2.ensures (then_smaller _ _ _ _), tt)
+
+pub part-boxed-requires-in-ImpliesElse-3 : goal.part-boxed-requires-in-ImpliesElse-3
+part-boxed-requires-in-ImpliesElse-3 t c = (part_falls 1 0 t the_size the_size (omega arith) _ _ c.decreases c.in-ImpliesElse.is _ _ c.deref-in-ImpliesElse-3.ensures (else_smaller _ _ _ _), tt)
+
+pub part-domains-requires : goal.part-domains-requires
+part-domains-requires t c = (row_falls 1 0 t the_size declaration_size (omega arith) _ _ c.decreases c.in-Quantified.is _ _ c.deref-in-Quantified.ensures.value (declarations_smaller _ _ _ _), tt)
+
+pub part-boxed-requires-in-Quantified : goal.part-boxed-requires-in-Quantified
+part-boxed-requires-in-Quantified t c = (part_falls 1 0 t the_size the_size (omega arith) _ _ c.decreases c.in-Quantified.is _ _ c.deref-in-Quantified-2.ensures (body_smaller _ _ _ _), tt)
+
+pub part-values-requires : goal.part-values-requires
+part-values-requires t c = (row_falls 1 0 t the_size binding_size (omega arith) _ _ c.decreases c.in-Let.is _ _ c.deref-in-Let.ensures.value (bindings_smaller _ _ _), tt)
+
+pub part-boxed-requires-in-Let : goal.part-boxed-requires-in-Let
+part-boxed-requires-in-Let t c = (part_falls 1 0 t the_size the_size (omega arith) _ _ c.decreases c.in-Let.is _ _ c.deref-in-Let-2.ensures (let_body_smaller _ _ _), tt)
+
+pub boxed-part-requires : goal.boxed-part-requires
+boxed-part-requires t c = (rank_falls 0 1 t (5 * the_size c.args.node.now) (omega arith) c.decreases, tt)
+
+pub formulas-part-requires : goal.formulas-part-requires
+formulas-part-requires t c = (item_falls 0 1 t the_size (omega arith) c.args.nodes.now c.loop-node.node-index c.node-item.result c.decreases c.loop-node-test.true c.node-item.is, tt)
+
+pub links-link_of-requires : goal.links-link_of-requires
+links-link_of-requires t c = (item_falls 0 1 t link_size (omega arith) c.args.links.now c.loop-link.link-index c.link-item.result c.decreases c.loop-link-test.true c.link-item.is, tt)
+
+pub steps_from-step_of-requires : goal.steps_from-step_of-requires
+steps_from-step_of-requires t c = (item_falls 0 1 t step_size (omega arith) c.args.steps.now c.loop-place.place c.index-steps-place.result c.decreases c.loop-place-test.true c.index-steps-place.is, tt)
+
+pub domains-domain-requires : goal.domains-domain-requires
+domains-domain-requires t c = (item_falls 0 1 t declaration_size (omega arith) c.args.declarations.now c.loop-declaration.declaration-index c.declaration-item.result c.decreases c.loop-declaration-test.true c.declaration-item.is, tt)
+
+pub values-value-requires : goal.values-value-requires
+values-value-requires t c = (item_falls 0 1 t binding_size (omega arith) c.args.bindings.now c.loop-binding.binding-index c.binding-item.result c.decreases c.loop-binding-test.true c.binding-item.is, tt)
+
+pub link_of-part-requires : goal.link_of-part-requires
+link_of-part-requires t c = (part_falls 0 0 t link_size the_size (omega arith) c.args.link.now c.args.link.now c.decreases refl c.args.link.now.operand c.args.link.now.operand refl (operand_smaller _), tt)
+
+pub domain-boxed-requires : goal.domain-boxed-requires
+domain-boxed-requires t c = (part_falls 1 0 t declaration_size the_size (omega arith) c.args.declaration.now c.args.declaration.now c.decreases refl c.args.declaration.now.domain c.args.declaration.now.domain refl (domain_smaller _), tt)
+
+pub value-boxed-requires : goal.value-boxed-requires
+value-boxed-requires t c = (part_falls 1 0 t binding_size the_size (omega arith) c.args.binding.now c.args.binding.now c.decreases refl c.args.binding.now.value c.args.binding.now.value refl (value_smaller _), tt)
+
+pub step_of-part-requires : goal.step_of-part-requires
+step_of-part-requires t c = (part_falls 0 0 t step_size the_size (omega arith) _ _ c.decreases c.in-Join.is c.in-Join.node c.in-Join.node refl (joined_smaller _ _), tt)
+
+pub step_of-formulas-requires : goal.step_of-formulas-requires
+step_of-formulas-requires t c = (row_falls 1 0 t step_size the_size (omega arith) _ _ c.decreases c.in-Brackets.is _ _ c.deref.ensures.value (in_brackets_smaller _ _), tt)
+
+pub plain-steps_from-requires : goal.plain-steps_from-requires
+plain-steps_from-requires t c = (rank_falls 1 2 t (5 * most step_size c.args.steps.now) (omega arith) c.decreases, tt)
+
+pub path-call-requires : goal.path-call-requires
+path-call-requires t c = (rank_falls 3 4 t (5 * most step_size c.args.steps.now) (omega arith) c.decreases, tt)
+
+pub path-steps_from-requires : goal.path-steps_from-requires
+path-steps_from-requires t c = (rank_falls 1 4 t (5 * most step_size c.args.steps.now) (omega arith) c.decreases, tt)
+
+pub call-plain-requires : goal.call-plain-requires
+call-plain-requires t c = (rank_falls 2 3 t (5 * most step_size c.args.steps.now) (omega arith) c.decreases, tt)
+
+pub call-plain-requires-in-None : goal.call-plain-requires-in-None
+call-plain-requires-in-None t c = (rank_falls 2 3 t (5 * most step_size c.args.steps.now) (omega arith) c.decreases, tt)
+
+pub call-plain-requires-in-Some-Join : goal.call-plain-requires-in-Some-Join
+call-plain-requires-in-Some-Join t c = (rank_falls 2 3 t (5 * most step_size c.args.steps.now) (omega arith) c.decreases, tt)
+
+pub call-steps_from-requires : goal.call-steps_from-requires
+call-steps_from-requires t c = (rank_falls 1 3 t (5 * most step_size c.args.steps.now) (omega arith) c.decreases, tt)
+
+pub boxed-returns-in_err-phrase-clause-names : goal.boxed-returns-in_err-phrase-clause-names
+boxed-returns-in_err-phrase-clause-names t c =
+    nothing_made c.from_residual.result _ c.from_residual.ensures.0
+
+pub boxed-returns-in_err-phrase-clause-value : goal.boxed-returns-in_err-phrase-clause-value
+boxed-returns-in_err-phrase-clause-value t c =
+    let n : InForce = c.args.names.now in
+    handed (λ (x : Box Phrase Global). seen.phrase_view x.value ≡ spec.resolved n.globals n.locals (view c.args.node.now)) c.from_residual.result c.in_err-phrase.field-0.0 (spec.faults_of n.globals n.locals 0 (view c.args.node.now)) c.from_residual.ensures.1 c.in_err-phrase.ensures.value
+
+pub boxed-returns-clause-names : goal.boxed-returns-clause-names
+boxed-returns-clause-names t c =
+    c.in_ok-phrase.ensures.names
+
+pub link_of-returns-in_err-operand-clause-names : goal.link_of-returns-in_err-operand-clause-names
+link_of-returns-in_err-operand-clause-names t c =
+    nothing_made c.from_residual.result _ c.from_residual.ensures.0
+
+pub link_of-returns-clause-names : goal.link_of-returns-clause-names
+link_of-returns-clause-names t c =
+    c.in_ok-operand.ensures.names
+
+pub domain-returns-in_err-domain-clause-names : goal.domain-returns-in_err-domain-clause-names
+domain-returns-in_err-domain-clause-names t c =
+    nothing_made c.from_residual.result _ c.from_residual.ensures.0
+
+pub value-returns-in_err-value-clause-names : goal.value-returns-in_err-value-clause-names
+value-returns-in_err-value-clause-names t c =
+    nothing_made c.from_residual.result _ c.from_residual.ensures.0
+
+pub plain-returns-in_err-steps-clause-names : goal.plain-returns-in_err-steps-clause-names
+plain-returns-in_err-steps-clause-names t c =
+    nothing_made c.from_residual.result _ c.from_residual.ensures.0
+
+pub plain-returns-in_err-steps-clause-value : goal.plain-returns-in_err-steps-clause-value
+plain-returns-in_err-steps-clause-value t c =
+    let n : InForce = c.args.names.now in
+    handed (λ (x : Phrase). seen.phrase_view x ≡ spec.path_of (seen.phrase_view c.args.called) (spec.steps_resolved n.globals n.locals (steps_of (map step_view c.args.steps.now)))) c.from_residual.result c.in_err-steps.field-0.0 (spec.step_faults n.globals n.locals (steps_of (map step_view c.args.steps.now))) c.from_residual.ensures.1 c.in_err-steps.ensures.value
+
+pub plain-returns-clause-names : goal.plain-returns-clause-names
+plain-returns-clause-names t c =
+    c.in_ok-steps.ensures.names
+
+pub step_of-returns-in_err-node-in-Join-clause-names : goal.step_of-returns-in_err-node-in-Join-clause-names
+step_of-returns-in_err-node-in-Join-clause-names t c =
+    nothing_made c.from_residual.result _ c.from_residual.ensures.0
+
+pub step_of-returns-in_ok-node-in-Join-clause-names : goal.step_of-returns-in_ok-node-in-Join-clause-names
+step_of-returns-in_ok-node-in-Join-clause-names t c =
+    c.in_ok-node-in-Join.ensures.names
+
+pub step_of-returns-in_ok-parts-in-Brackets-clause-names : goal.step_of-returns-in_ok-parts-in-Brackets-clause-names
+step_of-returns-in_ok-parts-in-Brackets-clause-names t c =
+    c.in_ok-parts-in-Brackets.ensures.names
+
+pub step_of-returns-in_err-parts-in-Brackets-clause-names : goal.step_of-returns-in_err-parts-in-Brackets-clause-names
+step_of-returns-in_err-parts-in-Brackets-clause-names t c =
+    nothing_made c.from_residual-in_err-parts-in-Brackets.result _ c.from_residual-in_err-parts-in-Brackets.ensures.0
+
+pub formulas-returns-in_err-another-clause-names : goal.formulas-returns-in_err-another-clause-names
+formulas-returns-in_err-another-clause-names t c =
+    nothing_made c.from_residual.result _ c.from_residual.ensures.0
+
+pub formulas-returns-clause-names : goal.formulas-returns-clause-names
+formulas-returns-clause-names t c =
+    c.loop-node.invariant.same
+
+pub links-returns-in_err-another-clause-names : goal.links-returns-in_err-another-clause-names
+links-returns-in_err-another-clause-names t c =
+    nothing_made c.from_residual.result _ c.from_residual.ensures.0
+
+pub links-returns-clause-names : goal.links-returns-clause-names
+links-returns-clause-names t c =
+    c.loop-link.invariant.same
+
+pub steps_from-returns-in_err-another-clause-names : goal.steps_from-returns-in_err-another-clause-names
+steps_from-returns-in_err-another-clause-names t c =
+    nothing_made c.from_residual.result _ c.from_residual.ensures.0
+
+pub steps_from-returns-clause-names : goal.steps_from-returns-clause-names
+steps_from-returns-clause-names t c =
+    c.loop-place.invariant.same
+
+pub values-returns-in_err-another-clause-names : goal.values-returns-in_err-another-clause-names
+values-returns-in_err-another-clause-names t c =
+    nothing_made c.from_residual.result _ c.from_residual.ensures.0
+
+pub domains-returns-in_err-single_of-clause-names : goal.domains-returns-in_err-single_of-clause-names
+domains-returns-in_err-single_of-clause-names t c =
+    nothing_made c.from_residual.result _ c.from_residual.ensures.0
+
+pub domains-returns-in_err-another-clause-names : goal.domains-returns-in_err-another-clause-names
+domains-returns-in_err-another-clause-names t c =
+    nothing_made c.from_residual-in_err-another.result _ c.from_residual-in_err-another.ensures.0
+
+pub call-returns-then-not-takes-clause-names : goal.call-returns-then-not-takes-clause-names
+call-returns-then-not-takes-clause-names t c =
+    c.plain.ensures.names
+
+pub call-returns-in-Some-Join-clause-names : goal.call-returns-in-Some-Join-clause-names
+call-returns-in-Some-Join-clause-names t c =
+    c.plain-in-Some-Join.ensures.names
+
+pub call-returns-in-None-clause-names : goal.call-returns-in-None-clause-names
+call-returns-in-None-clause-names t c =
+    c.plain-in-None.ensures.names
+
+pub call-returns-in_err-arguments-in-Some-Brackets-clause-names : goal.call-returns-in_err-arguments-in-Some-Brackets-clause-names
+call-returns-in_err-arguments-in-Some-Brackets-clause-names t c =
+    nothing_made c.from_residual.result _ c.from_residual.ensures.0
+
+pub call-returns-in_err-rest-in-Some-Brackets-clause-names : goal.call-returns-in_err-rest-in-Some-Brackets-clause-names
+call-returns-in_err-rest-in-Some-Brackets-clause-names t c =
+    nothing_made c.from_residual-in_err-rest-in-Some-Brackets.result _ c.from_residual-in_err-rest-in-Some-Brackets.ensures.0
+
+pub call-returns-in_err-path_of-in-Some-Brackets-clause-names : goal.call-returns-in_err-path_of-in-Some-Brackets-clause-names
+call-returns-in_err-path_of-in-Some-Brackets-clause-names t c =
+    nothing_made c.from_residual-in_err-path_of-in-Some-Brackets.result _ c.from_residual-in_err-path_of-in-Some-Brackets.ensures.0
+
+pub call-returns-in_ok-path_of-in-Some-Brackets-clause-names : goal.call-returns-in_ok-path_of-in-Some-Brackets-clause-names
+call-returns-in_ok-path_of-in-Some-Brackets-clause-names t c =
+    c.in_ok-rest-in-Some-Brackets.ensures.names ∙ c.in_ok-arguments-in-Some-Brackets.ensures.names
+
+pub path-returns-in-Called-clause-names : goal.path-returns-in-Called-clause-names
+path-returns-in-Called-clause-names t c =
+    c.call.ensures.names
+
+pub part-returns-in_err-tied-in-Named-clause-names : goal.part-returns-in_err-tied-in-Named-clause-names
+part-returns-in_err-tied-in-Named-clause-names t c =
+    nothing_made c.from_residual.result _ c.from_residual.ensures.0
+
+pub call-returns-in_err-rest-in-Some-Brackets-clause-value : goal.call-returns-in_err-rest-in-Some-Brackets-clause-value
+call-returns-in_err-rest-in-Some-Brackets-clause-value t c own is =
+    let n : InForce = c.args.names.now in
+    let e = c.in_err-rest-in-Some-Brackets.field-0.0 in
+    let p = err_from_is_err_and c.from_residual-in_err-rest-in-Some-Brackets.result c.from_residual-in_err-rest-in-Some-Brackets.ensures.1 in
+    let there = sym (ap option_copied c.in-Some-Brackets.is) ∙ c.first.ensures.value in
+    let same = c.deref.ensures.value ∙ ap (λ (v : Vec Node Global). v.items) c.in-Some-Brackets.parts-is in
+    let none = subst (λ xs. spec.all_faults n.globals n.locals (trees_of (views xs)) ≡ []) same c.in_ok-arguments-in-Some-Brackets.ensures.value.0 in
+    let told = subst (λ (m : InForce). IsTold e (spec.step_faults m.globals m.locals (steps_of (map step_view (drop 1 c.args.steps.now))))) c.in_ok-arguments-in-Some-Brackets.ensures.names c.in_err-rest-in-Some-Brackets.ensures.value in
+    rw (p.1, p.2) (call_rest_told n.globals n.locals c.args.steps.now c.in-Some-Brackets.field-0.now c.in-Some-Brackets.field-0-0 c.in-Some-Brackets.parts e there c.in-Some-Brackets.field-0-is none told)
+
+pub call-returns-in_err-path_of-in-Some-Brackets-clause-value : goal.call-returns-in_err-path_of-in-Some-Brackets-clause-value
+call-returns-in_err-path_of-in-Some-Brackets-clause-value t c own is =
+    let n : InForce = c.args.names.now in
+    let e = c.in_err-path_of-in-Some-Brackets.field-0.0 in
+    let p = err_from_is_err_and c.from_residual-in_err-path_of-in-Some-Brackets.result c.from_residual-in_err-path_of-in-Some-Brackets.ensures.1 in
+    rw (p.1, p.2) (only_memory e (spec.step_faults n.globals n.locals (steps_of (map step_view c.args.steps.now))) c.in_err-path_of-in-Some-Brackets.ensures)
+
+pub plain-returns-in_err-path_of-clause-value : goal.plain-returns-in_err-path_of-clause-value
+plain-returns-in_err-path_of-clause-value t c =
+    let n : InForce = c.args.names.now in
+    let e = c.in_err-path_of.field-0.0 in
+    let p = err_from_is_err_and c.from_residual-in_err-path_of.result c.from_residual-in_err-path_of.ensures.1 in
+    rw (p.1, p.2) (only_memory e (spec.step_faults n.globals n.locals (steps_of (map step_view c.args.steps.now))) c.in_err-path_of.ensures)
