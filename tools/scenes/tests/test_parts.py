@@ -314,6 +314,8 @@ class Sessions(Folder):
             "time.sleep(60)\n"
         )
         words = [sys.executable, str(TOOL / "scenes"), str(self.file("m.als", "sig A {} run {}\n"))]
+        # A job in the background ignores Ctrl-C, and so would the shell that it starts.
+        self.addCleanup(signal.signal, signal.SIGINT, signal.signal(signal.SIGINT, signal.default_int_handler))
         shell = subprocess.Popen(words, stdin=subprocess.PIPE, stdout=subprocess.PIPE, text=True, env={**os.environ, "EXPLORE": program.path})
         until = time.monotonic() + 30
         while not child.read_text() and time.monotonic() < until:
