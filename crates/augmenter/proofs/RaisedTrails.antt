@@ -3,13 +3,13 @@ use Rattle.std.proofs.Common.{◌≡◌, ◌≤◌, ◌+◌, ◌-◌, [], ℕ, B
 use Rattle.cnf_core.specs.declared.literal.Lit.{Lit}
 use Rattle.cnf_core.specs.Literal.{negation_of}
 use Rattle.refutation_check.specs.Assumed.{IsOpen}
-use Rattle.unit_propagation.specs.Assignments.Trail.{IsTrail, falses_of, level_of}
+use Rattle.unit_propagation.specs.Assignments.Trail.{IsTrail, falses_of}
 use Rattle.unit_propagation.proofs.Assignments.Trails.{neg_neg}
 use Rattle.sat_trail.specs.Trailed.{Trailed}
 use Rattle.sat_core.specs.Answers.{IsModel}
 use Rattle.sat_core.specs.Lent.{with_units}
 use Rattle.sat_core.specs.Search.{IsFound, IsVarIn}
-use Rattle.sat_core.proofs.Searches.{found_model, searching_start}
+use Rattle.sat_core.proofs.Searches.{found_model, searching_from, standing_at_none}
 use Rattle.minimiser.specs.Lowering.{HasValue}
 
 -- a literal is open where its opposite is
@@ -27,6 +27,5 @@ pub filled_model : (vars : ℕ) (clauses : List (List Lit)) (assumed : List Lit)
     (length values ≡ vars) × IsModel vars (with_units clauses assumed) values
 filled_model vars clauses assumed trail values same same_vars ordered in_range found =
     let start : Trailed = record { vars = vars; clauses = clauses; assigned = [] } in
-    let none : IsTrail clauses [] = λ i d h. absurd (omega arith) in
-    let was = searching_start assumed start start [] refl refl refl in_range none (record { count = 0; within = omega arith; stays = refl; low = (let e : level_of [] ≡ 0 = refl in omega arith); undone = λ j d a b. absurd (omega arith) }) in
+    let was = searching_from assumed 0 start [] refl in_range (standing_at_none assumed start refl) in
     found_model clauses vars assumed 0 start [] was trail same same_vars ordered values found

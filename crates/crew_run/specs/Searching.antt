@@ -1,7 +1,5 @@
 -- What the searches of a worker need, and what a round of them comes to.
 use Rattle.std.specs.Prelude.{◌≡◌, ◌⊎◌, ◌≤◌, ℕ, [], length, All, Contains}
-use Rattle.sat_trail.specs.Trailed.{IsBase}
-use Rattle.minimiser.specs.Lowering.{IsOver}
 use Rattle.rel_formula.specs.Instance.{AreCells}
 use Rattle.swap_symmetry.specs.Due.{IsDue}
 use Rattle.translation_rules.specs.Translation.{Translated}
@@ -14,10 +12,8 @@ use Rattle.crew_run.specs.declared.event.CrewEvent.TheVariants.{Found, Copy, Gav
 use Rattle.crew_run.specs.declared.reading.Reading.{Reading}
 use Rattle.crew_run.specs.declared.round.Searcher.{Searcher}
 
--- trails of the translation's formula, one of them without decisions; no imported steps; and the empty floor
-pub record IsSearcher (t : Translated) (s : Searcher) : Type 0 where
-  pub base : IsBase t.cnf s.base
-  pub over : IsOver t.cnf s.trail
+-- no imported steps, and the empty floor
+pub record IsSearcher (s : Searcher) : Type 0 where
   pub no_pool : s.pool ≡ []
   pub bottom : s.floor ≡ []
 

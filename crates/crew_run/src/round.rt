@@ -8,22 +8,19 @@ use crate::leaning::leaning_of;
 use crate::reading::Reading;
 use refutation_check::{Log, Part};
 use rel_formula::Scenario;
-use sat_core::{SavedPhases, StepCount, Trail};
+use sat_core::StepCount;
 use session_rules::Parts;
 use session_rules::laws::a_refuting_part_makes_a_proof;
-use session_state::search_rounds::{RoundEnd, joined, proof_of, round_at};
+use session_state::search_rounds::{KeptTrails, RoundEnd, joined, proof_of, round_at};
 use std::alloc::{AllocError, Global};
 use translation::Translation;
 
-/// What the searches of a worker need: trails of the translation's formula, one from which they begin and one for descents, no
-/// imported steps, the empty floor, and the values to which they lean.
+/// What the searches of a worker need: what those before left, no imported steps, and the empty floor.
 #[derive(Drop)]
 pub(crate) struct Searcher {
-    base: Trail,
-    trail: Trail,
+    kept: KeptTrails,
     pool: Log,
     floor: Scenario,
-    leaning: SavedPhases,
 }
 
 /// The searcher of the worker of this number, from 0.
@@ -32,17 +29,13 @@ pub(crate) fn searcher_of(
     translation: &Translation,
     worker: u32,
 ) -> Result<Searcher, AllocError>
-    ensures { IfOk result (IsSearcher translation.now) }
+    ensures { IfOk result IsSearcher }
 {
-    let base = Trail::over(alloc, translation.cnf(), translation.vars())?;
-    let trail = base.copy(alloc)?;
     let leaning = leaning_of(alloc, worker, translation.problem().cells())?;
     Ok(Searcher {
-        base,
-        trail,
+        kept: KeptTrails::leaning_to(leaning),
         pool: Log::new(alloc),
         floor: Scenario::new(alloc),
-        leaning,
     })
 }
 
@@ -56,24 +49,22 @@ impl Searcher {
         budget: u64,
         count: &mut StepCount,
     ) -> Result<CrewEvent, AllocError>
-        requires searcher { IsSearcher translation.now self.old }
+        requires searcher { IsSearcher self.old }
         requires read { IsReadable translation.now reading.now }
         requires budget { budget ≤ 100000000 }
-        ensures searcher { OnOk result (IsSearcher translation.now self.new) }
+        ensures searcher { OnOk result (IsSearcher self.new) }
         ensures event { IfOk result (IsEventOf translation.now budget reading.now) }
         ensures spent { count.new ≤ count.old + budget }
     {
         let end = round_at(
             alloc,
             translation,
-            &self.base,
-            &mut self.trail,
             &self.pool,
             &self.floor,
             reading.found.as_slice(),
             reading.told.as_slice(),
             budget,
-            &mut self.leaning,
+            &mut self.kept,
             count,
         )?;
         event_of(alloc, translation, reading, budget, end)

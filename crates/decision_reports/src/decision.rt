@@ -6,7 +6,7 @@ use crate::decision_laws::nothing_due_is_no_instance;
 use refutation_check::Log;
 use rel_formula::Scenario;
 use session_rules::{EndProof, Parts};
-use session_state::search_rounds::{Found, NextAt, SavedPhases, StepCount, next_at};
+use session_state::search_rounds::{Found, KeptTrails, NextAt, StepCount, next_at};
 use std::alloc::{AllocError, Global};
 use translation::Translation;
 
@@ -34,7 +34,7 @@ pub fn decide(alloc: Global, translation: &Translation, budget: u64) -> Result<D
     let _ = translation.problem().relations(); // for the proof
     let pool = Log::new(alloc);
     let floor = Scenario::new(alloc);
-    let mut leaning = SavedPhases::towards(alloc, false);
+    let mut kept = KeptTrails::new(alloc);
     let mut count = StepCount::new();
     let next = next_at(
         alloc,
@@ -44,7 +44,7 @@ pub fn decide(alloc: Global, translation: &Translation, budget: u64) -> Result<D
         &[],
         &[],
         budget,
-        &mut leaning,
+        &mut kept,
         &mut count,
     )?;
     Ok(decision_of(next))

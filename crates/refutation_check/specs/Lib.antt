@@ -5,6 +5,7 @@ pub mod Lift
 pub mod Log
 pub mod Marks
 pub mod Part
+pub mod Shared
 pub mod Pool
 pub mod Numbering
 pub mod Renaming

@@ -18,7 +18,7 @@ pub use crate::laws::{
 pub use crate::lifting::lift;
 pub use crate::log::{Hints, Log, Step};
 pub use crate::marks::{Sight, look};
-pub use crate::part::Part;
+pub use crate::part::{LocalClauses, Part};
 pub use crate::proof_text::{MOST_BYTES, ProofFault, read_proof, write_proof};
 pub use crate::refutation::{Scratch, Verdict, accepted_is_entailed, check};
 pub use crate::sparse::verdict_on;

@@ -7,4 +7,8 @@ pub mod Numbers
 pub mod Searches
 pub mod Numbered
 pub mod Answered
+pub mod Going
+pub mod Blocked
+pub mod Merged
+pub mod Told
 pub mod Limits

@@ -13,13 +13,13 @@ use Rattle.refutation_check.specs.Chain.{Names, IsChain, members_of, IsAccepted,
 use Rattle.refutation_check.specs.SearchLog.{IsSearchLog, IsVarOf, HasNoEmpty, HasVarsOf}
 use Rattle.refutation_check.proofs.Renumbered.{chain_renumbered}
 use Rattle.sat_core.specs.Answers.{HasEmptyOnlyLast, IsModel, NamesUnit, NamesNoUnits}
-use Rattle.sat_core.specs.Assuming.{numbered}
+use Rattle.sat_core.specs.Assuming.{Keeps, numbered}
 use Rattle.sat_core.specs.Lent.{IsLearnt, with_units}
 use Rattle.sat_core.specs.Search.{IsSoFar}
 use Rattle.sat_core.proofs.Descents.{closed_no_chain}
 use Rattle.sat_core.proofs.Numbers.{chain_within}
 use Rattle.sat_core.proofs.Searches.{has_unit, accepted_more, vars_more, novel_all, novel_but_last, ends_empty, front, slice_get_below}
-use Rattle.sat_core.proofs.SearchClauses.{Keeps, keeps_all, keeps_more, given_closed}
+use Rattle.sat_core.proofs.SearchClauses.{keeps_all, keeps_more, given_closed}
 
 clauses_numbered : (number : ℕ → ℕ) (log : List Step) → map (λ (s : Step). s.clause) (map (numbered number) log) ≡ map (λ (s : Step). s.clause) log
 clauses_numbered number [] = refl

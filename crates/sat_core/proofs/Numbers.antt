@@ -17,16 +17,16 @@ use Rattle.sat_trail.proofs.Waiting.{chain_named}
 use Rattle.sat_core.specs.Answers.{NamesUnit}
 use Rattle.sat_core.specs.Assuming.{IsSplit, number_of}
 
-get_after : {X : Type 0} (xs ys : List X) (k : ℕ) → slice_get (xs ++ ys) (length xs + k) ≡ slice_get ys k
+pub get_after : {X : Type 0} (xs ys : List X) (k : ℕ) → slice_get (xs ++ ys) (length xs + k) ≡ slice_get ys k
 get_after [] ys k = rw (zero-add k) refl
 get_after (x ∷ xs) ys k = let e : length (x ∷ xs) + k ≡ suc (length xs + k) = omega arith in rw e (get_after xs ys k)
 
-get_before : {X : Type 0} (xs ys : List X) (k : ℕ) → k < length xs → slice_get (xs ++ ys) k ≡ slice_get xs k
+pub get_before : {X : Type 0} (xs ys : List X) (k : ℕ) → k < length xs → slice_get (xs ++ ys) k ≡ slice_get xs k
 get_before [] ys k h = absurd (omega arith)
 get_before (x ∷ xs) ys zero h = refl
 get_before (x ∷ xs) ys (suc k) h = get_before xs ys k (omega arith)
 
-names_more : (members more : List (List Lit)) (n : ℕ) (c : List Lit) → Names members n c → Names (members ++ more) n c
+pub names_more : (members more : List (List Lit)) (n : ℕ) (c : List Lit) → Names members n c → Names (members ++ more) n c
 names_more members more n c named =
     let low : n ≤ length members = named_in members n c named in
     (named.0, get_before members more (n - 1) (omega (arith, named.0)) ∙ named.1)

@@ -8,15 +8,9 @@ use Rattle.refutation_check.specs.declared.log.Step.{Step}
 use Rattle.refutation_check.specs.Chain.{IsFalsified, IsUnit, members_of, IsNovel, Subsumes}
 use Rattle.sat_trail.specs.Closed.{IsClosed}
 use Rattle.sat_trail.proofs.Learned.{named_contains}
-use Rattle.sat_core.specs.Assuming.{IsSplit, AreTrue, IsClash}
+use Rattle.sat_core.specs.Assuming.{IsSplit, AreTrue, IsClash, Keeps}
 use Rattle.sat_core.specs.Search.{IsVarIn}
 use Rattle.sat_core.proofs.Assumes.{unit_closed}
-
--- of the given clauses those that aren't kept are of one literal, which is assumed
-pub record Keeps (given kept : List (List Lit)) (assumed : List Lit) : Type 0 where
-  pub of_kept : (c : List Lit) → Contains kept c → Contains given c
-  pub of_assumed : (l : Lit) → Contains assumed l → Contains given (l ∷ [])
-  pub each : (c : List Lit) → Contains given c → Contains kept c ⊎ ((l : Lit) × (c ≡ l ∷ []) × Contains assumed l)
 
 pub keeps_more : (given kept more : List (List Lit)) (assumed : List Lit) → Keeps given kept assumed → Keeps (given ++ more) (kept ++ more) assumed
 keeps_more given kept more assumed k =

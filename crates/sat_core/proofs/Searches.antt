@@ -23,11 +23,12 @@ use Rattle.sat_trail.specs.Closed.{IsClosed, IsClosedBelow}
 use Rattle.sat_trail.proofs.Learned.{placed_decided}
 use Rattle.sat_core.specs.Answers.{IsModel}
 use Rattle.sat_core.specs.Assuming.{IsAssumedFirst, IsClash}
-use Rattle.sat_core.specs.Lent.{IsLearnt, Permits, with_units}
+use Rattle.sat_core.specs.Lent.{IsLearnt, IsStanding, Permits, with_units}
 use Rattle.sat_core.specs.Search.{Searching, HasNext, IsFound, IsNext, IsStuck, IsVarIn}
 use Rattle.sat_core.proofs.Descents.{flat_or_above, full_model}
 use Rattle.sat_core.proofs.Assumes.{below_top, consistent, first_cut, front_true}
-use Rattle.sat_core.proofs.SearchClauses.{Keeps, keeps_more, given_closed, given_clauses, given_vars}
+use Rattle.sat_core.specs.Assuming.{Keeps}
+use Rattle.sat_core.proofs.SearchClauses.{keeps_more, given_closed, given_clauses, given_vars}
 
 -- the members with one more step
 pub members_more : (given : List (List Lit)) (log : List Step) (s : Step) → members_of given (log ++ s ∷ []) ≡ members_of given log ++ s.clause ∷ []
@@ -187,18 +188,32 @@ learnt_none clauses assumed =
       direct = inl refl;
     }
 
--- before the first step
-pub searching_start : (assumed : List Lit) (old trail : Trailed) (log : List Step) → log ≡ [] → trail.clauses ≡ old.clauses → trail.vars ≡ old.vars → All (IsVarIn old.vars) assumed → IsTrail old.clauses old.assigned → IsBackTo 0 old.assigned trail.assigned →
-    Searching old.clauses old.vars assumed 0 trail log
-searching_start assumed old trail log none same vars in_range ordered back =
+-- a trail that went back to its first level stands where a search begins
+pub standing_at_start : (assumed : List Lit) (old trail : Trailed) → IsTrail old.clauses old.assigned → trail.clauses ≡ old.clauses → IsBackTo 0 old.assigned trail.assigned → IsStanding assumed 0 trail
+standing_at_start assumed old trail ordered same back =
     let free = none_decided old.clauses old.assigned trail.assigned ordered back in
-    subst (Searching old.clauses old.vars assumed 0 trail) (sym none) (record {
-      clauses_are = same ∙ sym (members_none old.clauses);
-      vars_are = vars;
+    record { closed_below = λ i d h decided. absurd (free i d h decided); assumed_first = λ i d h decided. absurd (free i d h decided) }
+
+-- the assumed literals stay first where a trail goes back
+pub first_behind : (assumed : List Lit) (depth : ℕ) (old new : List Assigned) (level : ℕ) → IsBackTo level old new → IsAssumedFirst assumed depth old → IsAssumedFirst assumed depth new
+first_behind assumed depth old new level back was = subst (IsAssumedFirst assumed depth) (sym back.stays) (first_cut old assumed depth was back.count)
+
+-- so does one on which nothing is true
+pub standing_at_none : (assumed : List Lit) (trail : Trailed) → trail.assigned ≡ [] → IsStanding assumed 0 trail
+standing_at_none assumed trail none =
+    let free : (i : ℕ) → i < length trail.assigned → ⊥ = λ i h. omega (arith, h, ap length none) in
+    record { closed_below = λ i d h decided. absurd (free i h); assumed_first = λ i d h decided. absurd (free i h) }
+
+-- before the first step
+pub searching_from : (assumed : List Lit) (depth : ℕ) (trail : Trailed) (log : List Step) → log ≡ [] → All (IsVarIn trail.vars) assumed → IsStanding assumed depth trail → Searching trail.clauses trail.vars assumed depth trail log
+searching_from assumed depth trail log none in_range stands =
+    subst (Searching trail.clauses trail.vars assumed depth trail) (sym none) (record {
+      clauses_are = sym (members_none trail.clauses);
+      vars_are = refl;
       in_range = in_range;
-      closed_below = λ i d h decided. absurd (free i d h decided);
-      assumed_first = λ i d h decided. absurd (free i d h decided);
-      learnt = learnt_none old.clauses assumed;
+      closed_below = stands.closed_below;
+      assumed_first = stands.assumed_first;
+      learnt = learnt_none trail.clauses assumed;
     })
 
 -- a literal that is assumed has its clause

@@ -18,6 +18,12 @@ pub record IsSplit (local : List (List Lit)) (assumed : List Lit) (others : List
   pub named : (i : ℕ) (d : ℕ) (e : List Lit) → i < length others → Names local (slice_index_or places i d) (slice_index_or others i e)
   pub longer : All (λ c. (l : Lit) → c ≢ l ∷ []) others
 
+-- of the given clauses those that aren't kept are of one literal, which is assumed
+pub record Keeps (given kept : List (List Lit)) (assumed : List Lit) : Type 0 where
+  pub of_kept : (c : List Lit) → Contains kept c → Contains given c
+  pub of_assumed : (l : Lit) → Contains assumed l → Contains given (l ∷ [])
+  pub each : (c : List Lit) → Contains given c → Contains kept c ⊎ ((l : Lit) × (c ≡ l ∷ []) × Contains assumed l)
+
 -- the number in an answer of the member that has this number on the trail: a clause of the formula keeps its number, another
 -- local clause has its place among all of them, and the steps come after these
 abbrev pub number_of : ℕ → ℕ → List ℕ → ℕ → ℕ

@@ -5,9 +5,10 @@ use Rattle.cnf_core.specs.Literal.{negation_of}
 use Rattle.refutation_check.specs.declared.log.Step.{Step}
 use Rattle.refutation_check.specs.Chain.{members_of, IsAccepted}
 use Rattle.refutation_check.specs.SearchLog.{HasVarsOf, HasNoEmpty, IsAllNovel}
-use Rattle.sat_trail.specs.Closed.{IsClosed}
+use Rattle.sat_trail.specs.Trailed.{Trailed}
+use Rattle.sat_trail.specs.Closed.{IsClosed, IsClosedBelow}
 use Rattle.sat_core.specs.Answers.{IsModel}
-use Rattle.sat_core.specs.Assuming.{AreTrue, IsClash}
+use Rattle.sat_core.specs.Assuming.{AreTrue, IsAssumedFirst, IsClash}
 use Rattle.sat_core.specs.declared.lent.Ending.{Ending}
 use Rattle.sat_core.specs.declared.lent.Ending.TheVariants.{Found, Clash, Spent}
 
@@ -45,3 +46,14 @@ abbrev pub IsEnding : ℕ → List (List Lit) → List Lit → ℕ → Ending �
 IsEnding vars clauses assumed budget (Found valuation log) = (length valuation ≡ vars) × IsModel vars (with_units clauses assumed) valuation
 IsEnding vars clauses assumed budget (Clash log) = IsClash (members_of clauses log) assumed
 IsEnding vars clauses assumed budget (Spent log) = (length log ≡ budget) × (step : Step) × IsLearnt clauses assumed (log ++ step ∷ [])
+
+-- the trail was closed before each decision, and has the assumed literals first, up to this level
+pub record IsStanding (assumed : List Lit) (depth : ℕ) (trail : Trailed) : Type 0 where
+  pub closed_below : IsClosedBelow trail.clauses trail.assigned
+  pub assumed_first : IsAssumedFirst assumed depth trail.assigned
+
+-- where a valuation was found, the search can go on from there
+abbrev pub StandsBehind : List Lit → ℕ → Trailed → Ending → Type 0
+StandsBehind assumed depth trail (Found valuation log) = IsStanding assumed depth trail
+StandsBehind assumed depth trail (Clash log) = Unit {0}
+StandsBehind assumed depth trail (Spent log) = Unit {0}

@@ -80,7 +80,7 @@ pub(crate) fn decide_to_end(
     requires in_range { All (IsVarIn trail.old.vars) assumed.now }
     requires closed_below { IsClosedBelow trail.old.clauses trail.old.assigned }
     requires first { IsAssumedFirst assumed.now depth.old trail.old.assigned }
-    ensures end { MatchOption result (IsFull trail.new × AreTrue (falses_of trail.new.assigned) assumed.now) (IsDeadEnd assumed.now trail.new) }
+    ensures end { MatchOption result (IsFull trail.new × IsClosedBelow trail.new.clauses trail.new.assigned × AreTrue (falses_of trail.new.assigned) assumed.now) (IsDeadEnd assumed.now trail.new) }
     ensures first { IsAssumedFirst assumed.now depth.new trail.new.assigned }
     ensures trail { IsTrail trail.new.clauses trail.new.assigned }
     ensures vars { trail.new.vars ≡ trail.old.vars }

@@ -5,7 +5,7 @@ ghost use Rattle.unit_propagation.specs.Assignments.Trail.{falses_of};
 ghost use Rattle.sat_trail.specs.Closed.{IsClosedBelow};
 ghost use Rattle.sat_core.specs.Assuming.{AreTrue};
 ghost use Rattle.sat_core.specs.Count.{raised};
-ghost use Rattle.sat_core.specs.Lent.{steps_of, IsEnding, IsLearnt};
+ghost use Rattle.sat_core.specs.Lent.{steps_of, IsEnding, IsLearnt, IsStanding, StandsBehind};
 ghost use Rattle.sat_core.specs.Search.{IsFound, IsFull, IsNext, HasNext, IsVarIn};
 
 use crate::deciding::{DeadEnd, decide_to_end, values_of};
@@ -51,12 +51,38 @@ pub fn solve_on(
     ensures spent { count.new ≤ count.old + budget }
 {
     let _ = trail.level(); // for the proof
-    let _ = count.steps(); // for the proof
     trail.back_to(0);
     let mut depth = 0;
+    search_on(alloc, trail, assumed, &mut depth, budget, leaning, count)
+}
+
+/// Searches as `solve_on` does, from where the trail stands: its decisions up to the level `depth` are assumed. Behind a valuation the
+/// trail stands where the search can go on from, with clauses more.
+pub fn search_on(
+    alloc: Global,
+    trail: &mut Trail,
+    assumed: &[Lit],
+    depth: &mut u32,
+    budget: u64,
+    leaning: &SavedPhases,
+    count: &mut StepCount,
+) -> Result<Ending, AllocError>
+    requires in_range { All (IsVarIn trail.old.vars) assumed.now }
+    requires stands { IsStanding assumed.now depth.old trail.old }
+    requires few { length trail.old.clauses + budget < 2 ^ 30 }
+    ensures vars { OnOk result (trail.new.vars ≡ trail.old.vars) }
+    ensures clauses { IfOk result (λ e. trail.new.clauses ≡ members_of trail.old.clauses (steps_of e)) }
+    ensures learnt { IfOk result (λ e. IsLearnt trail.old.clauses assumed.now (steps_of e)) }
+    ensures budget { IfOk result (λ e. length (steps_of e) ≤ budget) }
+    ensures end { IfOk result (IsEnding trail.old.vars trail.old.clauses assumed.now budget) }
+    ensures stands { IfOk result (StandsBehind assumed.now depth.new trail.new) }
+    ensures count { IfOk result (λ e. count.new ≡ raised count.old (length (steps_of e))) }
+    ensures spent { count.new ≤ count.old + budget }
+{
+    let _ = count.steps(); // for the proof
     let mut log = Log::new(alloc);
     'learning: loop {
-        let Some(end) = decide_to_end(trail, assumed, &mut depth, leaning) else {
+        let Some(end) = decide_to_end(trail, assumed, depth, leaning) else {
             let valuation = found(alloc, trail, assumed)?;
             return Ok(Ending::Found { valuation, log });
         };

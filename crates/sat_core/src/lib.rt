@@ -3,12 +3,14 @@
 #![tactic(auto)]
 
 mod deciding;
+mod kept;
 mod lent;
 mod locals;
 mod search;
 pub mod search_limits;
 mod step_count;
 
+pub use crate::kept::KeptSearch;
 pub use crate::lent::{Ending, solve_on};
 pub use crate::search::{Answer, solve, solve_from, solve_towards};
 pub use crate::step_count::StepCount;

@@ -1,5 +1,5 @@
 // The local clauses of a search, and how an answer numbers them.
-ghost use Rattle.std.specs.Prelude.{◌≡◌, ◌+◌, ◌≤◌, ◌<◌, ◌^◌, ◌++◌, ◌∷◌, [], List, All, IfOk, OnOk, length, map};
+ghost use Rattle.std.specs.Prelude.{◌≡◌, ◌+◌, ◌≤◌, ◌<◌, ◌^◌, ◌++◌, ◌∷◌, [], List, ℕ, All, IfOk, OnOk, length, map, slice_index_or};
 ghost use Rattle.cnf_core.specs.declared.literal.Lit.{Lit};
 ghost use Rattle.cnf_core.specs.Literal.{IsVariable};
 ghost use Rattle.sat_core.specs.Assuming.{IsSplit, number_of, numbered};
@@ -96,6 +96,21 @@ impl Numbering {
             Some(place) => self.clauses + *place,
             None => hint - self.places.len() as u32 + self.local,
         }
+    }
+
+    /// The numbers in an answer of so many members of a trail, from the first one on.
+    pub(crate) fn first(&self, alloc: Global, count: u32) -> Result<Vec<u32>, AllocError>
+        requires count { count < 2 ^ 30 }
+        requires clauses { self.now.clauses + self.now.local < 2 ^ 30 }
+        requires places { All (λ place. place ≤ self.now.local) self.now.places.items }
+        ensures long { IfOk result (λ numbers. length numbers.items ≡ count) }
+        ensures each { IfOk result (λ numbers. (i : ℕ) → i < count → slice_index_or numbers.items i 0 ≡ number_of self.now.clauses self.now.local self.now.places.items (i + 1)) }
+    {
+        let mut numbers = Vec::with_capacity(alloc, count as usize)?;
+        for place in 0..count {
+            numbers.push(self.number(place + 1))?;
+        }
+        Ok(numbers)
     }
 
     // The step with the numbers of an answer.

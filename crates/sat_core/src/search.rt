@@ -8,6 +8,7 @@ ghost use Rattle.sat_trail.specs.Closed.{IsClosed};
 ghost use Rattle.sat_core.specs.Answers.{learnt_in, log_of, leaned_behind, HasEmptyOnlyLast, HasFewValues, IsRight, IsStopped, NamesNoUnits};
 ghost use Rattle.sat_core.specs.Assuming.{IsSplit};
 ghost use Rattle.sat_core.specs.Count.{raised};
+ghost use Rattle.sat_core.specs.Kept.{IsEnd};
 ghost use Rattle.sat_core.specs.Lent.{steps_of, IsEnding, IsLearnt};
 ghost use Rattle.sat_core.specs.Search.{IsAnswerTo, IsSoFar, IsVarIn};
 ghost use Rattle.cnf_core.specs.declared.literal.Lit.{Lit};
@@ -186,7 +187,7 @@ fn answer_of(
 }
 
 // The refutation that a last step makes of the steps of a log, where the budget allows it.
-fn refuted(
+pub(crate) fn refuted(
     alloc: Global,
     f: &Cnf,
     base: &Trail,
@@ -203,13 +204,39 @@ fn refuted(
     requires clash { (falses : List Lit) → ¬ IsClosed (members_of (members_of (f.now.clauses ++ local.now) pool.now) steps) falses }
     ensures answer { IfOk result (IsAnswerTo f.now local.now pool.now budget) }
     ensures learnt { IfOk result (λ a. learnt_in a ≡ length steps) }
+    ensures end { IfOk result IsEnd }
 {
+    let step = last_step(alloc, f, base, pool, local, &steps)?;
+    refuted_by(f, pool, local, budget, steps, step)
+}
+
+// The refutation that this last step makes of the steps of a log, where the budget allows it.
+pub(crate) fn refuted_by(
+    f: &Cnf,
+    pool: &Log,
+    local: &[Clause],
+    budget: u64,
+    steps: Log,
+    last: Step,
+) -> Result<Answer, AllocError>
+    requires pool { IsAccepted f.now.clauses pool.now }
+    requires few { length f.now.clauses + length local.now + length pool.now + budget < 2 ^ 30 }
+    requires budget { length steps ≤ budget }
+    requires so_far { IsSoFar (members_of (f.now.clauses ++ local.now) pool.now) local.now (length f.now.clauses) steps }
+    requires empty { last.clause ≡ [] }
+    requires chain { IsChain (members_of (members_of (f.now.clauses ++ local.now) pool.now) steps) last.clause last.hints }
+    ensures answer { IfOk result (IsAnswerTo f.now local.now pool.now budget) }
+    ensures learnt { IfOk result (λ a. learnt_in a ≡ length steps) }
+    ensures end { IfOk result IsEnd }
+{
+    let _formula = f; // for the proof
+    let _pool = pool; // for the proof
+    let _local = local; // for the proof
     let mut log = steps;
-    let step = last_step(alloc, f, base, pool, local, &log)?;
     if log.steps().len() as u64 == budget {
         return Ok(Answer::Spent { log });
     }
-    log.push(step)?;
+    log.push(last)?;
     Ok(Answer::Refuted { log })
 }
 
@@ -242,7 +269,7 @@ fn raised(alloc: Global, f: &Cnf, vars: u32) -> Result<Cnf, AllocError>
 }
 
 // The trail over the formula, these local clauses and the pool, with the variables of what is assumed too.
-fn trail_of(
+pub(crate) fn trail_of(
     alloc: Global,
     f: &Cnf,
     base: &Trail,

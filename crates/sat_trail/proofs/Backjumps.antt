@@ -11,9 +11,11 @@ use Rattle.unit_propagation.specs.Assignments.Trail.{IsBackTo, IsTrail, falses_o
 use Rattle.unit_propagation.proofs.Assignments.Trails.{IsTrail-cut, from_front, level_before, level_rises, vars_differ}
 use Rattle.sat_trail.specs.Closed.{IsClosedBelow}
 use Rattle.sat_trail.specs.Learnt.{IsAsserting, IsBackLevel}
-use Rattle.sat_trail.specs.Levels.{IsHighestBelow}
+use Rattle.sat_trail.specs.Levels.{IsBelowTwo, IsFrom, IsHighestBelow}
 use Rattle.sat_trail.specs.Rounds.{IsQuiet}
+use Rattle.sat_trail.specs.Trailed.{Trailed}
 use Rattle.sat_trail.proofs.Learned.{placed_decided}
+use Rattle.sat_trail.proofs.Trails.{with_clauses}
 
 none : Assigned
 none = record { lit = record { var = 0; positive = false }; level = 0; reason = None }
@@ -69,6 +71,23 @@ module _ (clauses : List (List Lit)) (xs : List Assigned) (lits : List Lit) (bou
         reached = second_reached;
       }
 
+-- where a clause says nothing before each decision that stays, what was closed before each decision is so with the clause
+module _ (clauses : List (List Lit)) (xs : List Assigned) (lits : List Lit) (level : ℕ) (trail : IsTrail clauses xs)
+    (quiet : (i : ℕ) (d : Assigned) → i < length xs → (get_or xs i d).reason ≡ None → (get_or xs i d).level ≤ level → IsQuiet (falses_of (take i xs)) lits) where
+  pub closed_where_quiet : IsClosedBelow clauses xs → (ys : List Assigned) → IsBackTo level xs ys → IsClosedBelow (clauses ++ lits ∷ []) ys
+  closed_where_quiet closed ys to =
+      let cut : List Assigned = take to.count xs in
+      let top : level_of cut ≤ level = subst (λ (zs : List Assigned). level_of zs ≤ level) to.stays to.low in
+      subst (λ (zs : List Assigned). IsClosedBelow (clauses ++ lits ∷ []) zs) (sym to.stays) (λ i d h decided.
+      let here : i < to.count = omega (arith, h, length-take to.count xs) in
+      let in' : i < length xs = omega (arith, h, length-take to.count xs) in
+      let at : get_or cut i d ≡ get_or xs i d = get_or-take to.count xs i d here in
+      let before : take i cut ≡ take i xs = take-take i to.count xs (omega (arith, here)) in
+      let up : (get_or cut i d).level ≤ level_of cut = level_top clauses cut (IsTrail-cut clauses xs to.count trail) i d h in
+      let low : (get_or xs i d).level ≤ level = omega (arith, up, top, ap (λ (a : Assigned). a.level) at) in
+      let reason : (get_or xs i d).reason ≡ None = ap (λ (a : Assigned). a.reason) (sym at) ∙ decided in
+      subst (λ (zs : List Assigned). All (IsQuiet (falses_of zs)) (clauses ++ lits ∷ [])) (sym before) (All-push (IsQuiet (falses_of (take i xs))) clauses lits (closed i d in' reason) (quiet i d in' reason low)))
+
 -- the clause says nothing before a decision that stays
 module _ (clauses : List (List Lit)) (xs : List Assigned) (lits : List Lit) (level : ℕ) (trail : IsTrail clauses xs) (back : IsBackLevel xs lits level) where
   module _ (i : ℕ) (d : Assigned) (h : i < length xs) (decided : (get_or xs i d).reason ≡ None) (low : (get_or xs i d).level ≤ level) where
@@ -103,15 +122,38 @@ module _ (clauses : List (List Lit)) (xs : List Assigned) (lits : List Lit) (lev
 
   -- what was closed before each decision is so with the clause, back at that level
   pub closed_back : IsClosedBelow clauses xs → (ys : List Assigned) → IsBackTo level xs ys → IsClosedBelow (clauses ++ lits ∷ []) ys
-  closed_back closed ys to =
-      let cut : List Assigned = take to.count xs in
-      let top : level_of cut ≤ level = subst (λ (zs : List Assigned). level_of zs ≤ level) to.stays to.low in
-      subst (λ (zs : List Assigned). IsClosedBelow (clauses ++ lits ∷ []) zs) (sym to.stays) (λ i d h decided.
-      let here : i < to.count = omega (arith, h, length-take to.count xs) in
-      let in' : i < length xs = omega (arith, h, length-take to.count xs) in
-      let at : get_or cut i d ≡ get_or xs i d = get_or-take to.count xs i d here in
-      let before : take i cut ≡ take i xs = take-take i to.count xs (omega (arith, here)) in
-      let up : (get_or cut i d).level ≤ level_of cut = level_top clauses cut (IsTrail-cut clauses xs to.count trail) i d h in
-      let low : (get_or xs i d).level ≤ level = omega (arith, up, top, ap (λ (a : Assigned). a.level) at) in
-      let reason : (get_or xs i d).reason ≡ None = ap (λ (a : Assigned). a.reason) (sym at) ∙ decided in
-      subst (λ (zs : List Assigned). All (IsQuiet (falses_of zs)) (clauses ++ lits ∷ [])) (sym before) (All-push (IsQuiet (falses_of (take i xs))) clauses lits (closed i d in' reason) (quiet_before i d in' reason low)))
+  closed_back = closed_where_quiet clauses xs lits level trail quiet_before
+
+-- where two literals have no value before the decisions that stay, or none stays, the clause says nothing before them
+module _ (clauses : List (List Lit)) (xs : List Assigned) (lits : List Lit) (level : ℕ) (trail : IsTrail clauses xs) (below : IsBelowTwo xs lits level) where
+  module _ (i : ℕ) (d : Assigned) (h : i < length xs) (decided : (get_or xs i d).reason ≡ None) (low : (get_or xs i d).level ≤ level) where
+    begins : (get_or xs i d).level ≡ level_of (take i xs) + 1
+    begins = placed_decided clauses (take i xs) (get_or xs i d) (trail i d h) decided
+
+    open_yet : (l : Lit) → IsFrom xs (level + 1) l → Contains (falses_of (take i xs)) l → ⊥
+    open_yet l from c =
+        let r = from_front xs i l c in
+        let before : (get_or xs r.0 d).level ≤ level_of (take i xs) = level_before clauses xs trail i r.0 d r.1 (omega (arith, h)) in
+        let up : level + 1 ≤ (get_or xs r.0 d).level = from r.0 d r.2 (ap (λ (x : Lit). x.var) (r.3 d)) in
+        omega (arith, up, before, begins, low)
+
+    quiet_below : IsQuiet (falses_of (take i xs)) lits
+    quiet_below =
+        elim below [
+          | inl none ↦ absurd (omega (arith, none, begins, low))
+          | inr two ↦ (
+            λ all. open_yet two.one two.one_from (All-contains (Contains (falses_of (take i xs))) lits two.one all two.has_one),
+            λ l unit. open_yet two.one two.one_from (unit.others two.one two.has_one (λ e. open_yet two.other two.other_from (unit.others two.other two.has_other (λ f. two.apart (ap (λ (x : Lit). x.var) (e ∙ sym f)))))),
+          )
+        ]
+
+  pub closed_below_two : IsClosedBelow clauses xs → (ys : List Assigned) → IsBackTo level xs ys → IsClosedBelow (clauses ++ lits ∷ []) ys
+  closed_below_two = closed_where_quiet clauses xs lits level trail quiet_below
+
+-- so where the clause is put in there
+pub closed_put : (old back new : Trailed) (lits : List Lit) (level : ℕ) → IsTrail old.clauses old.assigned → IsBelowTwo old.assigned lits level → IsBackTo level old.assigned back.assigned → back.clauses ≡ old.clauses
+    → new ≡ with_clauses back (back.clauses ++ lits ∷ []) → IsClosedBelow old.clauses old.assigned → IsClosedBelow new.clauses new.assigned
+closed_put old back new lits level trail below to same put closed =
+    let there : IsClosedBelow (old.clauses ++ lits ∷ []) back.assigned = closed_below_two old.clauses old.assigned lits level trail below closed back.assigned to in
+    let here : IsClosedBelow (back.clauses ++ lits ∷ []) back.assigned = subst (λ (cs : List (List Lit)). IsClosedBelow (cs ++ lits ∷ []) back.assigned) (sym same) there in
+    subst (λ (t : Trailed). IsClosedBelow t.clauses t.assigned) (sym put) here

@@ -1,5 +1,5 @@
 // The trail over clauses.
-ghost use Rattle.std.specs.Prelude.{◌≡◌, ◌+◌, ◌*◌, ◌<◌, ◌≤◌, ◌^◌, ◌++◌, ◌∷◌, [], List, All, IfOk, OnOk, OnErr, MatchOption, IfSome, None, false, length, map, max};
+ghost use Rattle.std.specs.Prelude.{◌≡◌, ◌+◌, ◌*◌, ◌<◌, ◌≤◌, ◌^◌, ◌++◌, ◌∷◌, [], ℕ, List, All, IfOk, OnOk, OnErr, MatchOption, IfSome, None, false, length, map, max};
 ghost use Rattle.cnf_core.specs.Literal.{HasVarsUpTo, IsClause};
 ghost use Rattle.unit_propagation.specs.Clauses.Codes.{literals_of};
 ghost use Rattle.refutation_check.specs.Chain.{Names, IsChain, members_of};
@@ -15,7 +15,7 @@ ghost use Rattle.sat_trail.specs.Learnt.{IsAsserting, IsBackLevel};
 use crate::deciding::{lowest_open, put_back_above, raise_met, take_open};
 use crate::filling::append;
 use crate::highest::{highest_in_steps, highest_of};
-use crate::levels::highest_below;
+use crate::levels::{highest_below, level_below_two};
 use crate::phases::SavedPhases;
 use crate::rounds::propagate_all;
 use cnf_core::{Clause, Cnf, Lit};
@@ -350,16 +350,19 @@ impl Trail {
         Ok(self.store.len())
     }
 
-    /// Adds a clause that needn't follow from the others, where all decisions are undone. After an error the clauses are as before.
+    /// Adds a clause that needn't follow from the others. The trail goes back to where two of its literals are open, or to where nothing is
+    /// decided: so what was closed before each decision is so with the clause too. After an error the clauses are as before.
     pub fn add_given(&mut self, clause: &Clause) -> Result<(), AllocError>
         requires vars { HasVarsUpTo self.old.vars clause.now }
         requires room { length self.old.clauses + 1 < 2 ^ 30 }
         ensures ok { OnOk result (self.new.clauses ≡ self.old.clauses ++ clause.now ∷ []) }
         ensures err { OnErr result (self.new.clauses ≡ self.old.clauses) }
         ensures vars { self.new.vars ≡ self.old.vars }
-        ensures assigned { IsBackTo 0 self.old.assigned self.new.assigned }
+        ensures assigned { (level : ℕ) × IsBackTo level self.old.assigned self.new.assigned }
+        ensures closed { IsClosedBelow self.old.clauses self.old.assigned → OnOk result (IsClosedBelow self.new.clauses self.new.assigned) }
     {
-        self.back_to(0);
+        let level = level_below_two(&self.assignment, clause.lits());
+        self.back_to(level);
         self.put(clause, true)?;
         Ok(())
     }

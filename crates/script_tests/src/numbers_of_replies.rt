@@ -47,8 +47,8 @@ fn push_proof(out: &mut Vec<u32>, proof: &EndProof) -> Result<(), AllocError> {
 }
 
 fn push_part(out: &mut Vec<u32>, part: &Part) -> Result<(), AllocError> {
-    for clause in part.local() {
-        push_clause(out, clause)?;
+    for place in 0..part.local_len() {
+        push_clause(out, part.local(place))?;
     }
     push_log(out, part.log())
 }

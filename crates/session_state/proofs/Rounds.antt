@@ -4,4 +4,7 @@ pub mod NovelSteps
 pub mod Swaps
 pub mod SolverAnswers
 pub mod SearchedRounds
+pub mod GoingOn
+pub mod SameLists
+pub mod RestingTrails
 pub mod RoundStates

@@ -1,3 +1,5 @@
 pub mod Rounds
+pub mod Going
+pub mod Resting
 pub mod Descended
 pub mod Next

@@ -9,7 +9,7 @@ use rel_formula::Scenario;
 use script_text::proof_lines::laws::covered_scenarios_are_cells;
 use script_text::proof_lines::text_of_proof;
 use session_rules::{EndProof, ProofKind};
-use session_state::search_rounds::{Found, NextAt, SavedPhases, StepCount, next_at};
+use session_state::search_rounds::{Found, KeptTrails, NextAt, StepCount, next_at};
 use std::alloc::Global;
 use std::test::Fail;
 use translation::Translation;
@@ -22,7 +22,7 @@ fn ended(alloc: Global, made: &Translation) -> Result<EndProof, Fail>
     covered_scenarios_are_cells();
     let pool = Log::new(alloc);
     let floor = Scenario::new(alloc);
-    let mut leaning = SavedPhases::towards(alloc, false);
+    let mut kept = KeptTrails::new(alloc);
     let mut count = StepCount::new();
     let next = next_at(
         alloc,
@@ -32,7 +32,7 @@ fn ended(alloc: Global, made: &Translation) -> Result<EndProof, Fail>
         &[],
         &[],
         1000,
-        &mut leaning,
+        &mut kept,
         &mut count,
     )?;
     let NextAt {

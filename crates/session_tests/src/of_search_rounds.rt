@@ -14,7 +14,7 @@ use sample_problems::{bits_of, scenario_of, two_sets_of};
 use samples::exhaustive_search::all_due;
 use samples::sample_translations::translated_sets;
 use session_rules::EndProof;
-use session_state::search_rounds::{Found, NextAt, SavedPhases, StepCount, locals_of, next_at};
+use session_state::search_rounds::{Found, KeptTrails, NextAt, StepCount, locals_of, next_at};
 use std::alloc::{AllocError, Global};
 use std::test::Fail;
 use translation::Translation;
@@ -47,18 +47,10 @@ fn searched(
     ensures ended { IfOk result (λ next. (proof : ProofOfEnd) → next.found ≡ Ended proof → All (AreCells made.now.problem) proof.blocked) }
 {
     let pool = Log::new(alloc);
-    let mut leaning = SavedPhases::towards(alloc, false);
+    let mut kept = KeptTrails::new(alloc);
     let mut count = StepCount::new();
     let next = next_at(
-        alloc,
-        made,
-        &pool,
-        floor,
-        shown,
-        copies,
-        budget,
-        &mut leaning,
-        &mut count,
+        alloc, made, &pool, floor, shown, copies, budget, &mut kept, &mut count,
     )?;
     Ok(next)
 }
@@ -142,16 +134,16 @@ fn novel_steps(made: &Translation, parts: &[Part]) -> u64 {
     let mut count = 0_u64;
     for part in parts {
         let steps = part.log().steps();
-        count = count.saturating_add(novel_steps_of(made.cnf(), part.local(), steps));
+        count = count.saturating_add(novel_steps_of(made.cnf(), part, steps));
     }
     count
 }
 
 // How many of these steps over these clauses do.
-fn novel_steps_of(cnf: &Cnf, local: &[Clause], steps: &[Step]) -> u64 {
+fn novel_steps_of(cnf: &Cnf, part: &Part, steps: &[Step]) -> u64 {
     let mut count = 0_u64;
     for (place, step) in steps.iter().enumerate() {
-        if !is_known(cnf, local, &steps[..place], &step.clause) {
+        if !is_known(cnf, part, &steps[..place], &step.clause) {
             count = count.saturating_add(1);
         }
     }
@@ -159,10 +151,20 @@ fn novel_steps_of(cnf: &Cnf, local: &[Clause], steps: &[Step]) -> u64 {
 }
 
 // Whether some clause, local one or earlier step is a part of this clause.
-fn is_known(cnf: &Cnf, local: &[Clause], earlier: &[Step], clause: &Clause) -> bool {
+fn is_known(cnf: &Cnf, part: &Part, earlier: &[Step], clause: &Clause) -> bool {
     has_part_of(cnf, clause)
-        || local.iter().any(|other| is_part(other, clause))
+        || has_local_part_of(part, clause)
         || earlier.iter().any(|step| is_part(&step.clause, clause))
+}
+
+// Whether some local clause is a part of this one.
+fn has_local_part_of(part: &Part, clause: &Clause) -> bool {
+    for place in 0..part.local_len() {
+        if is_part(part.local(place), clause) {
+            return true;
+        }
+    }
+    false
 }
 
 // Whether some clause of the translation is a part of this one.

@@ -23,7 +23,8 @@ use translation::Translation;
 /// Serves a session that was just opened to the last of its commands, in turns of its pass: one reply for each, and the top floor
 /// before it. The gate is passed before each command, with the session's place and the command's.
 ///
-/// The session keeps what it imported, so that each later import brings only what came since.
+/// The session keeps what it imported, so that each later import brings only what came since. At the end it lets go of what its searches
+/// left for those to come, as it is asked nothing more.
 ///
 /// Whatever comes of them, the searches for all commands together raise the count by no more than these may cost.
 ///
@@ -70,6 +71,7 @@ pub fn serve_session<R: Wait, G: Gate>(
             count,
         ));
     }
+    session.let_go();
     Ok(Transcript {
         replies: Replies::of(replies),
         floors: Scenarios::of(floors),

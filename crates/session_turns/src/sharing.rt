@@ -88,7 +88,7 @@ fn free_steps_of(
 {
     accepted_hints_name_members();
     let clauses = translation.cnf().len();
-    let local = part.local().len() as u32;
+    let local = part.local_len() as u32;
     let at = pool.steps().len() as u32;
     free_of(alloc, part.log(), clauses, local, at)
 }

@@ -16,6 +16,8 @@ mod of_clause_store;
 #[cfg(test)]
 mod of_cnf_core;
 #[cfg(test)]
+mod of_kept_search;
+#[cfg(test)]
 mod of_local_clauses;
 #[cfg(test)]
 mod of_minimiser;

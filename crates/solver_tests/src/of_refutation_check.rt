@@ -1,10 +1,10 @@
 // The check of logs over two variables.
-ghost use Rattle.std.specs.Prelude.{◌≡◌, ◌<◌, All, IfOk, length};
+ghost use Rattle.std.specs.Prelude.{◌≡◌, ◌<◌, ◌≤◌, All, IfOk, length};
 ghost use Rattle.cnf_core.specs.Literal.{HasVarsUpTo};
 
 use crate::clauses::clause;
 use cnf_core::{Cnf, Lit};
-use refutation_check::{Hints, Log, Part, Scratch, Step, Verdict, check, lift};
+use refutation_check::{Hints, LocalClauses, Log, Part, Scratch, Step, Verdict, check, lift};
 use std::alloc::Global;
 use std::fmt::Write;
 use std::process::Abort;
@@ -165,21 +165,66 @@ fn part(alloc: Global) -> Result<Part, Fail> {
 // The word "and" before each of the local clauses.
 fn told_local(alloc: Global, part: &Part) -> Result<String, Fail> {
     let mut out = String::new(alloc);
-    for clause in part.local() {
+    for place in 0..part.local_len() {
         out.push_str("and ")?;
-        push_literals(&mut out, clause.lits())?;
+        push_literals(&mut out, part.local(place).lits())?;
     }
     Ok(out)
 }
 
 // The hints of the first step, by way of copies of the log, of the step and of the hints.
-fn copied_hints(alloc: Global, part: Part) -> Result<Vec<u32>, Fail> {
-    let (_, log) = part.into_parts();
-    let copy = log.copy(alloc)?;
+fn copied_hints(alloc: Global, part: &Part) -> Result<Vec<u32>, Fail> {
+    let copy = part.log().copy(alloc)?;
     match copy.steps().first() {
         Some(step) => Ok(step.copy(alloc)?.hints.copy(alloc)?.into_numbers()),
         None => Err("no step")?,
     }
+}
+
+// So many local clauses, of two literals each.
+fn clauses_of(alloc: Global, count: i8) -> Result<LocalClauses, Fail> {
+    let mut clauses = LocalClauses::of(alloc, Vec::new(alloc))?;
+    for number in 0..count {
+        clauses.push(clause(alloc, 127, &[-1 - number, 127])?)?;
+    }
+    Ok(clauses)
+}
+
+// The part of these clauses, which are at most 100, with no step.
+fn part_of(alloc: Global, clauses: &mut LocalClauses) -> Result<Part, Fail>
+    ensures { IfOk result (λ p. length p.local ≤ 100) }
+{
+    if clauses.as_slice().len() > 100 {
+        Err("too many clauses")?
+    }
+    Ok(clauses.part(alloc, Log::new(alloc))?)
+}
+
+// The part of these clauses, and a copy of the part of them and of one more.
+fn grown_parts(alloc: Global, clauses: &mut LocalClauses) -> Result<(Part, Part), Fail> {
+    let before = part_of(alloc, clauses)?;
+    clauses.push(clause(alloc, 127, &[-71, 127])?)?;
+    let after = part_of(alloc, clauses)?.copy(alloc)?;
+    Ok((before, after))
+}
+
+#[test]
+fn parts_of_growing_clauses_keep_theirs(rt: HostRuntime) -> Result<(), Fail> {
+    let mut clauses = clauses_of(rt.alloc(), 70)?;
+    let (before, after) = grown_parts(rt.alloc(), &mut clauses)?;
+    assert_eq!(rt; (before.local_len(), after.local_len()), (70, 71));
+    assert_eq!(rt; clauses.into_clauses().len(), 71);
+    Ok(())
+}
+
+#[test]
+fn a_part_with_another_log_has_its_clauses(rt: HostRuntime) -> Result<(), Fail> {
+    let mut clauses = clauses_of(rt.alloc(), 1)?;
+    let bare = part_of(rt.alloc(), &mut clauses)?;
+    let part = bare.with_log(log(rt.alloc(), &[(&[1], &[1, 2])])?);
+    assert_eq!(rt; told_local(rt.alloc(), &part)?.as_str(), "and -1 127 ");
+    assert_eq!(rt; told(rt.alloc(), part.log().steps())?.as_str(), "1 by 1 2 ");
+    Ok(())
 }
 
 #[test]
@@ -187,7 +232,7 @@ fn copies_are_equal(rt: HostRuntime) -> Result<(), Fail> {
     let copy = part(rt.alloc())?.copy(rt.alloc())?;
     assert_eq!(rt; told_local(rt.alloc(), &copy)?.as_str(), "and 1 -2 ");
     assert_eq!(rt; told(rt.alloc(), copy.log().steps())?.as_str(), "1 by 1 2 ");
-    let hints = copied_hints(rt.alloc(), copy)?;
+    let hints = copied_hints(rt.alloc(), &copy)?;
     assert_eq!(rt; hints.as_slice(), [1, 2].as_slice());
     Ok(())
 }

@@ -56,7 +56,7 @@ fn is_satisfied(f: &Cnf, valuation: &Valuation) -> bool
     true
 }
 
-fn is_refuted(alloc: Global, f: &Cnf, log: &Log) -> Result<bool, Fail>
+pub(crate) fn is_refuted(alloc: Global, f: &Cnf, log: &Log) -> Result<bool, Fail>
     requires { All (λ s. HasVarsUpTo f.now.vars s.clause) log.now }
 {
     let mut scratch = Scratch::for_vars(alloc, f.vars())?;

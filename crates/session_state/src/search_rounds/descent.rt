@@ -71,7 +71,11 @@ pub(crate) fn descended(
 }
 
 // The part before these parts.
-fn led_by(alloc: Global, part: Part, mut others: Vec<Part>) -> Result<Vec<Part>, AllocError>
+pub(crate) fn led_by(
+    alloc: Global,
+    part: Part,
+    mut others: Vec<Part>,
+) -> Result<Vec<Part>, AllocError>
     ensures { IfOk result (λ parts. parts.items ≡ part ∷ others.items) }
 {
     let mut parts = vec![in alloc; part]?;

@@ -7,7 +7,6 @@ ghost use Rattle.refutation_check.specs.SearchLog.{HasNoEmpty, IsNovelButLast, n
 ghost use Rattle.translation_rules.specs.Translation.{Translated};
 ghost use Rattle.translation_rules.specs.Parts.{AreSearched, novel_in};
 
-use cnf_core::Clause;
 use refutation_check::{Part, Step};
 
 /// What is left of a budget after the novel steps of these parts of a search, which are no more than the budget. No clause of
@@ -32,7 +31,7 @@ fn novel_steps_of(part: &Part) -> u64
     match steps.split_last() {
         None => 0,
         Some((last, before)) => {
-            if is_known(part.local(), before, last) {
+            if is_known(part, before, last) {
                 before.len() as u64
             } else {
                 steps.len() as u64
@@ -41,19 +40,19 @@ fn novel_steps_of(part: &Part) -> u64
     }
 }
 
-// Whether a step is empty, and so is one of these clauses or of the steps before.
-fn is_known(local: &[Clause], before: &[Step], step: &Step) -> bool
-    ensures { IsTrue result ↔ ((step.now.clause ≡ []) × Contains (members_of local.now before.now) []) }
+// Whether a step is empty, and so is one of the local clauses of its part or of the steps before.
+fn is_known(part: &Part, before: &[Step], step: &Step) -> bool
+    ensures { IsTrue result ↔ ((step.now.clause ≡ []) × Contains (members_of part.now.local before.now) []) }
 {
-    step.clause.lits().is_empty() && has_empty(local, before)
+    step.clause.lits().is_empty() && has_empty(part, before)
 }
 
-// Whether one of these clauses, or of these steps, is empty.
-fn has_empty(clauses: &[Clause], steps: &[Step]) -> bool
-    ensures { IsTrue result ↔ Contains (members_of clauses.now steps.now) [] }
+// Whether one of the local clauses of a part, or of these steps, is empty.
+fn has_empty(part: &Part, steps: &[Step]) -> bool
+    ensures { IsTrue result ↔ Contains (members_of part.now.local steps.now) [] }
 {
-    for clause in clauses {
-        if clause.lits().is_empty() {
+    for place in 0..part.local_len() {
+        if part.local(place).lits().is_empty() {
             return true;
         }
     }

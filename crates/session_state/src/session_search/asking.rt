@@ -13,7 +13,7 @@ ghost use Rattle.session_state.specs.Sessions.Proposed.{IsProposal};
 ghost use Rattle.session_state.specs.Store.Stored.{copies_at};
 ghost use Rattle.session_state.specs.Sessions.Replied.{reply_to};
 
-use crate::search_rounds::{Found, NextAt, SavedPhases, StepCount, next_at};
+use crate::search_rounds::{Found, KeptTrails, NextAt, StepCount, next_at};
 use crate::session_search::answer::{Proposal, at_once, spent, with_copies};
 use crate::session_store::SessionStore;
 use refutation_check::Log;
@@ -29,7 +29,7 @@ pub(crate) fn next(
     store: &SessionStore,
     translation: &Translation,
     pool: &Log,
-    leaning: &mut SavedPhases,
+    trails: &mut KeptTrails,
     count: &mut StepCount,
 ) -> Result<Proposal, AllocError>
     requires fits { FitsProblem translation.now.problem store.now }
@@ -54,7 +54,7 @@ pub(crate) fn next(
                 shown.as_slice(),
                 copies.as_slice(),
                 store.budget(),
-                leaning,
+                trails,
                 count,
             )
         }
@@ -82,7 +82,7 @@ fn look_for(
     shown: &[Scenario],
     copies: &[Scenario],
     budget: u32,
-    leaning: &mut SavedPhases,
+    trails: &mut KeptTrails,
     count: &mut StepCount,
 ) -> Result<Proposal, AllocError>
     requires import { IsImport translation.now pool.now }
@@ -103,7 +103,7 @@ fn look_for(
         shown,
         copies,
         budget as u64,
-        leaning,
+        trails,
         count,
     )?;
     proposal_of(alloc, shown.len() as u32, budget, next)

@@ -11,7 +11,7 @@ ghost use Rattle.session_state.specs.Store.Stored.{copies_after, copies_at};
 ghost use Rattle.session_state.specs.Sessions.Fits.{FitsProblem};
 ghost use Rattle.session_state.specs.Sessions.Proposed.{IsProposal, NeedsTranslation, IsPlain, IsPlainProposal};
 
-use crate::search_rounds::{SavedPhases, StepCount};
+use crate::search_rounds::{KeptTrails, StepCount};
 use crate::session_search::answer::Proposal;
 use crate::session_search::asking::next;
 use crate::session_search::augmenting::augment;
@@ -34,7 +34,7 @@ pub struct Session {
     owner: u32,
     key: u32,
     kept: SessionStore,
-    leaning: SavedPhases,
+    trails: KeptTrails,
 }
 
 impl Model for Session {
@@ -56,12 +56,12 @@ impl Session {
         ensures fits { IfOk result (λ s. (p : Bounded) → FitsProblem p s.kept) }
     {
         let kept = SessionStore::new(alloc, budget)?;
-        let leaning = SavedPhases::towards(alloc, false);
+        let trails = KeptTrails::new(alloc);
         Ok(Session {
             owner,
             key,
             kept,
-            leaning,
+            trails,
         })
     }
 
@@ -127,7 +127,7 @@ impl Session {
                 &self.kept,
                 translation,
                 pool,
-                &mut self.leaning,
+                &mut self.trails,
                 count,
             ),
             Step::Offers => offer(alloc, &self.kept, translation, pool, count),
@@ -138,6 +138,13 @@ impl Session {
             Step::Budget(budget) => Ok(set(alloc, *budget)),
             Step::Proof => prove(alloc, &self.kept),
         }
+    }
+
+    /// Lets go of what its searches left for those to come: the next one begins anew. The session stays as it is.
+    pub fn let_go(&mut self)
+        ensures { self.new ≡ self.old }
+    {
+        self.trails.let_go();
     }
 
     /// Makes room for what was proposed. But for this room the session stays as it is. The error comes only for want of memory, and

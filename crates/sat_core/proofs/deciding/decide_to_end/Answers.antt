@@ -21,7 +21,7 @@ deciding-init c =
 pub returns-clause-end : goal.returns-clause-end
 returns-clause-end c =
     let was = c.deciding.invariant in
-    rw c.in_default-decide_next.ensures.decided (record { closed = was.so_far.closed; valued = c.in_default-decide_next.ensures.next }, assumed_all c.deciding.trail c.args.assumed.now (length c.args.assumed.now) _ was.so_far (omega arith))
+    rw c.in_default-decide_next.ensures.decided (record { closed = was.so_far.closed; valued = c.in_default-decide_next.ensures.next }, was.so_far.closed_below, assumed_all c.deciding.trail c.args.assumed.now (length c.args.assumed.now) _ was.so_far (omega arith))
 
 pub returns-in-Conflict-clause-end : goal.returns-in-Conflict-clause-end
 returns-in-Conflict-clause-end c =

@@ -1,7 +1,5 @@
-use Rattle.std.proofs.Common.{◌≡◌, ◌≢◌, ◌++◌, ◌∷◌, [], true, false, List, length, Contains, refl, sym, ◌∙◌, ap, subst}
-use Rattle.cnf_core.specs.declared.literal.Lit.{Lit}
+use Rattle.std.proofs.Common.{◌≡◌, ◌++◌, ◌∷◌, [], List, length, sym, ◌∙◌, ap}
 use Rattle.refutation_check.specs.declared.log.Step.{Step}
-use Rattle.refutation_check.specs.Chain.{members_of}
 use Rattle.session_state.proofs.Rounds.NovelSteps.{counted_known, counted_new}
 use Rattle.session_state.proofs.search_rounds.novel.novel_steps_of.Goals as goal
 
@@ -12,7 +10,7 @@ returns-then-is_known c = λ clauses pool all no_empty novel.
     let last : Step = c.in-Some.last.now in
     let cut : part.log ≡ before ++ last ∷ [] = sym (c.steps-steps.ensures.steps ∙ c.log.ensures.log) ∙ c.in-Some.ensures.cases.0 in
     let known = c.is_known.ensures.0 c.if-is_known.true in
-    counted_known clauses part.local pool part.log before last cut novel known.0 (subst (λ (ls : List (List Lit)). Contains (members_of ls before) []) c.local.ensures.local known.1)
+    counted_known clauses part.local pool part.log before last cut novel known.0 known.1
 
 pub returns-else-is_known : goal.returns-else-is_known
 returns-else-is_known c = λ clauses pool all no_empty novel.
@@ -21,5 +19,4 @@ returns-else-is_known c = λ clauses pool all no_empty novel.
     let last : Step = c.in-Some.last.now in
     let cut : part.log ≡ before ++ last ∷ [] = sym (c.steps-steps.ensures.steps ∙ c.log.ensures.log) ∙ c.in-Some.ensures.cases.0 in
     let long : length c.steps-steps.result.now ≡ length part.log = ap length (c.steps-steps.ensures.steps ∙ c.log.ensures.log) in
-    long ∙ counted_new clauses part.local pool part.log before last cut novel all no_empty (λ empty there.
-    absurd (let t = c.is_known.ensures.1 (empty, subst (λ (ls : List (List Lit)). Contains (members_of ls before) []) (sym c.local.ensures.local) there) in let f = c.if-is_known.false in cc))
+    long ∙ counted_new clauses part.local pool part.log before last cut novel all no_empty (λ empty there. absurd (let t = c.is_known.ensures.1 (empty, there) in let f = c.if-is_known.false in cc))

@@ -1,7 +1,7 @@
 use Rattle.std.proofs.Common.{◌≡◌, ◌≤◌, ◌-◌, length}
 use Rattle.sat_core.specs.Count.{raised}
 use Rattle.sat_core.specs.Search.{Searching}
-use Rattle.sat_core.proofs.lent.solve_on.Given as goal
+use Rattle.sat_core.proofs.lent.search_on.Given as goal
 
 abbrev pub invariant-learning : goal.invariant-learning
 invariant-learning l = record {
