@@ -1,5 +1,8 @@
 // One round of a worker.
-ghost use Rattle.std.specs.Prelude.{◌≡◌, ◌≤◌, ◌+◌, [], length, IfOk, OnOk};
+ghost use Rattle.std.specs.Prelude.{◌≡◌, ◌≤◌, ◌+◌, [], take, length, All, IfOk, OnOk};
+ghost use Rattle.rel_formula.specs.Instance.{AreCells};
+ghost use Rattle.translation_rules.specs.Imports.{IsImport};
+ghost use Rattle.session_state.specs.Rounds.Held.{IsHeldAt};
 ghost use Rattle.session_state.specs.Rounds.Rounds.{parts_in, IsRoundAt, IsRightRound, IsStoppedRound};
 ghost use Rattle.crew_run.specs.Searching.{IsSearcher, IsReadable, IsEventOf};
 
@@ -11,35 +14,64 @@ use rel_formula::Scenario;
 use sat_core::StepCount;
 use session_rules::Parts;
 use session_rules::laws::a_refuting_part_makes_a_proof;
-use session_state::search_rounds::{KeptTrails, RoundEnd, joined, proof_of, round_at};
+use session_state::search_rounds::{HeldSearch, RoundEnd, joined, proof_of};
 use std::alloc::{AllocError, Global};
 use translation::Translation;
 
-/// What the searches of a worker need: what those before left, no imported steps, and the empty floor.
+/// What a worker searches with: the search that it holds, no imported steps, and the empty floor.
 #[derive(Drop)]
 pub(crate) struct Searcher {
-    kept: KeptTrails,
+    search: HeldSearch,
     pool: Log,
     floor: Scenario,
 }
 
-/// The searcher of the worker of this number, from 0.
+/// The searcher of the worker of this number, from 0, with nothing blocked.
 pub(crate) fn searcher_of(
     alloc: Global,
     translation: &Translation,
     worker: u32,
 ) -> Result<Searcher, AllocError>
-    ensures { IfOk result IsSearcher }
+    ensures { IfOk result (IsSearcher translation.now []) }
 {
     let leaning = leaning_of(alloc, worker, translation.problem().cells())?;
+    let pool = Log::new(alloc);
+    let floor = Scenario::new(alloc);
+    let search = HeldSearch::at(alloc, translation, &pool, &floor, &[], leaning)?;
     Ok(Searcher {
-        kept: KeptTrails::leaning_to(leaning),
-        pool: Log::new(alloc),
-        floor: Scenario::new(alloc),
+        search,
+        pool,
+        floor,
     })
 }
 
 impl Searcher {
+    // Blocks what is told behind the first so many scenarios, which are blocked.
+    pub(crate) fn block_all(
+        &mut self,
+        alloc: Global,
+        translation: &Translation,
+        told: &[Scenario],
+        known: usize,
+    ) -> Result<(), AllocError>
+        requires searcher { IsSearcher translation.now (take known told.now) self.old }
+        requires known { known ≤ length told.now }
+        requires cells { All (AreCells translation.now.problem) told.now }
+        requires few { length told.now ≤ 1000000 }
+        ensures { OnOk result (IsSearcher translation.now told.now self.new) }
+    {
+        block_behind(
+            alloc,
+            translation,
+            &mut self.search,
+            &self.pool,
+            &self.floor,
+            told,
+            known,
+        )?;
+        Ok(())
+    }
+
     // What one round comes to, with all that was read of the journal blocked. Its searches raise the count by no more than the budget.
     pub(crate) fn event(
         &mut self,
@@ -49,14 +81,14 @@ impl Searcher {
         budget: u64,
         count: &mut StepCount,
     ) -> Result<CrewEvent, AllocError>
-        requires searcher { IsSearcher self.old }
+        requires searcher { IsSearcher translation.now reading.now.told.items self.old }
         requires read { IsReadable translation.now reading.now }
         requires budget { budget ≤ 100000000 }
-        ensures searcher { OnOk result (IsSearcher self.new) }
+        ensures searcher { OnOk result (IsSearcher translation.now reading.now.told.items self.new) }
         ensures event { IfOk result (IsEventOf translation.now budget reading.now) }
         ensures spent { count.new ≤ count.old + budget }
     {
-        let end = round_at(
+        let end = self.search.round(
             alloc,
             translation,
             &self.pool,
@@ -64,11 +96,35 @@ impl Searcher {
             reading.found.as_slice(),
             reading.told.as_slice(),
             budget,
-            &mut self.kept,
             count,
         )?;
-        event_of(alloc, translation, reading, budget, end)
+        let event = event_of(alloc, translation, reading, budget, end)?;
+        Ok(event)
     }
+}
+
+// Blocks in a search what is told behind the first so many scenarios, one behind the other.
+fn block_behind(
+    alloc: Global,
+    translation: &Translation,
+    search: &mut HeldSearch,
+    pool: &Log,
+    floor: &Scenario,
+    told: &[Scenario],
+    known: usize,
+) -> Result<(), AllocError>
+    requires held { IsHeldAt translation.now pool.now floor.now (take known told.now) search.old }
+    requires import { IsImport translation.now pool.now }
+    requires floor { AreCells translation.now.problem floor.now }
+    requires known { known ≤ length told.now }
+    requires cells { All (AreCells translation.now.problem) told.now }
+    requires few { length told.now ≤ 1000000 }
+    ensures { OnOk result (IsHeldAt translation.now pool.now floor.now told.now search.new) }
+{
+    for at in known..told.len() {
+        search.block(alloc, translation, pool, floor, &told[..at], &told[at])?;
+    }
+    Ok(())
 }
 
 // The event of a round that came to this end.

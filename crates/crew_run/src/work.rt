@@ -1,5 +1,5 @@
 // The work of one worker.
-ghost use Rattle.std.specs.Prelude.{◌≤◌, Some};
+ghost use Rattle.std.specs.Prelude.{◌≤◌, Some, []};
 ghost use Rattle.crew_run.specs.Passing.{IsReady};
 ghost use Rattle.crew_run.specs.Searching.{IsSearcher};
 
@@ -65,7 +65,7 @@ fn rounds<R: Wait, G: Gate>(
     gate: &G,
 ) -> Result<(), AllocError>
     requires ready { IsReady lock.now (Some (record { translation = translation.now; budget = budget; most = most })) pass.old }
-    requires searcher { IsSearcher searcher.old }
+    requires searcher { IsSearcher translation.now [] searcher.old }
     requires budget { budget ≤ 100000000 }
     requires most { most ≤ 1000000 }
     ensures { IsReady lock.now (Some (record { translation = translation.now; budget = budget; most = most })) pass.new }
@@ -74,9 +74,11 @@ fn rounds<R: Wait, G: Gate>(
     let mut reading = Reading::new(alloc);
     for round in 0..most + 2 {
         gate.pass(place, round);
+        let known = reading.told.len();
         if !read_on(rt, alloc, lock, pass, &mut reading)? {
             return Ok(());
         }
+        searcher.block_all(alloc, translation, reading.told.as_slice(), known)?;
         let mut count = StepCount::new();
         let event = searcher.event(alloc, translation, &reading, budget, &mut count)?;
         let is_last = event.told().is_none();

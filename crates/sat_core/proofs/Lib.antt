@@ -9,6 +9,9 @@ pub mod Numbered
 pub mod Answered
 pub mod Going
 pub mod Blocked
+pub mod Marking
 pub mod Merged
 pub mod Told
+pub mod NeededSteps
+pub mod TrimmedAnswers
 pub mod Limits

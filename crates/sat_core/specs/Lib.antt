@@ -3,5 +3,7 @@ pub mod Assuming
 pub mod Count
 pub mod Lent
 pub mod Kept
+pub mod Marked
 pub mod Search
+pub mod Trimmed
 pub mod Limits

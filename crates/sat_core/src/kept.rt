@@ -1,21 +1,25 @@
 // A search that is gone on with, clause by clause that is blocked.
-ghost use Rattle.std.specs.Prelude.{◌≡◌, ◌+◌, ◌-◌, ◌≤◌, ◌<◌, ◌^◌, ◌++◌, ◌∷◌, [], ℕ, List, All, ◌↔◌, map, Contains, IsTrue, MatchBool, IfOk, OnOk, MatchOption, OnErr, length, slice_index_or};
+ghost use Rattle.std.specs.Prelude.{◌≡◌, ◌+◌, ◌-◌, ◌≤◌, ◌<◌, ◌^◌, ◌++◌, ◌∷◌, [], ℕ, List, All, map, Contains, IfOk, IfSome, OnOk, MatchOption, OnErr, length};
 ghost use Rattle.cnf_core.specs.declared.literal.Lit.{Lit};
-ghost use Rattle.cnf_core.specs.Literal.{HasVarsUpTo, IsClause};
-ghost use Rattle.refutation_check.specs.Chain.{members_of, IsAccepted, IsChain, Subsumes};
+ghost use Rattle.cnf_core.specs.Literal.{HasVarsUpTo};
+ghost use Rattle.refutation_check.specs.declared.log.Step.{Step};
+ghost use Rattle.refutation_check.specs.Chain.{members_of, IsAccepted, IsChain};
 ghost use Rattle.refutation_check.specs.Lift.{lifted_hint};
 ghost use Rattle.sat_trail.specs.Trailed.{IsBase};
 ghost use Rattle.sat_core.specs.Answers.{leaned_behind};
 ghost use Rattle.sat_core.specs.Count.{raised};
 ghost use Rattle.sat_core.specs.Assuming.{IsClash, numbered};
-ghost use Rattle.sat_core.specs.Kept.{told, told_by, number_in, numbers_from, AreWithin, IsKept, HasMore, IsEnd, IsLearntOf, IsLearntTo, IfBlocked, IsContainedIn, TellsNoFound};
+ghost use Rattle.sat_core.specs.Kept.{told, told_by, number_in, numbers_from, AreWithin, IsKept, HasMore, IsEnd, IsLearntOf, IsLearntTo, IfBlocked, TellsNoFound};
 ghost use Rattle.sat_core.specs.Lent.{steps_of, IsStanding, StandsBehind};
 ghost use Rattle.sat_core.specs.Search.{IsAnswerTo};
+ghost use Rattle.sat_core.specs.Trimmed.{IsUsedUp};
 
 use crate::lent::{Ending, search_on};
 use crate::locals::split;
+use crate::marked_log::MarkedLog;
 use crate::search::{Answer, refuted, refuted_by, trail_of};
 use crate::step_count::StepCount;
+use crate::trimmed::trimmed;
 use cnf_core::{Clause, Cnf, Lit, Valuation};
 use refutation_check::{Hints, Log, Step};
 use sat_trail::{Propagated, SavedPhases, Trail, learn};
@@ -41,7 +45,7 @@ pub struct KeptSearch {
     depth: u32,
     assumed: Vec<Lit>,
     numbers: Vec<u32>,
-    steps: Log,
+    steps: MarkedLog,
 }
 
 impl Model for KeptSearch {
@@ -77,7 +81,7 @@ impl KeptSearch {
             depth: 0,
             assumed: locals.assumed,
             numbers,
-            steps: Log::new(alloc),
+            steps: MarkedLog::new(alloc),
         })
     }
 
@@ -85,13 +89,13 @@ impl KeptSearch {
     pub fn len(&self) -> u64
         ensures { result ≡ length self.now.steps }
     {
-        self.steps.steps().len() as u64
+        self.steps.log().steps().len() as u64
     }
 
     /// Goes on with the search over these local clauses. With the steps that are kept there are at most `budget` afterwards; these, the
-    /// clauses and the pool's steps are at most 1,073,741,823 together. Where a valuation is found, the answer tells no step; else it
-    /// tells all that are kept, or the last one alone where propagation refutes what is given without them. The error comes only for
-    /// want of memory.
+    /// clauses and the pool's steps are at most 1,073,741,823 together. What is kept stays in front. Where a valuation is found, the
+    /// answer tells no step; where what is given is refuted, it tells the steps alone that the last one needs, each but the last named by
+    /// a hint of a later one; where the budget is spent, it tells all that are kept. The error comes only for want of memory.
     pub fn go_on(
         &mut self,
         alloc: Global,
@@ -110,9 +114,11 @@ impl KeptSearch {
         requires room { length self.old.steps ≤ budget }
         ensures kept { OnOk result (IsKept f.now local.now pool.now self.new) }
         ensures more { OnOk result (length self.old.steps ≤ length self.new.steps) }
+        ensures stays { OnOk result ((learnt : List Step) × (self.new.steps ≡ self.old.steps ++ learnt)) }
         ensures most { OnOk result (length self.new.steps ≤ budget) }
         ensures answer { IfOk result (IsAnswerTo f.now local.now pool.now budget) }
         ensures silent { IfOk result TellsNoFound }
+        ensures used { IfOk result (IsUsedUp (length f.now.clauses + length local.now + length pool.now)) }
         ensures count { OnOk result (count.new ≡ raised count.old (length self.new.steps - length self.old.steps)) }
         ensures spent { count.new + length self.old.steps ≤ count.old + budget }
         ensures leaning { IfOk result (λ a. leaning.new ≡ leaned_behind a leaning.old) }
@@ -145,6 +151,7 @@ impl KeptSearch {
         requires few { length f.now.clauses + length local.now + length pool.now + length self.old.steps + left < 2 ^ 30 }
         ensures kept { OnOk result (IsKept f.now local.now pool.now self.new) }
         ensures more { OnOk result (length self.old.steps ≤ length self.new.steps) }
+        ensures stays { OnOk result ((learnt : List Step) × (self.new.steps ≡ self.old.steps ++ learnt)) }
         ensures most { OnOk result (length self.new.steps ≤ length self.old.steps + left) }
         ensures end { IfOk result (IsLearntTo f.now local.now pool.now (length self.old.steps + left) self.new) }
         ensures count { OnOk result (count.new ≡ raised count.old (length self.new.steps - length self.old.steps)) }
@@ -174,7 +181,7 @@ impl KeptSearch {
         Ok(learnt_of(ending))
     }
 
-    // The refutation of what is given, which propagation makes of the steps that are kept.
+    // The refutation of what is given, which propagation makes of the steps that are kept: those alone that its last step needs.
     fn refute(
         &self,
         alloc: Global,
@@ -192,12 +199,14 @@ impl KeptSearch {
         requires clash { IsClash self.now.trail.clauses self.now.assumed }
         ensures answer { IfOk result (IsAnswerTo f.now local.now pool.now budget) }
         ensures end { IfOk result IsEnd }
+        ensures used { IfOk result (IsUsedUp (length f.now.clauses + length local.now + length pool.now)) }
     {
         match refuted_at_once(alloc, f, base, pool, local, budget)? {
             Some(answer) => Ok(answer),
             None => {
                 let log = self.told(alloc)?;
-                refuted(alloc, f, base, pool, local, budget, log)
+                let answer = refuted(alloc, f, base, pool, local, budget, log)?;
+                trimmed_answer(alloc, f, pool, local, budget, answer)
             }
         }
     }
@@ -220,6 +229,7 @@ impl KeptSearch {
         requires more { HasMore f.now local.now pool.now self.now }
         ensures answer { IfOk result (IsAnswerTo f.now local.now pool.now budget) }
         ensures end { IfOk result IsEnd }
+        ensures used { IfOk result (IsUsedUp (length f.now.clauses + length local.now + length pool.now)) }
     {
         match refuted_at_once(alloc, f, base, pool, local, budget)? {
             Some(answer) => Ok(answer),
@@ -236,7 +246,7 @@ impl KeptSearch {
         requires { AreWithin (length self.now.numbers) self.now.steps }
         ensures { IfOk result (λ log. log ≡ told self.now) }
     {
-        renumbered_log(alloc, self.numbers.as_slice(), &self.steps)
+        renumbered_log(alloc, self.numbers.as_slice(), self.steps.log())
     }
 
     /// Blocks what falsifies a clause of the formula's variables: it is a local clause from now on, behind so many others. It answers
@@ -258,7 +268,7 @@ impl KeptSearch {
         ensures blocked { IfOk result (λ is. (first rest : List (List Lit)) → local.now ≡ first ++ rest → place ≡ length first → IfBlocked f.now (first ++ clause.now ∷ rest) pool.now clause.now self.old self.new is) }
         ensures steps { OnOk result (self.new.steps ≡ self.old.steps) }
     {
-        if clause.lits().len() == 1 || is_contained(clause, self.steps.steps()) {
+        if clause.lits().len() == 1 || self.steps.is_contained(clause) {
             return Ok(false);
         }
         let above = f.len() + place;
@@ -312,7 +322,7 @@ fn learnt_of(ending: Ending) -> Learnt
 fn keep_all(
     alloc: Global,
     numbers: &mut Vec<u32>,
-    steps: &mut Log,
+    steps: &mut MarkedLog,
     first: u32,
     log: &Log,
 ) -> Result<(), AllocError>
@@ -326,55 +336,6 @@ fn keep_all(
         steps.push(step.copy(alloc)?)?;
     }
     Ok(())
-}
-
-// Whether one of the steps contains the clause.
-fn is_contained(clause: &Clause, steps: &[Step]) -> bool
-    ensures { MatchBool result (IsContainedIn clause.now steps.now) (All (λ s. ¬ Subsumes clause.now s.clause) steps.now) }
-{
-    for step in steps {
-        if has_each(step.clause.lits(), clause.lits()) {
-            return true;
-        }
-    }
-    false
-}
-
-// Whether each literal of the second clause is among those of the first one. Both are in the order of their variables.
-fn has_each(lits: &[Lit], others: &[Lit]) -> bool
-    requires lits { IsClause lits.now }
-    requires others { IsClause others.now }
-    ensures { IsTrue result ↔ Subsumes others.now lits.now }
-{
-    let mut at = 0;
-    for other in others {
-        at = place_of(lits, at, other.var);
-        if at == lits.len() || !is_same(&lits[at], other) {
-            return false;
-        }
-    }
-    true
-}
-
-// The first place from this one on whose variable isn't below this one, or that behind the last.
-fn place_of(lits: &[Lit], from: usize, var: u32) -> usize
-    requires { from ≤ length lits.now }
-    ensures within { result ≤ length lits.now }
-    ensures later { from ≤ result }
-    ensures below { (i : ℕ) (d : Lit) → from ≤ i → i < result → (slice_index_or lits.now i d).var < var }
-    ensures here { (d : Lit) → result < length lits.now → var ≤ (slice_index_or lits.now result d).var }
-{
-    let mut at = from;
-    'passing: while at < lits.len() && lits[at].var < var {
-        at += 1;
-    }
-    at
-}
-
-fn is_same(first: &Lit, second: &Lit) -> bool
-    ensures { IsTrue result ↔ (first.now ≡ second.now) }
-{
-    first.var == second.var && first.positive == second.positive
 }
 
 // The steps with these numbers in place of their hints.
@@ -424,6 +385,34 @@ fn lifted_one(number: u32, above: u32) -> u32
     if number > above { number + 1 } else { number }
 }
 
+// The answer; of a refutation, the steps alone that the last one needs.
+fn trimmed_answer(
+    alloc: Global,
+    f: &Cnf,
+    pool: &Log,
+    local: &[Clause],
+    budget: u64,
+    answer: Answer,
+) -> Result<Answer, AllocError>
+    requires few { length f.now.clauses + length local.now + length pool.now + budget < 2 ^ 30 }
+    requires answer { IsAnswerTo f.now local.now pool.now budget answer }
+    requires end { IsEnd answer }
+    ensures answer { IfOk result (IsAnswerTo f.now local.now pool.now budget) }
+    ensures end { IfOk result IsEnd }
+    ensures used { IfOk result (IsUsedUp (length f.now.clauses + length local.now + length pool.now)) }
+{
+    let _budget = budget; // for the proof
+    match answer {
+        Answer::Found { valuation, log } => Ok(Answer::Found { valuation, log }),
+        Answer::Refuted { log } => {
+            let given = f.len() + local.len() as u32 + pool.steps().len() as u32;
+            let log = trimmed(alloc, given, &log)?;
+            Ok(Answer::Refuted { log })
+        }
+        Answer::Spent { log } => Ok(Answer::Spent { log }),
+    }
+}
+
 // The answer where propagation refutes what is given without any step.
 fn refuted_at_once(
     alloc: Global,
@@ -437,6 +426,7 @@ fn refuted_at_once(
     requires pool { IsAccepted f.now.clauses pool.now }
     requires few { length f.now.clauses + length local.now + length pool.now + budget < 2 ^ 30 }
     ensures answer { IfOk result (λ o. MatchOption o ((hints : List ℕ) → ¬ IsChain (members_of (f.now.clauses ++ local.now) pool.now) [] hints) (λ a. IsAnswerTo f.now local.now pool.now budget a × IsEnd a)) }
+    ensures used { IfOk result (λ o. IfSome o (IsUsedUp (length f.now.clauses + length local.now + length pool.now))) }
 {
     let mut trail = base.grown(alloc, f, pool, local)?;
     match trail.propagate() {

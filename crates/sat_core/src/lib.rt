@@ -6,9 +6,11 @@ mod deciding;
 mod kept;
 mod lent;
 mod locals;
+mod marked_log;
 mod search;
 pub mod search_limits;
 mod step_count;
+mod trimmed;
 
 pub use crate::kept::KeptSearch;
 pub use crate::lent::{Ending, solve_on};

@@ -149,7 +149,7 @@ low_literal var code is =
     let same : code ≡ 2 * var + 0 = omega arith in
     ap literal_of same ∙ literal_of-code_of l
 
-open_value : (falses : List Lit) (l : Lit) (o : Option Bool) (none : Bool) → IsValueOf falses l o → is_some o ≡ not none → none ≡ true → IsOpen falses l
+pub open_value : (falses : List Lit) (l : Lit) (o : Option Bool) (none : Bool) → IsValueOf falses l o → is_some o ≡ not none → none ≡ true → IsOpen falses l
 open_value falses l None none is some unset = is
 open_value falses l (Some value) none is some unset = let e : true ≡ false = some ∙ ap not unset in cc
 

@@ -1,7 +1,8 @@
 -- The levels of the literals of a clause.
-use Rattle.std.specs.Prelude.{◌≡◌, ◌≢◌, ◌<◌, ◌≤◌, ◌⊎◌, ◌+◌, ℕ, List, Contains, length, max, slice_index_or}
+use Rattle.std.specs.Prelude.{◌≡◌, ◌≢◌, ◌<◌, ◌≤◌, ◌⊎◌, ◌+◌, ℕ, List, Contains, length, slice_index_or}
 use Rattle.cnf_core.specs.declared.literal.Lit.{Lit}
 use Rattle.unit_propagation.specs.declared.assignment_trail.assigned.Assigned.{Assigned}
+use Rattle.unit_propagation.specs.Assignments.Trail.{level_of}
 
 -- the highest level below this bound that a variable of the literals has, or 0
 pub record IsHighestBelow (assigned : List Assigned) (lits : List Lit) (below level : ℕ) : Type 0 where
@@ -22,10 +23,12 @@ pub record AreTwoFrom (assigned : List Assigned) (lits : List Lit) (level : ℕ)
   pub one_from : IsFrom assigned level one
   pub other_from : IsFrom assigned level other
 
--- two of the literals have no value before the decisions of this level and of those below; or it is 0, which has no decision
+-- back at this level two of the literals are open, of different variables; or it is 0
 abbrev pub IsBelowTwo : List Assigned → List Lit → ℕ → Type 0
 IsBelowTwo assigned lits level = (level ≡ 0) ⊎ AreTwoFrom assigned lits (level + 1)
 
--- the two highest of levels, where one more came to them
-abbrev pub AreHighest : ℕ × ℕ → ℕ → ℕ × ℕ → Type 0
-AreHighest old level new = ((old.0 < level) × (new.0 ≡ level) × (new.1 ≡ old.0)) ⊎ ((level ≤ old.0) × (new.0 ≡ old.0) × (new.1 ≡ max old.1 level))
+-- it is the highest such level, up to that of the newest literal
+pub record IsHighestBelowTwo (assigned : List Assigned) (lits : List Lit) (level : ℕ) : Type 0 where
+  pub below_two : IsBelowTwo assigned lits level
+  pub within : level ≤ level_of assigned
+  pub highest : (other : ℕ) → other ≤ level_of assigned → IsBelowTwo assigned lits other → other ≤ level

@@ -45,6 +45,9 @@ fn best(codes: &[u32], now: &Assignment, beside: u32) -> Option<u32>
     let mut highest = 0;
     for code in codes {
         let this = rank(now, *code, beside);
+        if this == u64::MAX {
+            return Some(*code);
+        }
         if this > highest {
             best = Some(*code);
             highest = this;

@@ -11,6 +11,7 @@ ghost use Rattle.sat_trail.specs.Leaned.{leans_to};
 ghost use Rattle.sat_trail.specs.Closed.{IsClosedBelow, IsPropagated};
 ghost use Rattle.sat_trail.specs.Deciding.{HasAllValues, IsLowestOpen, IsOpenVar, decided};
 ghost use Rattle.sat_trail.specs.Learnt.{IsAsserting, IsBackLevel};
+ghost use Rattle.sat_trail.specs.Levels.{IsHighestBelowTwo};
 
 use crate::deciding::{lowest_open, put_back_above, raise_met, take_open};
 use crate::filling::append;
@@ -350,18 +351,19 @@ impl Trail {
         Ok(self.store.len())
     }
 
-    /// Adds a clause that needn't follow from the others. The trail goes back to where two of its literals are open, or to where nothing is
-    /// decided: so what was closed before each decision is so with the clause too. After an error the clauses are as before.
+    /// Adds a clause that needn't follow from the others. The trail goes back to where two of its literals are open, no further than it has to,
+    /// or to where nothing is decided: so what was closed before each decision is so with the clause too. After an error the clauses are as before.
     pub fn add_given(&mut self, clause: &Clause) -> Result<(), AllocError>
         requires vars { HasVarsUpTo self.old.vars clause.now }
         requires room { length self.old.clauses + 1 < 2 ^ 30 }
         ensures ok { OnOk result (self.new.clauses ≡ self.old.clauses ++ clause.now ∷ []) }
         ensures err { OnErr result (self.new.clauses ≡ self.old.clauses) }
         ensures vars { self.new.vars ≡ self.old.vars }
-        ensures assigned { (level : ℕ) × IsBackTo level self.old.assigned self.new.assigned }
+        ensures assigned { (level : ℕ) × IsBackTo level self.old.assigned self.new.assigned × IsHighestBelowTwo self.old.assigned clause.now level }
         ensures closed { IsClosedBelow self.old.clauses self.old.assigned → OnOk result (IsClosedBelow self.new.clauses self.new.assigned) }
     {
-        let level = level_below_two(&self.assignment, clause.lits());
+        let next = self.level() + 1;
+        let level = level_below_two(&self.assignment, clause.lits(), next);
         self.back_to(level);
         self.put(clause, true)?;
         Ok(())

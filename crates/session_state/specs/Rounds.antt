@@ -3,3 +3,4 @@ pub mod Going
 pub mod Resting
 pub mod Descended
 pub mod Next
+pub mod Held

@@ -5,14 +5,16 @@ mod comparing;
 mod descent;
 mod due;
 mod going;
+mod held;
 mod locals;
 mod next;
 mod novel;
 mod round;
 mod trails;
 
+pub use crate::search_rounds::held::HeldSearch;
 pub use crate::search_rounds::locals::locals_of;
 pub use crate::search_rounds::next::{Found, NextAt, joined, next_at, proof_of};
-pub use crate::search_rounds::round::{RoundEnd, round_at};
+pub use crate::search_rounds::round::RoundEnd;
 pub use crate::search_rounds::trails::KeptTrails;
 pub use sat_core::{SavedPhases, StepCount};

@@ -27,7 +27,7 @@ enum Told {
     Spent,
 }
 
-// Looks for the next scenario.
+// Looks for the next scenario by searches that go on with what is kept.
 fn searched(
     alloc: Global,
     made: &Translation,
@@ -35,6 +35,7 @@ fn searched(
     shown: &[Scenario],
     copies: &[Scenario],
     budget: u64,
+    kept: &mut KeptTrails,
 ) -> Result<NextAt, AllocError>
     requires floor { AreCells made.now.problem floor.now }
     requires shown { All (IsDue made.now.problem floor.now) shown.now }
@@ -47,10 +48,9 @@ fn searched(
     ensures ended { IfOk result (λ next. (proof : ProofOfEnd) → next.found ≡ Ended proof → All (AreCells made.now.problem) proof.blocked) }
 {
     let pool = Log::new(alloc);
-    let mut kept = KeptTrails::new(alloc);
     let mut count = StepCount::new();
     let next = next_at(
-        alloc, made, &pool, floor, shown, copies, budget, &mut kept, &mut count,
+        alloc, made, &pool, floor, shown, copies, budget, kept, &mut count,
     )?;
     Ok(next)
 }
@@ -86,7 +86,7 @@ fn taken(
     }
 }
 
-// Asks for the next scenario, and remembers it, and the copies that were found. The units are counted step by step.
+// Asks for the next scenario by searches that nothing was left for, and remembers it, and the copies that were found.
 fn ask(
     alloc: Global,
     made: &Translation,
@@ -94,6 +94,27 @@ fn ask(
     shown: &mut Vec<Scenario>,
     copies: &mut Vec<Scenario>,
     budget: u64,
+) -> Result<(Told, u64), Fail>
+    requires floor { AreCells made.now.problem floor.now }
+    requires shown { All (IsDue made.now.problem floor.now) shown.old.items }
+    requires copies { All (IsCopy made.now.problem floor.now shown.old.items) copies.old.items }
+    ensures shown { OnOk result (All (IsDue made.now.problem floor.now) shown.new.items) }
+    ensures copies { OnOk result (All (IsCopy made.now.problem floor.now shown.new.items) copies.new.items) }
+{
+    let mut kept = KeptTrails::new(alloc);
+    ask_on(alloc, made, floor, shown, copies, budget, &mut kept)
+}
+
+// Asks for the next scenario by searches that go on with what is kept, and remembers it, and the copies that were found. The units are
+// counted step by step.
+fn ask_on(
+    alloc: Global,
+    made: &Translation,
+    floor: &Scenario,
+    shown: &mut Vec<Scenario>,
+    copies: &mut Vec<Scenario>,
+    budget: u64,
+    kept: &mut KeptTrails,
 ) -> Result<(Told, u64), Fail>
     requires floor { AreCells made.now.problem floor.now }
     requires shown { All (IsDue made.now.problem floor.now) shown.old.items }
@@ -111,6 +132,7 @@ fn ask(
         shown.as_slice(),
         copies.as_slice(),
         budget,
+        kept,
     )?;
     let NextAt {
         found,
@@ -299,6 +321,24 @@ fn until_it_ends(alloc: Global, made: &Translation, floor: &Scenario) -> Result<
     Err("no end")?
 }
 
+// What so many calls in a row find, where what the searches of each leave serves those of the next one.
+fn in_a_row(
+    alloc: Global,
+    made: &Translation,
+    floor: &Scenario,
+    calls: u32,
+) -> Result<AtFloor, Fail>
+    requires { AreCells made.now.problem floor.now }
+{
+    let mut kept = KeptTrails::new(alloc);
+    let mut shown = Vec::new(alloc);
+    let mut copies = Vec::new(alloc);
+    'asking: for _ in 0..calls {
+        ask_on(alloc, made, floor, &mut shown, &mut copies, 100, &mut kept)?;
+    }
+    listed(alloc, shown.as_slice(), copies.as_slice())
+}
+
 fn listed(alloc: Global, shown: &[Scenario], copies: &[Scenario]) -> Result<AtFloor, Fail> {
     Ok(AtFloor {
         shown: all_bits(alloc, shown)?,
@@ -354,6 +394,25 @@ fn beside_a_floor(rt: HostRuntime) -> Result<(), Fail> {
     assert!(rt; all_at(alloc, &[0, 1], 0b0100)?.has(&[0b0100], &[]));
     let three = all_at(alloc, &[0, 1, 2], 0b000001)?;
     assert!(rt; are(three.shown.as_slice(), &[0b001001, 0b010001]));
+    Ok(())
+}
+
+// Of three atoms, with P of two of them in the floor, Q of each is due: three calls find the same, and four too, the last of which finds
+// no more, whether each search begins anew or goes on with what those before left.
+#[test]
+fn in_a_row_as_anew(rt: HostRuntime) -> Result<(), Fail> {
+    let alloc = rt.alloc();
+    let made = translated_sets(alloc, &[0, 1, 2])?;
+    let floor = scenario_of(alloc, made.problem(), 0b000011)?;
+    let anew = until_it_ends(alloc, &made, &floor)?;
+    assert!(rt; anew.has(&[0b001011, 0b010011, 0b100011], &[]));
+    for calls in 3..5 {
+        let found = in_a_row(alloc, &made, &floor, calls)?;
+        assert!(rt;
+            found.has(anew.shown.as_slice(), anew.copies.as_slice()),
+            "{calls} calls"
+        );
+    }
     Ok(())
 }
 

@@ -9,7 +9,7 @@ ghost use Rattle.sat_core.specs.Search.{IsAnswerTo};
 use crate::clauses::clause;
 use crate::of_sat_core::{formula, is_refuted};
 use cnf_core::{Clause, Cnf, Valuation};
-use refutation_check::Log;
+use refutation_check::{Log, Step};
 use sat_core::{Answer, KeptSearch, SavedPhases, StepCount, Trail};
 use std::alloc::Global;
 use std::test::Fail;
@@ -140,30 +140,61 @@ fn block_valuation(
     Ok(())
 }
 
-// Whether the log has the steps that the search tells and one more, and refutes the formula with the local clauses.
-fn is_told(
+// Whether a hint of one of the steps is this number.
+fn is_named(steps: &[Step], number: u32) -> bool {
+    for step in steps {
+        if step.hints.numbers().contains(&number) {
+            return true;
+        }
+    }
+    false
+}
+
+// Whether each step but the last is named by a later one, where hints number so many clauses first.
+fn is_used_up(given: u32, log: &Log) -> bool
+    requires { given < 10000 }
+{
+    let steps = log.steps();
+    for place in 1..steps.len() {
+        if !is_named(&steps[place..], given + place as u32) {
+            return false;
+        }
+    }
+    true
+}
+
+// How many of the steps that the search tells are left out of a log that refutes the formula with the local clauses, and in which each
+// step but the last is named by a later one.
+fn left_out(
     alloc: Global,
     f: &Cnf,
     local: &[Clause],
     search: &KeptSearch,
     log: &Log,
-) -> Result<bool, Fail>
+) -> Result<usize, Fail>
     requires few { length f.now.clauses + length local.now < 10000 }
     requires locals { All (HasVarsUpTo f.now.vars) local.now }
     requires log { All (λ s. HasVarsUpTo f.now.vars s.clause) log.now }
     requires steps { AreWithin (length search.now.numbers) search.now.steps }
 {
-    let told = search.told(alloc)?;
-    if log.steps().len() != told.steps().len() + 1 {
-        return Ok(false);
+    if !is_used_up(f.len() + local.len() as u32, log) {
+        return Err("a step that isn't named")?;
     }
     let mut whole = f.copy(alloc)?;
     whole.append(alloc, local)?;
-    is_refuted(alloc, &whole, log)
+    if !is_refuted(alloc, &whole, log)? {
+        return Err("no refutation")?;
+    }
+    let told = search.told(alloc)?;
+    let kept = told.steps().len() + 1;
+    if log.steps().len() > kept {
+        return Err("more than is kept")?;
+    }
+    Ok(kept - log.steps().len())
 }
 
-// How many valuations are found, each of which is blocked then, in front of the local clauses and behind them in turn; and whether
-// the refutation in the end has all that the search tells.
+// How many valuations are found, each of which is blocked then, in front of the local clauses and behind them in turn; and how many of
+// the steps that the search tells the refutation in the end leaves out.
 fn listed(
     alloc: Global,
     f: &Cnf,
@@ -171,7 +202,7 @@ fn listed(
     pool: &Log,
     local: &mut Vec<Clause>,
     search: &mut KeptSearch,
-) -> Result<(u32, bool), Fail>
+) -> Result<(u32, usize), Fail>
     requires base { IsBase f.now base.now }
     requires pool { IsAccepted f.now.clauses pool.now }
     requires none { length pool.now ≡ 0 }
@@ -190,8 +221,8 @@ fn listed(
                 block_valuation(alloc, f, pool, local, search, is_last, &valuation)?;
             }
             Answer::Refuted { log } => {
-                let told = is_told(alloc, f, local.as_slice(), search, &log)?;
-                return Ok((number, told));
+                let left = left_out(alloc, f, local.as_slice(), search, &log)?;
+                return Ok((number, left));
             }
             Answer::Spent { .. } => return Err("spent")?,
         }
@@ -200,7 +231,7 @@ fn listed(
 }
 
 // The same from the beginning, with local clauses of these literals.
-fn counted(alloc: Global, f: &Cnf, numbers: &[&[i8]]) -> Result<(u32, bool), Fail>
+fn counted(alloc: Global, f: &Cnf, numbers: &[&[i8]]) -> Result<(u32, usize), Fail>
     requires vars { f.now.vars < 100 }
     requires clauses { length f.now.clauses < 1000 }
     requires local { length numbers.now < 100 }
@@ -209,6 +240,50 @@ fn counted(alloc: Global, f: &Cnf, numbers: &[&[i8]]) -> Result<(u32, bool), Fai
     let base = Trail::over(alloc, f, f.vars())?;
     let mut local = clauses_of(alloc, f.vars(), numbers)?;
     let mut search = KeptSearch::over(alloc, f, &base, &pool, local.as_slice())?;
+    listed(alloc, f, &base, &pool, &mut local, &mut search)
+}
+
+// Blocks these clauses, behind the local ones.
+fn block_each(
+    alloc: Global,
+    f: &Cnf,
+    pool: &Log,
+    local: &mut Vec<Clause>,
+    search: &mut KeptSearch,
+    clauses: &[&[i8]],
+) -> Result<(), Fail>
+    requires kept { IsKept f.now local.old.items pool.now search.old }
+    requires few { length f.now.clauses + length local.old.items + length pool.now + length clauses.now < 10000 }
+    requires room { length search.old.steps ≤ 1000 }
+    requires vars { f.now.vars < 100 }
+    requires locals { All (HasVarsUpTo f.now.vars) local.old.items }
+    ensures kept { OnOk result (IsKept f.now local.new.items pool.now search.new) }
+    ensures few { OnOk result (length local.new.items ≤ length local.old.items + length clauses.now) }
+    ensures locals { OnOk result (All (HasVarsUpTo f.now.vars) local.new.items) }
+    ensures steps { OnOk result (search.new.steps ≡ search.old.steps) }
+{
+    for numbers in clauses {
+        let place = local.len() as u32;
+        let made = clause(alloc, f.vars(), numbers)?;
+        if !block_at(alloc, f, pool, local, search, place, made)? {
+            return Err("not blocked")?;
+        }
+    }
+    Ok(())
+}
+
+// The same without local clauses, where these clauses are blocked once a first valuation was found.
+fn counted_behind(alloc: Global, f: &Cnf, clauses: &[&[i8]]) -> Result<(u32, usize), Fail>
+    requires vars { f.now.vars < 100 }
+    requires clauses { length f.now.clauses < 1000 }
+    requires blocked { length clauses.now < 100 }
+{
+    let pool = Log::new(alloc);
+    let base = Trail::over(alloc, f, f.vars())?;
+    let mut local = Vec::new(alloc);
+    let mut search = KeptSearch::over(alloc, f, &base, &pool, local.as_slice())?;
+    gone_on(alloc, f, &base, &pool, local.as_slice(), &mut search)?;
+    block_each(alloc, f, &pool, &mut local, &mut search, clauses)?;
     listed(alloc, f, &base, &pool, &mut local, &mut search)
 }
 
@@ -231,7 +306,7 @@ const TWO: [&[i8]; 11] = [
 fn each_valuation_is_found_once(rt: HostRuntime) -> Result<(), Fail> {
     let two = formula(rt.alloc(), 6, &TWO)?;
     let all = counted(rt.alloc(), &two, &[])?;
-    assert_eq!(rt; all, (6, true));
+    assert_eq!(rt; all, (6, 0));
     Ok(())
 }
 
@@ -240,6 +315,18 @@ fn each_valuation_is_found_once(rt: HostRuntime) -> Result<(), Fail> {
 fn blocked_valuations_stand_among_local_clauses(rt: HostRuntime) -> Result<(), Fail> {
     let two = formula(rt.alloc(), 6, &TWO)?;
     let some = counted(rt.alloc(), &two, &[&[-3], &[-1, 5]])?;
-    assert_eq!(rt; some, (3, true));
+    assert_eq!(rt; some, (3, 0));
+    Ok(())
+}
+
+// Without the first two variables the third one has no value; and one of the last two holds.
+const APART: [&[i8]; 3] = [&[1, 2, 3], &[1, 2, -3], &[4, 5]];
+
+// That one of the first two holds is learnt on the way to a valuation, and the last two are at odds without it.
+#[test]
+fn a_step_that_no_other_names_is_not_told(rt: HostRuntime) -> Result<(), Fail> {
+    let apart = formula(rt.alloc(), 5, &APART)?;
+    let none = counted_behind(rt.alloc(), &apart, &[&[4, -5], &[-4, 5], &[-4, -5]])?;
+    assert_eq!(rt; none, (0, 1));
     Ok(())
 }

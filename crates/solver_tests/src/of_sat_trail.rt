@@ -291,6 +291,24 @@ fn added_falsifies_the_fifth(rt: &impl Abort, trail: &mut Trail, more: &Clause)
     assert_eq!(rt; conflict(rt, trail), 4);
 }
 
+#[test]
+fn a_clause_of_two_open_literals_undoes_nothing(rt: HostRuntime) {
+    let mut trail = trail_of(&rt, rt.alloc(), &IMPLICATIONS);
+    decide(&rt, &mut trail, -1);
+    let more = clause(&rt, rt.alloc(), [2, 3]);
+    added_undoes_nothing(&rt, &mut trail, &more);
+}
+
+// That a clause added behind four others leaves the decision of the first variable.
+fn added_undoes_nothing(rt: &impl Abort, trail: &mut Trail, more: &Clause)
+    requires few { length trail.old.clauses ≡ 4 }
+    requires vars { HasVarsUpTo 4 more.now }
+{
+    assert!(rt; trail.vars() >= 4);
+    trail.add_given(more).expect(rt, "memory");
+    assert_eq!(rt; state_of(rt, trail), (1, Some(false), None));
+}
+
 // Decides the lowest open variable up to this one false.
 fn decide_low(rt: &impl Abort, trail: &mut Trail, limit: u32) -> Option<Lit> {
     assert!(rt; trail.vars() >= limit);

@@ -9,3 +9,4 @@ pub mod FloorAtoms
 pub mod FloorRenamings
 pub mod Descent
 pub mod PartlySettled
+pub mod SwapRows

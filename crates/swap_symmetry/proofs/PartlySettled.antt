@@ -1,9 +1,10 @@
 -- A scenario that is being settled, from one swap to the next.
-use Rattle.std.proofs.Common.{◌≡◌, ◌<◌, ℕ, List, length, Contains}
+use Rattle.std.proofs.Common.{◌≡◌, ◌<◌, ℕ, List, length, All, AllPairs, Contains, subst}
+use Rattle.std.proofs.lemmas.List.Elements.{All-contains, Contains-get_or}
 use Rattle.tuple_core.specs.declared.atom.Atom.{Atom}
 use Rattle.tuple_core.specs.Swap.{swap_atoms}
 use Rattle.rel_formula.specs.Bounds.{Bounded, IsProblem, cells_of}
-use Rattle.rel_formula.specs.Instance.{IsScenario}
+use Rattle.rel_formula.specs.Instance.{AreCells, IsScenario, Includes, IsMinimalAbove}
 use Rattle.rel_formula.specs.Renaming.{KeepsBounds, IsImage, IsRenamingBeside, IsSymmetric}
 use Rattle.rel_formula.proofs.SwapLaws.{laws_of, renames}
 use Rattle.swap_symmetry.specs.Order.{IsEarlier}
@@ -35,3 +36,14 @@ swap_kept p a b symmetric next = symmetric (swap_atoms a b) (swap_atoms a b) (re
 -- the image is earlier where the swap is
 pub image_earlier : (p : Bounded) (a b : Atom) (s t : List ℕ) → IsProblem p → AreNeighbours p a b → IsScenario p t → IsImage p (swap_atoms a b) s t → SwapIsEarlier p a b (Contains s) → IsEarlier t s
 image_earlier p a b s t well next scenario image earlier = (earlier_from p well a b (laws_of a b next.one_top) s t scenario image).1 earlier
+
+-- what a scenario includes are cells
+included : (count : ℕ) (s floor : List ℕ) → All (λ n. n < count) s → Includes s floor → All (λ n. n < count) floor
+included count s floor cells above k d l = All-contains (λ n. n < count) s _ cells (above _ (Contains-get_or floor k d l))
+
+-- what stays minimal above the numbers of a floor stays minimal above it
+pub minimal_for : (p : Bounded) (numbers floor s t : List ℕ) → numbers ≡ floor → AllPairs (λ m n. m < n) floor → AreCells p s → (IsScenario p numbers → IsMinimalAbove p numbers s → IsMinimalAbove p numbers t) →
+    IsMinimalAbove p floor s → IsMinimalAbove p floor t
+minimal_for p numbers floor s t same rising cells stays minimal =
+    let floor_in : IsScenario p floor = record { cells = included (length (cells_of p)) s floor cells minimal.above; rising = rising } in
+    subst (λ (f : List ℕ). IsScenario p f → IsMinimalAbove p f s → IsMinimalAbove p f t) same stays floor_in minimal

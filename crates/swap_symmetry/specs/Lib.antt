@@ -1,3 +1,4 @@
 pub mod Order
 pub mod Swaps
+pub mod Images
 pub mod Due

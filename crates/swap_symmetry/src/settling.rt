@@ -1,10 +1,12 @@
 // Scenarios made settled.
-ghost use Rattle.std.specs.Prelude.{◌≡◌, [], false, IsTrue};
+ghost use Rattle.std.specs.Prelude.{◌≡◌, [], false, IsTrue, IfSome};
 ghost use Rattle.rel_formula.specs.Instance.{AreCells, IsScenario, Includes, IsMinimalAbove};
 ghost use Rattle.rel_formula.specs.Renaming.{IsRenamingOf, IsRenamingBeside, IsSymmetric};
+ghost use Rattle.swap_symmetry.specs.Images.{AreImages};
 ghost use Rattle.swap_symmetry.specs.Order.{IsEarlier};
 ghost use Rattle.swap_symmetry.specs.Swaps.{IsSettled, IsSettledBeside};
 
+use crate::images::SwapImages;
 use crate::settled::earlier_swap;
 use rel_formula::{Problem, Scenario};
 
@@ -17,7 +19,7 @@ pub fn settle(problem: &Problem, scenario: &mut Scenario)
     ensures settled { IsSettled problem.now scenario.new }
     ensures minimal { IsMinimalAbove problem.now [] scenario.old → IsMinimalAbove problem.now [] scenario.new }
 {
-    settle_without(problem, &[], scenario);
+    settle_without(problem, None, &[], scenario);
 }
 
 /// Renames a scenario of a symmetric problem, so that it is settled beside the floor, and each atom that stands in a cell of
@@ -31,11 +33,31 @@ pub fn settle_beside(problem: &Problem, floor: &Scenario, scenario: &mut Scenari
     ensures above { Includes scenario.old floor.now → Includes scenario.new floor.now }
     ensures minimal { IsMinimalAbove problem.now floor.now scenario.old → IsMinimalAbove problem.now floor.now scenario.new }
 {
-    settle_without(problem, floor.numbers(), scenario);
+    settle_without(problem, None, floor.numbers(), scenario);
+}
+
+/// Renames a scenario of a symmetric problem, as `settle_beside` does, by the problem's table.
+pub fn settle_by(problem: &Problem, images: &SwapImages, floor: &Scenario, scenario: &mut Scenario)
+    requires images { AreImages problem.now images.now }
+    requires cells { AreCells problem.now scenario.old }
+    requires symmetric { IsSymmetric problem.now }
+    ensures scenario { IsScenario problem.now scenario.new }
+    ensures renaming { IsRenamingBeside problem.now floor.now scenario.old scenario.new }
+    ensures settled { IsSettledBeside problem.now floor.now scenario.new }
+    ensures above { Includes scenario.old floor.now → Includes scenario.new floor.now }
+    ensures minimal { IsMinimalAbove problem.now floor.now scenario.old → IsMinimalAbove problem.now floor.now scenario.new }
+{
+    settle_without(problem, Some(images), floor.numbers(), scenario);
 }
 
 // Swaps neighbours that stand in none of these cells, until no such swap makes the scenario earlier.
-fn settle_without(problem: &Problem, floor: &[u32], scenario: &mut Scenario)
+fn settle_without(
+    problem: &Problem,
+    images: Option<&SwapImages>,
+    floor: &[u32],
+    scenario: &mut Scenario,
+)
+    requires images { IfSome images (λ table. AreImages problem.now table.now) }
     requires cells { AreCells problem.now scenario.old }
     requires symmetric { IsSymmetric problem.now }
     ensures scenario { IsScenario problem.now scenario.new }
@@ -46,11 +68,17 @@ fn settle_without(problem: &Problem, floor: &[u32], scenario: &mut Scenario)
 {
     let _ = problem.relations(); // for the proof
     let _ = scenario.numbers(); // for the proof
-    'swaps: while swap_once(problem, floor, scenario) {}
+    'swaps: while swap_once(problem, images, floor, scenario) {}
 }
 
 // Swaps two neighbours that stand in none of these cells, if some such swap makes the scenario earlier, and says whether it did.
-fn swap_once(problem: &Problem, floor: &[u32], scenario: &mut Scenario) -> bool
+fn swap_once(
+    problem: &Problem,
+    images: Option<&SwapImages>,
+    floor: &[u32],
+    scenario: &mut Scenario,
+) -> bool
+    requires images { IfSome images (λ table. AreImages problem.now table.now) }
     requires scenario { IsScenario problem.now scenario.old }
     requires symmetric { IsSymmetric problem.now }
     ensures scenario { IsScenario problem.now scenario.new }
@@ -58,7 +86,7 @@ fn swap_once(problem: &Problem, floor: &[u32], scenario: &mut Scenario) -> bool
     ensures earlier { IsTrue result → IsEarlier scenario.new scenario.old }
     ensures settled { result ≡ false → IsSettledBeside problem.now floor.now scenario.new }
 {
-    match earlier_swap(problem, floor, scenario) {
+    match earlier_swap(problem, images, floor, scenario) {
         Some((first, second)) => {
             scenario.swap_atoms(problem, first, second);
             true

@@ -3,6 +3,7 @@ ghost use Rattle.std.specs.Prelude.{◌≡◌, ◌<◌, ◌≤◌, ◌^◌, leng
 ghost use Rattle.rel_formula.specs.Bounds.{cells_of};
 ghost use Rattle.rel_formula.specs.Renaming.{IsSymmetric};
 ghost use Rattle.rel_terms.specs.Terms.{IsTranslatable};
+ghost use Rattle.swap_symmetry.specs.Images.{AreImages};
 ghost use Rattle.translation_rules.specs.Translation.{SwapClauses};
 ghost use Rattle.translation.specs.Numbered.{pair_of, highest_var, vars_of};
 ghost use Rattle.translation.specs.Kept.{IsTranslation};
@@ -14,11 +15,11 @@ use rel_formula::Problem;
 use rel_translate::circuit_of;
 use std::alloc::{AllocError, Global};
 use std::marker::Model;
-use swap_symmetry::neighbours;
+use swap_symmetry::{SwapImages, neighbours};
 use tuple_core::Atom;
 
-/// A symmetric problem, the clauses that its instances satisfy, and for each swap of neighbouring atoms the clauses which say
-/// that it makes nothing earlier.
+/// A symmetric problem, the clauses that its instances satisfy, for each swap of neighbouring atoms the clauses which say
+/// that it makes nothing earlier, and the images of the cells under these swaps.
 ///
 /// The variable of cell n is n + 1. Each swap has fresh variables of its own, behind those of the problem's clauses.
 pub struct Translation {
@@ -26,6 +27,7 @@ pub struct Translation {
     cnf: Cnf,
     pairs: Vec<(Atom, Atom)>,
     swaps: Vec<Cnf>,
+    images: SwapImages,
 }
 
 // By hand, so that a caller's proof has one step wherever one is dropped.
@@ -36,6 +38,7 @@ impl Drop for Translation {
             cnf: _,
             pairs: _,
             swaps: _,
+            images: _,
         } = self;
     }
 }
@@ -44,6 +47,7 @@ impl Model for Translation {
     ghost use Rattle.std.specs.Coded.{codes};
     ghost use Rattle.rel_formula.specs.Code.{formula_code};
     ghost use Rattle.std.specs.Prelude.{◌≡◌, length};
+    ghost use Rattle.swap_symmetry.specs.Images.{AreImages};
     ghost use Rattle.translation_rules.specs.Translation.{Translated};
     ghost use Rattle.translation.specs.Numbered.{swaps_of};
     ghost use Rattle.translation.specs.Kept.{IsTranslation};
@@ -54,7 +58,7 @@ impl Model for Translation {
 
     ghost view = { λ t. record { problem = t.problem; cnf = t.cnf; swaps = swaps_of t.pairs.items t.swaps.items } };
 
-    ghost invariant = { λ t. (length t.swaps.items ≡ length t.pairs.items) × IsTranslation (record { problem = t.problem; cnf = t.cnf; swaps = swaps_of t.pairs.items t.swaps.items }) };
+    ghost invariant = { λ t. (length t.swaps.items ≡ length t.pairs.items) × IsTranslation (record { problem = t.problem; cnf = t.cnf; swaps = swaps_of t.pairs.items t.swaps.items }) × AreImages t.problem t.images };
 }
 
 impl Translation {
@@ -71,11 +75,13 @@ impl Translation {
             clauses_of(alloc, &made.circuit, made.node)?
         };
         let swaps = clauses_of_pairs(alloc, &problem, cnf.vars(), pairs.as_slice())?;
+        let images = SwapImages::of(alloc, &problem)?;
         Ok(Translation {
             problem,
             cnf,
             pairs,
             swaps,
+            images,
         })
     }
 
@@ -108,6 +114,14 @@ impl Translation {
     {
         &self.swaps[place as usize]
     }
+
+    /// The images of the problem's cells under the swaps.
+    pub fn images(&self) -> &SwapImages
+        ensures { AreImages self.now.problem result.now }
+    {
+        &self.images
+    }
+
     /// The highest variable of all these clauses: of the problem's and of those of the swaps.
     pub fn vars(&self) -> u32
         ensures highest { result ≡ vars_of self.now }

@@ -5,7 +5,9 @@ use rel_formula::{Expression, Formula, Problem};
 use sample_problems::{arrows, chosen, two_sets_of};
 use std::alloc::{AllocError, Global};
 use std::test::Fail;
-use swap_symmetry::{earlier, is_settled, is_settled_beside, settle, settle_beside};
+use swap_symmetry::{
+    SwapImages, earlier, is_settled, is_settled_beside, settle, settle_beside, settle_by,
+};
 
 // The atoms at these places, all of which are there, and any arrows among them.
 fn arrows_among(alloc: Global, places: &[u16]) -> Result<Problem, Fail> {
@@ -138,7 +140,7 @@ fn becomes(
     Ok(scenario.numbers() == wanted)
 }
 
-// Whether the second scenario, made settled beside the first, is the third.
+// Whether the second scenario, made settled beside the first, is the third, and so by the table of images.
 fn becomes_beside(
     alloc: Global,
     problem: &Problem,
@@ -151,7 +153,10 @@ fn becomes_beside(
     let floor = chosen(alloc, problem, floor)?;
     let mut scenario = chosen(alloc, problem, numbers)?;
     settle_beside(problem, &floor, &mut scenario);
-    Ok(scenario.numbers() == wanted)
+    let images = SwapImages::of(alloc, problem)?;
+    let mut other = chosen(alloc, problem, numbers)?;
+    settle_by(problem, &images, &floor, &mut other);
+    Ok(scenario.numbers() == wanted && other.numbers() == wanted)
 }
 
 // Whether it is so for two sets, P and Q, of the atoms at these places: the cells are P of the atoms, and then Q of the atoms.

@@ -7,7 +7,7 @@ use samples::sample_translations::translated_sets;
 use std::alloc::{AllocError, Global};
 use std::process::Abort;
 use std::test::Fail;
-use swap_symmetry::is_settled_beside;
+use swap_symmetry::{is_settled_beside, is_settled_by};
 use translation::Translation;
 
 // The values that these cells force, variable by variable from 1 on: true, false, or none where a variable is open.
@@ -126,7 +126,8 @@ fn every_scenario_of_two_sets(rt: HostRuntime) -> Result<(), Fail> {
     Ok(())
 }
 
-// Whether the clauses of the swaps beside the floor of these bits, where these atoms stand, say what is settled there.
+// Whether the clauses of the swaps beside the floor of these bits, where these atoms stand, say what is settled there,
+// and so does the table of images.
 fn says_what_is_settled(
     rt: &impl Abort,
     alloc: Global,
@@ -137,7 +138,9 @@ fn says_what_is_settled(
 ) -> Result<bool, AllocError> {
     let floor = scenario_of(alloc, made.problem(), bits)?;
     let free = can_satisfy_swaps(rt, alloc, made, atoms, scenario)?;
-    Ok(free == is_settled_beside(made.problem(), &floor, scenario))
+    let beside = is_settled_beside(made.problem(), &floor, scenario);
+    let by = is_settled_by(made.problem(), made.images(), &floor, scenario);
+    Ok(free == beside && free == by)
 }
 
 // The floors are none, and the cells of P of each atom.

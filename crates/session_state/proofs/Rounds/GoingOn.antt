@@ -1,5 +1,7 @@
 -- Rounds of a search that is gone on with.
 use Rattle.std.proofs.Common.{◌≡◌, inl, inr, ◌≤◌, ◌+◌, ◌∙◌, ℕ, Bool, true, false, List, [], ◌∷◌, ◌++◌, length, map, refl, sym, ap, ap₂, subst, arith, append_assoc, append-nil}
+use Rattle.std.specs.Global.{Vec}
+use Rattle.std.specs.Prelude.{MatchBool}
 use Rattle.std.proofs.lemmas.List.{length-map, map-append}
 use Rattle.std.proofs.lemmas.List.Elements.{All-map}
 use Rattle.cnf_core.specs.declared.literal.Lit.{Lit}
@@ -31,7 +33,7 @@ use Rattle.session_state.specs.declared.search_rounds.round.RoundEnd.{RoundEnd}
 use Rattle.session_state.specs.declared.search_rounds.round.RoundEnd.TheVariants.{Due, Copy, Refuted, Spent}
 use Rattle.session_state.specs.Rounds.Rounds.{left_in, parts_in, IsRoundAt, IsRightRound, IsStoppedRound}
 use Rattle.session_state.specs.Rounds.Descended.{DescendsTo}
-use Rattle.session_state.specs.Rounds.Going.{IsGoing, GoesOnWith, HasLocals, IsCopied, kept_in, silent, telling}
+use Rattle.session_state.specs.Rounds.Going.{IsGoing, GoesOnWith, HasLocals, IsCopied, IsUntold, kept_in, silent, telling}
 use Rattle.session_state.proofs.Rounds.SearchedRounds.{right_round, stopped_round, search_and_descent}
 
 -- what is said of a formula and of local clauses is said of equal ones
@@ -71,11 +73,12 @@ module _ (t : Translated) (pool : List LogStep) (floor : List ℕ) (blocked : Li
     last : IfBlocked f (local ++ clause ∷ []) pool clause old new is
     last = says local [] (sym (append-nil local)) behind
 
-    pub is_blocked : is ≡ true → IsGoing t pool floor (blocked ++ copy ∷ []) new
-    is_blocked said = kept_over f t.cnf (local ++ clause ∷ []) (locals_of t floor (blocked ++ copy ∷ [])) pool new f_is all_local (subst (IfBlocked f (local ++ clause ∷ []) pool clause old new) said last)
+    or_stays : (b : Bool) → IfBlocked f (local ++ clause ∷ []) pool clause old new b → MatchBool b (IsGoing t pool floor (blocked ++ copy ∷ []) new) (new ≡ old)
+    or_stays true kept = kept_over f t.cnf (local ++ clause ∷ []) (locals_of t floor (blocked ++ copy ∷ [])) pool new f_is all_local kept
+    or_stays false (same, why) = same
 
-    pub stays : is ≡ false → new ≡ old
-    stays said = let same : IfBlocked f (local ++ clause ∷ []) pool clause old new false = subst (IfBlocked f (local ++ clause ∷ []) pool clause old new) said last in same.0
+    pub blocked_or_same : MatchBool is (IsGoing t pool floor (blocked ++ copy ∷ []) new) (new ≡ old)
+    blocked_or_same = or_stays is last
 
 -- how a round ends, with the search and the local clauses that there are then; so much was left behind its descent
 pub record IsRoundOf (t : Translated) (pool : List LogStep) (floor : List ℕ) (shown blocked : List (List ℕ)) (budget : ℕ) (k : Kept) (clauses : List (List Lit)) (over : ℕ) (end : RoundEnd) : Type 0 where
@@ -114,6 +117,31 @@ module _ (t : Translated) (pool : List LogStep) (floor : List ℕ) (shown blocke
     silent_right : IsRightRound t pool floor shown blocked left end
     silent_right = right_round t pool floor shown blocked left (silent t floor blocked) start found left quiet end d
 
+    -- it came to a copy: what is kept is left too
+    pub untold : (copy : List ℕ) (all : Vec Parted) (rest over : ℕ) → end ≡ Copy copy all rest → over ≡ rest + length k.steps → IsUntold t pool floor shown blocked budget k copy all.items over
+    untold copy all rest over is over_is =
+        let down = subst (DescendsTo t pool floor shown (silent t floor blocked) start left) is d in
+        record {
+          start = start;
+          found = found;
+          no_chain = open';
+          left = left;
+          room = room;
+          parts = down.parts;
+          in_order = down.in_order;
+          descent = down.descent;
+          is_copy = down.leads.0;
+          within = down.leads.1;
+          rest = rest;
+          units = down.leads.2;
+          over_is = over_is;
+        }
+
+    pub copy_right : (copy : List ℕ) (all : Vec Parted) (rest over : ℕ) → end ≡ Copy copy all rest → over ≡ rest + length k.steps → IsRightRound t pool floor shown blocked budget (Copy copy all over)
+    copy_right copy all rest over is over_is =
+        let right : IsRightRound t pool floor shown blocked left (Copy copy all rest) = subst (IsRightRound t pool floor shown blocked left) is silent_right in
+        (right.0, right.1, let all_units = right.2 in omega arith)
+
   -- what is kept, told
   so_far : IsSoFar given own (length t.cnf.clauses) (told k)
   so_far = told_so_far t.cnf own pool k.trail.clauses k.trail.vars k.assumed k.numbers k.steps going.holds open'
@@ -137,8 +165,8 @@ module _ (t : Translated) (pool : List LogStep) (floor : List ℕ) (shown blocke
 
   -- a round that came to a copy, which is blocked
   module _ (copy : List ℕ) (parts : List Parted) (rest : ℕ) (descent : IsDescent t pool floor start left parts) (is_copy : IsCopy t.problem floor shown copy) (within : Includes start copy) (units : novel_in t pool parts + 1 + rest ≡ left)
-      (new : Kept) (clauses : List (List Lit)) where
-    pub copied_round : (end : RoundEnd) → IsCopied t pool floor blocked k new clauses copy parts rest end → IsRoundOf t pool floor shown blocked budget new clauses rest end
+      (over0 : ℕ) (over0_is : over0 ≡ rest + length k.steps) (new : Kept) (clauses : List (List Lit)) where
+    pub copied_round : (end : RoundEnd) → IsCopied t pool floor blocked k new clauses copy parts over0 end → IsRoundOf t pool floor shown blocked budget new clauses rest end
     copied_round (Due scenario all) never = absurd never
     copied_round (Copy scenario all over) (same, goes, now, inl (items, steps, more)) =
         let end : RoundEnd = Copy scenario all rest in

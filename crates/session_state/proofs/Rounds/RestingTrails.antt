@@ -9,24 +9,11 @@ use Rattle.sat_trail.specs.Trailed.{Trailed, IsBase}
 use Rattle.minimiser.specs.Lowering.{IsOver}
 use Rattle.sat_core.specs.Kept.{Kept, IsKept, IfBlocked}
 use Rattle.session_state.specs.declared.search_rounds.trails.Trails.{Trails}
-use Rattle.translation_rules.specs.Translation.{Translated}
-use Rattle.session_state.specs.declared.search_rounds.round.RoundEnd.{RoundEnd}
-use Rattle.session_state.specs.declared.search_rounds.round.RoundEnd.TheVariants.{Due, Copy, Refuted, Spent}
-use Rattle.session_state.specs.Rounds.Resting.{IsRested, CanGoOn}
-use Rattle.session_state.specs.Rounds.Going.{GoesOnWith, HasLocals, MayRest}
+use Rattle.session_state.specs.Rounds.Resting.{CanGoOn}
 
 -- with more steps allowed
 pub can_keep_more : (f : Formula) (local : List (List Lit)) (pool : List LogStep) (less most : ℕ) → less ≤ most → (trails : Trails) → CanGoOn f local pool less trails → CanGoOn f local pool most trails
-can_keep_more f local pool less most low trails go = record { formula_is = go.formula_is; pool_is = go.pool_is; base = go.base; descents = go.descents; search = go.search; few = let few = go.few in omega arith }
-
--- trails that can be gone on with can rest
-pub can_rest : (f : Formula) (local : List (List Lit)) (pool : List LogStep) (most : ℕ) (trails : Trails) → CanGoOn f local pool most trails
-    → IsRested (record { formula = trails.formula; pool = trails.pool; local = local; base = trails.base; descents = trails.descents; search = trails.search })
-can_rest f local pool most trails go = (
-  subst (λ (g : Formula). IsBase g trails.base) (sym go.formula_is) go.base,
-  subst (λ (g : Formula). IsOver g trails.descents) (sym go.formula_is) go.descents,
-  subst (λ (g : Formula). IsKept g local trails.pool trails.search) (sym go.formula_is) (subst (λ (steps : List LogStep). IsKept f local steps trails.search) (sym go.pool_is) go.search),
-)
+can_keep_more f local pool less most low trails go = record { known = go.known; base = go.base; descents = go.descents; search = go.search; few = let few = go.few in omega arith }
 
 -- a trail of one formula is one of an equal formula
 pub same_base : (f g : Formula) (t : Trailed) → f ≡ g → IsBase f t → IsBase g t
@@ -46,10 +33,3 @@ blocked_at f local pool place clause was now is low blocked it_is =
     let first = take place local in
     let rest = drop place local in
     subst (λ (b : Bool). IfBlocked f (first ++ clause ∷ rest) pool clause was now b) it_is (blocked first rest (sym (take-append-drop place local)) (sym (length-take-le place local low)))
-
--- the search goes on with the local clauses behind a round where it may
-pub goes_on_behind_round : (t : Translated) (pool : List LogStep) (floor : List ℕ) (blocked : List (List ℕ)) (k : Kept) (local : List (List Lit)) (end : RoundEnd) → MayRest end → GoesOnWith t pool floor blocked k end → HasLocals t floor blocked local end → IsKept t.cnf local pool k
-goes_on_behind_round t pool floor blocked k local (Due scenario parts) may goes here = subst (λ (ls : List (List Lit)). IsKept t.cnf ls pool k) (sym here) goes
-goes_on_behind_round t pool floor blocked k local (Copy scenario parts left) may (goes, few) here = subst (λ (ls : List (List Lit)). IsKept t.cnf ls pool k) (sym here) goes
-goes_on_behind_round t pool floor blocked k local (Refuted part) may goes here = absurd may
-goes_on_behind_round t pool floor blocked k local (Spent parts) may goes here = absurd may

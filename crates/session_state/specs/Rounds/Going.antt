@@ -2,9 +2,14 @@
 use Rattle.std.specs.Prelude.{◌≡◌, ◌⊎◌, ◌≤◌, ◌+◌, ◌++◌, ◌∷◌, [], ℕ, List, length}
 use Rattle.cnf_core.specs.declared.literal.Lit.{Lit}
 use Rattle.refutation_check.specs.declared.log.Step.{Step as LogStep}
+use Rattle.refutation_check.specs.Chain.{IsChain, members_of}
 use Rattle.refutation_check.specs.Part.{Parted}
+use Rattle.rel_formula.specs.Instance.{Includes}
 use Rattle.translation_rules.specs.Translation.{Translated}
-use Rattle.translation_rules.specs.Locals.{locals_of}
+use Rattle.translation_rules.specs.Locals.{IsLeft, locals_of}
+use Rattle.translation_rules.specs.Parts.{novel_in}
+use Rattle.minimiser.specs.Down.{IsDescent}
+use Rattle.session_rules.specs.Proofs.{IsCopy}
 use Rattle.sat_core.specs.Kept.{Kept, IsKept, told}
 use Rattle.session_state.specs.declared.search_rounds.round.RoundEnd.{RoundEnd}
 use Rattle.session_state.specs.declared.search_rounds.round.RoundEnd.TheVariants.{Due, Copy, Refuted, Spent}
@@ -28,13 +33,6 @@ HasLocals t floor blocked local (Due scenario parts) = local ≡ locals_of t flo
 HasLocals t floor blocked local (Copy scenario parts left) = local ≡ locals_of t floor (blocked ++ scenario ∷ [])
 HasLocals t floor blocked local (Refuted part) = Unit {0}
 HasLocals t floor blocked local (Spent parts) = Unit {0}
-
--- behind a round with this end a search can be gone on with
-abbrev pub MayRest : RoundEnd → Type 0
-MayRest (Due scenario parts) = Unit {0}
-MayRest (Copy scenario parts left) = Unit {0}
-MayRest (Refuted part) = ⊥
-MayRest (Spent parts) = ⊥
 
 -- where a scenario is shown, the search is one at the floor with these scenarios blocked
 abbrev pub StaysAt : Translated → List LogStep → List ℕ → List (List ℕ) → Kept → Found → Type 0
@@ -63,11 +61,34 @@ silent t floor blocked = record { local = locals_of t floor blocked; log = [] }
 abbrev pub telling : Translated → List ℕ → List (List ℕ) → Kept → Parted
 telling t floor blocked k = record { local = locals_of t floor blocked; log = told k }
 
--- the copy is blocked from now on, and what was kept is kept on, and left beside what was left; or the first part tells it, and nothing is kept
+-- the first part of a round tells nothing of what is kept, and its descent came to this copy: what is left with it, and what is kept, are left
+pub record IsUntold (t : Translated) (pool : List LogStep) (floor : List ℕ) (shown blocked : List (List ℕ)) (budget : ℕ) (k : Kept) (copy : List ℕ) (all : List Parted) (over : ℕ) : Type 0 where
+  pub start : List ℕ
+  pub found : IsLeft t.problem floor blocked start
+  pub no_chain : (hints : List ℕ) → ¬ IsChain (members_of (t.cnf.clauses ++ locals_of t floor blocked) pool) [] hints
+  pub left : ℕ
+  pub room : length k.steps + left ≡ budget
+  pub parts : List Parted
+  pub in_order : all ≡ silent t floor blocked ∷ parts
+  pub descent : IsDescent t pool floor start left parts
+  pub is_copy : IsCopy t.problem floor shown copy
+  pub within : Includes start copy
+  pub rest : ℕ
+  pub units : novel_in t pool parts + 1 + rest ≡ left
+  pub over_is : over ≡ rest + length k.steps
+
+-- and so it is where a round ends with a copy
+abbrev pub TellsNoCopy : Translated → List LogStep → List ℕ → List (List ℕ) → List (List ℕ) → ℕ → Kept → RoundEnd → Type 0
+TellsNoCopy t pool floor shown blocked budget k (Due scenario parts) = Unit {0}
+TellsNoCopy t pool floor shown blocked budget k (Copy scenario parts left) = IsUntold t pool floor shown blocked budget k scenario parts.items left
+TellsNoCopy t pool floor shown blocked budget k (Refuted part) = Unit {0}
+TellsNoCopy t pool floor shown blocked budget k (Spent parts) = Unit {0}
+
+-- the copy is blocked from now on, and what was kept is kept on, and stays left; or the first part tells it, and nothing is kept
 abbrev pub IsCopied : Translated → List LogStep → List ℕ → List (List ℕ) → Kept → Kept → List (List Lit) → List ℕ → List Parted → ℕ → RoundEnd → Type 0
 IsCopied t pool floor blocked old new local copy rest left (Due scenario parts) = ⊥
 IsCopied t pool floor blocked old new local copy rest left (Copy scenario parts over) =
     (scenario ≡ copy) × IsGoing t pool floor (blocked ++ copy ∷ []) new × (local ≡ locals_of t floor (blocked ++ copy ∷ []))
-    × (((parts.items ≡ silent t floor blocked ∷ rest) × (new.steps ≡ old.steps) × (over ≡ left + length old.steps)) ⊎ ((parts.items ≡ telling t floor blocked old ∷ rest) × (new.steps ≡ []) × (over ≡ left)))
+    × (((parts.items ≡ silent t floor blocked ∷ rest) × (new.steps ≡ old.steps) × (over ≡ left)) ⊎ ((parts.items ≡ telling t floor blocked old ∷ rest) × (new.steps ≡ []) × (over + length old.steps ≡ left)))
 IsCopied t pool floor blocked old new local copy rest left (Refuted part) = ⊥
 IsCopied t pool floor blocked old new local copy rest left (Spent parts) = ⊥

@@ -61,7 +61,8 @@ pub(crate) fn descended(
         Down::Minimal { scenario, parts } => {
             let over = left_after(parts.as_slice(), left);
             let all = led_by(alloc, part, parts)?;
-            due_or_copy(alloc, problem, floor, shown, scenario, all, over)
+            let images = translation.images();
+            due_or_copy(alloc, problem, images, floor, shown, scenario, all, over)
         }
         Down::Spent { parts } => {
             let all = led_by(alloc, part, parts)?;

@@ -52,8 +52,8 @@ pub enum Found {
 /// those that this call comes upon; each round but the last comes upon a new copy. The call takes at most `budget` units, novel
 /// steps and new copies, and exactly so many where it answers `Spent`; its searches raise the count by no more. The pool is an accepted log over the translation's clauses,
 /// of at most 20,000 steps; the blocked scenarios are at most 100,000,000, and so is the budget. What was kept serves where it is of such a
-/// search, and keeps no more than half of the budget; what is kept in its place serves the next call, where a scenario is shown. The error
-/// comes only for want of memory.
+/// search, and keeps no more than half of the budget; what is kept in its place serves the next call, where a scenario is shown and is not
+/// the first of these calls' (`KeptTrails::new`). The error comes only for want of memory.
 pub fn next_at(
     alloc: Global,
     translation: &Translation,
@@ -103,7 +103,7 @@ pub fn next_at(
         count,
     )?;
     if let Found::Shown { .. } = next.found {
-        kept.rest(trails, local.into_clauses());
+        kept.rest(alloc, translation, pool, trails, local.into_clauses())?;
     }
     Ok(next)
 }

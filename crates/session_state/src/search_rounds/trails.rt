@@ -1,11 +1,9 @@
 // What the searches of a session leave for those to come.
-ghost use Rattle.std.specs.Prelude.{◌≡◌, ◌<◌, ◌≤◌, ◌+◌, ◌^◌, ◌++◌, ℕ, List, IsTrue, IfOk, OnOk, length, take, drop};
+ghost use Rattle.std.specs.Prelude.{◌≡◌, ◌<◌, ◌≤◌, ◌+◌, ◌^◌, ◌++◌, ℕ, IsTrue, IfOk, IfSome, OnErr, OnOk, length, take, drop};
 ghost use Rattle.std.specs.List.{insert};
-ghost use Rattle.cnf_core.specs.Formula.{Formula};
-ghost use Rattle.refutation_check.specs.declared.log.Step.{Step as LogStep};
 ghost use Rattle.sat_trail.specs.Trailed.{IsBase};
 ghost use Rattle.sat_core.specs.Kept.{IsKept};
-ghost use Rattle.session_state.specs.Rounds.Resting.{CanGoOn};
+ghost use Rattle.session_state.specs.Rounds.Resting.{CanGoOn, IsOf};
 
 use crate::search_rounds::comparing::{are_moved, is_over, is_same_formula, is_same_log, shared};
 use cnf_core::{Clause, Cnf};
@@ -16,9 +14,12 @@ use std::marker::Model;
 use translation::Translation;
 
 /// What the searches of a session leave for those to come: the values that the last one found, and behind a scenario that was shown
-/// the trails, with what was learnt on them. It spares searches work, and decides which scenarios come first.
+/// the trails, with what was learnt on them. It spares searches work, and decides which scenarios come first. With the trails rest copies
+/// of the formula and of the pool, for which a session that shows one scenario would pay and get nothing: so its first trails don't rest.
 pub struct KeptTrails {
     pub(crate) leaning: SavedPhases,
+    // Whether trails rest: from the second time on that they can.
+    keeps: bool,
     resting: Option<Resting>,
 }
 
@@ -27,15 +28,16 @@ impl Drop for KeptTrails {
     fn drop(self) {
         let KeptTrails {
             leaning: _,
+            keeps: _,
             resting: _,
         } = self;
     }
 }
 
-/// The trails of a search at a floor: one of the formula, one for descents, and that of the search itself.
+/// The trails of a search at a floor: one of the formula, one for descents, and that of the search itself. Those that have rested know
+/// what they are over.
 pub(crate) struct Trails {
-    pub formula: Cnf,
-    pub pool: Log,
+    pub known: Option<Known>,
     pub base: Trail,
     pub descents: Trail,
     pub search: KeptSearch,
@@ -45,8 +47,7 @@ pub(crate) struct Trails {
 impl Drop for Trails {
     fn drop(self) {
         let Trails {
-            formula: _,
-            pool: _,
+            known: _,
             base: _,
             descents: _,
             search: _,
@@ -54,11 +55,21 @@ impl Drop for Trails {
     }
 }
 
+/// What trails are over: copies of the formula and of the pool.
+#[derive(Drop)]
+pub(crate) struct Known {
+    pub formula: Cnf,
+    pub pool: Log,
+}
+
 // A search that rests.
 #[derive(Drop)]
 struct Resting {
-    trails: Trails,
+    known: Known,
     local: Vec<Clause>,
+    base: Trail,
+    descents: Trail,
+    search: KeptSearch,
 }
 
 impl Model for Resting {
@@ -66,21 +77,20 @@ impl Model for Resting {
 
     ghost Value = { Rested };
 
-    ghost view = { λ r. record { formula = r.trails.formula; pool = r.trails.pool; local = r.local.items; base = r.trails.base; descents = r.trails.descents; search = r.trails.search } };
+    ghost view = { λ r. record { formula = r.known.formula; pool = r.known.pool; local = r.local.items; base = r.base; descents = r.descents; search = r.search } };
 
-    ghost invariant = { λ r. IsRested (record { formula = r.trails.formula; pool = r.trails.pool; local = r.local.items; base = r.trails.base; descents = r.trails.descents; search = r.trails.search }) };
+    ghost invariant = { λ r. IsRested (record { formula = r.known.formula; pool = r.known.pool; local = r.local.items; base = r.base; descents = r.descents; search = r.search }) };
 }
 
 impl KeptTrails {
-    /// Nothing is kept, and the first search leans to what is absent.
-    pub fn new(alloc: Global) -> KeptTrails {
-        KeptTrails::leaning_to(SavedPhases::towards(alloc, false))
-    }
-
-    /// Nothing is kept, and the first search leans to these values.
-    pub fn leaning_to(leaning: SavedPhases) -> KeptTrails {
+    /// Nothing is kept, and the first search leans to what is absent. Its trails won't rest, and those of the searches behind it will.
+    pub fn new(alloc: Global) -> KeptTrails
+        ensures resting { result.resting ≡ None }
+        ensures keeps { ¬ IsTrue result.keeps }
+    {
         KeptTrails {
-            leaning,
+            leaning: SavedPhases::towards(alloc, false),
+            keeps: false,
             resting: None,
         }
     }
@@ -96,7 +106,9 @@ impl KeptTrails {
         most: u64,
     ) -> Result<Trails, AllocError>
         requires few { length translation.now.cnf.clauses + length local.now + length pool.now + most + 1 < 2 ^ 30 }
-        ensures { IfOk result (CanGoOn translation.now.cnf local.now pool.now most) }
+        ensures trails { IfOk result (CanGoOn translation.now.cnf local.now pool.now most) }
+        ensures resting { self.new.resting ≡ None }
+        ensures keeps { self.new.keeps ≡ self.old.keeps }
     {
         match self.resting.take() {
             Some(resting) => resting.woken(alloc, translation, pool, local, most),
@@ -105,16 +117,66 @@ impl KeptTrails {
     }
 
     /// Lets go of the trails that rest, so that the next search begins anew.
-    pub(crate) fn let_go(&mut self) {
+    pub(crate) fn let_go(&mut self)
+        ensures resting { self.new.resting ≡ None }
+        ensures keeps { self.new.keeps ≡ self.old.keeps }
+        ensures leaning { self.new.leaning ≡ self.old.leaning }
+    {
         self.resting = None;
     }
 
-    /// Lets the trails of a search over these local clauses rest.
-    pub(crate) fn rest(&mut self, trails: Trails, local: Vec<Clause>)
-        requires { (f : Formula) × (pool : List LogStep) × (most : ℕ) × CanGoOn f local.items pool most trails }
+    /// Lets the trails of a search over these local clauses rest, with copies of what they are over; but the first ones of a session
+    /// don't, and it is only noted that there were some. The error comes only for want of memory, and leaves at rest what was.
+    pub(crate) fn rest(
+        &mut self,
+        alloc: Global,
+        translation: &Translation,
+        pool: &Log,
+        trails: Trails,
+        local: Vec<Clause>,
+    ) -> Result<(), AllocError>
+        requires { (most : ℕ) × CanGoOn translation.now.cnf local.items pool.now most trails }
+        ensures keeps { IsTrue self.new.keeps }
+        ensures first { ¬ IsTrue self.old.keeps → self.new.resting ≡ self.old.resting }
+        ensures rests { IsTrue self.old.keeps → OnOk result (self.new.resting ≡ Some (record { formula = translation.now.cnf; pool = pool.now; local = local.items; base = trails.base; descents = trails.descents; search = trails.search })) }
+        ensures err { OnErr result (self.new.resting ≡ self.old.resting) }
     {
-        let resting = Resting { trails, local };
+        if !self.keeps {
+            self.keeps = true;
+            return Ok(());
+        }
+        let resting = trails.at_rest(alloc, translation, pool, local)?;
         self.resting = Some(resting);
+        Ok(())
+    }
+}
+
+impl Trails {
+    // These trails of a search over these local clauses, at rest.
+    fn at_rest(
+        self,
+        alloc: Global,
+        translation: &Translation,
+        pool: &Log,
+        local: Vec<Clause>,
+    ) -> Result<Resting, AllocError>
+        requires { (most : ℕ) × CanGoOn translation.now.cnf local.items pool.now most self }
+        ensures { IfOk result (λ r. r ≡ record { formula = translation.now.cnf; pool = pool.now; local = local.items; base = self.base; descents = self.descents; search = self.search }) }
+    {
+        let Trails {
+            known,
+            base,
+            descents,
+            search,
+        } = self;
+        let known = known_of(alloc, known, translation.cnf(), pool)?;
+        Ok(Resting {
+            known,
+            local,
+            base,
+            descents,
+            search,
+        })
     }
 }
 
@@ -133,31 +195,45 @@ impl Resting {
     {
         let cnf = translation.cnf();
         let Resting {
-            mut trails,
+            known,
             local: old,
+            base,
+            descents,
+            mut search,
         } = self;
-        if !are_of(&trails, cnf, pool) {
+        if !is_of(&known, cnf, pool) {
             return begun(alloc, translation, pool, local);
         }
-        turn(
-            alloc,
-            &mut trails.search,
-            cnf,
-            &trails.base,
-            pool,
-            old,
-            local,
-            most,
-        )?;
-        Ok(trails)
+        turn(alloc, &mut search, cnf, &base, pool, old, local, most)?;
+        Ok(Trails {
+            known: Some(known),
+            base,
+            descents,
+            search,
+        })
     }
 }
 
-// Whether the trails are those of this formula and of this pool.
-fn are_of(trails: &Trails, f: &Cnf, pool: &Log) -> bool
-    ensures { IsTrue result → (trails.now.formula ≡ f.now) × (trails.now.pool ≡ pool.now) }
+// Whether these are copies of this formula and of this pool.
+fn is_of(known: &Known, f: &Cnf, pool: &Log) -> bool
+    ensures { IsTrue result → IsOf f.now pool.now known.now }
 {
-    is_same_formula(&trails.formula, f) && is_same_log(&trails.pool, pool)
+    is_same_formula(&known.formula, f) && is_same_log(&known.pool, pool)
+}
+
+// Copies of this formula and of this pool: those that are known, or new ones.
+fn known_of(alloc: Global, known: Option<Known>, f: &Cnf, pool: &Log) -> Result<Known, AllocError>
+    requires { IfSome known (IsOf f.now pool.now) }
+    ensures { IfOk result (IsOf f.now pool.now) }
+{
+    match known {
+        Some(known) => Ok(known),
+        None => {
+            let formula = f.copy(alloc)?;
+            let pool = pool.copy(alloc)?;
+            Ok(Known { formula, pool })
+        }
+    }
 }
 
 // The search is one over the second local clauses from now on: that one, where it can be, and keeps no more steps; else a new one.
@@ -198,11 +274,8 @@ fn begun(
     let base = Trail::over(alloc, cnf, translation.vars())?;
     let descents = base.copy(alloc)?;
     let search = KeptSearch::over(alloc, cnf, &base, pool, local)?;
-    let formula = cnf.copy(alloc)?;
-    let pool = pool.copy(alloc)?;
     Ok(Trails {
-        formula,
-        pool,
+        known: None,
         base,
         descents,
         search,

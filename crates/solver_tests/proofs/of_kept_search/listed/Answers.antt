@@ -1,4 +1,4 @@
-use Rattle.std.proofs.Common.{◌≡◌, ◌≤◌, ◌∙◌, List, All, length, arith, ap, subst, sym}
+use Rattle.std.proofs.Common.{List, All, length, arith, ap, subst, sym}
 use Rattle.cnf_core.specs.declared.literal.Lit.{Lit}
 use Rattle.cnf_core.specs.Literal.{HasVarsUpTo}
 use Rattle.sat_core.specs.declared.search.Answer.{Answer}
@@ -21,14 +21,14 @@ block_valuation-requires-clause-few c = omega (arith, c.requires.few, c.requires
 pub block_valuation-requires-clause-enough : goal.block_valuation-requires-clause-enough
 block_valuation-requires-clause-enough c = (subst (λ (a : Answer). IsAnswerTo c.args.f.now c.as_slice.result.now c.args.pool.now 1000 a) c.in-Found.is c.in_ok-answer.ensures.answer).right.0.enough
 
-pub is_told-requires-clause-log : goal.is_told-requires-clause-log
-is_told-requires-clause-log c =
+pub left_out-requires-clause-log : goal.left_out-requires-clause-log
+left_out-requires-clause-log c =
     let right = subst (λ (a : Answer). IsAnswerTo c.args.f.now c.as_slice.result.now c.args.pool.now 1000 a) c.in-Refuted.is c.in_ok-answer.ensures.answer in
     let locals = subst (λ (ls : List (List Lit)). All (HasVarsUpTo c.args.f.now.vars) ls) (sym c.as_slice.ensures.value) c.loop-number.invariant.locals in
     right.in_range c.args.f.now.vars c.vars-vars.ensures.formula.within locals (λ k d h. absurd (omega (arith, h, c.requires.none)))
 
-pub is_told-requires-clause-steps : goal.is_told-requires-clause-steps
-is_told-requires-clause-steps c = c.in_ok-answer.ensures.kept.holds.within
+pub left_out-requires-clause-steps : goal.left_out-requires-clause-steps
+left_out-requires-clause-steps c = c.in_ok-answer.ensures.kept.holds.within
 
 pub loop-number-preserved : goal.loop-number-preserved
 loop-number-preserved c =

@@ -59,8 +59,7 @@ returns-clause-blocked c =
     subst (λ (x : Kept). KeepsTo f (first ++ rest) pool x.trail.clauses x.trail.vars x.assumed x.numbers x.steps) (sym c.self.view_is)
     (subst (λ (ls : List (List Lit)). KeepsTo f ls pool c.args.self.now.trail.clauses c.args.self.now.trail.vars c.args.self.now.assumed c.args.self.now.numbers c.args.self.now.steps) local_is c.requires.kept.holds) in
     let longer : (l : Lit) → clause ≡ l ∷ [] → ⊥ = λ l e. c.if-lits-eq1.false (ap length (c.lits.ensures.lits ∙ e)) in
-    let none = subst (λ b. MatchBool b (IsContainedIn clause c.steps.result.now) (All (λ (s : Step). ¬ Subsumes clause s.clause) c.steps.result.now)) c.if-is_contained.false c.is_contained.ensures in
-    let new : All (λ (s : Step). ¬ Subsumes clause s.clause) k.steps = subst (All (λ (s : Step). ¬ Subsumes clause s.clause)) c.steps.ensures.steps none in
+    let new : All (λ (s : Step). ¬ Subsumes clause s.clause) k.steps = subst (λ b. MatchBool b (IsContainedIn clause k.steps) (All (λ (s : Step). ¬ Subsumes clause s.clause) k.steps)) c.if-is_contained.false c.is_contained.ensures in
     let above : c.len.result + c.args.place ≡ length f.clauses + length first = omega (arith, c.len.ensures.len, place_is) in
     let numbers_are : c.push.new.self.items ≡ map (lifted_hint (length f.clauses + length first) 1) k.numbers.items ++ (length f.clauses + length first + 1) ∷ [] =
     c.in_ok-push.ensures.items ∙ ap (λ (ns : List ℕ). ns ++ (c.len.result + c.args.place + 1) ∷ []) (c.in_ok-numbers.ensures ∙ ap (map (lifted_hint (c.len.result + c.args.place) 1)) c.as_slice.ensures.value)

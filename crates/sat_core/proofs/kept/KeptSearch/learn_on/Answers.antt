@@ -3,7 +3,7 @@ use Rattle.cnf_core.specs.declared.literal.Lit.{Lit}
 use Rattle.refutation_check.specs.declared.log.Step.{Step}
 use Rattle.refutation_check.specs.Chain.{members_of}
 use Rattle.sat_core.specs.Kept.{Kept, KeepsTo, IsLearntTo, numbers_from}
-use Rattle.sat_core.specs.Lent.{IsEnding, IsLearnt, IsStanding, steps_of}
+use Rattle.sat_core.specs.Lent.{IsEnding, IsLearnt, IsStanding}
 use Rattle.sat_core.specs.Search.{IsVarIn}
 use Rattle.sat_core.proofs.Answered.{given_count}
 use Rattle.sat_core.proofs.Going.{all_learnt}
@@ -35,6 +35,11 @@ returns-clause-kept c =
           (subst (λ (cs : List (List Lit)). KeepsTo f local pool cs k.trail.vars k.assumed.items c.keep_all.new.numbers.items c.keep_all.new.steps) (sym clauses_are) kept);
       stands = subst (λ (ls : List Lit). IsStanding ls c.settle.new.depth c.settle.new.trail) c.as_slice-assumed.ensures.value c.settle.ensures.stands;
     }
+
+pub returns-clause-stays : goal.returns-clause-stays
+returns-clause-stays c =
+    let log : List Step = c.log_of.result.now in
+    (log, c.in_ok-keep_all.ensures.steps ∙ ap (λ (x : Kept). x.steps ++ log) c.self.view_is)
 
 pub returns-clause-end : goal.returns-clause-end
 returns-clause-end c =

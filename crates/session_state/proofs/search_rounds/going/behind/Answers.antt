@@ -1,40 +1,23 @@
-use Rattle.std.proofs.Common.{◌≡◌, ◌≤◌, ◌+◌, ◌^◌, ◌∷◌, ℕ, List, IfOk, length, ap, subst, arith}
-use Rattle.std.proofs.lemmas.Result.{IfOk-weaker}
-use Rattle.cnf_core.specs.declared.literal.Lit.{Lit}
-use Rattle.refutation_check.specs.Part.{Parted}
+use Rattle.std.proofs.Common.{◌≡◌, ◌≤◌, ◌+◌, ◌^◌, ℕ, List, length, ap, subst, arith}
 use Rattle.sat_core.specs.Kept.{Kept}
 use Rattle.translation_rules.specs.Locals.{locals_of}
 use Rattle.session_state.specs.declared.search_rounds.round.RoundEnd.{RoundEnd}
 use Rattle.session_state.specs.declared.search_rounds.round.RoundEnd.TheVariants.{Due, Spent}
-use Rattle.session_state.specs.Rounds.Rounds.{left_in}
+use Rattle.session_state.specs.Rounds.Rounds.{left_in, parts_in, IsRoundAt}
 use Rattle.session_state.specs.Rounds.Descended.{DescendsTo}
-use Rattle.session_state.specs.Rounds.Going.{IsCopied, silent, telling}
-use Rattle.session_state.proofs.Rounds.GoingOn.{IsRoundOf, copied_round, silent_round, told_right, told_round, told_stopped}
+use Rattle.session_state.specs.Rounds.Going.{silent, telling}
+use Rattle.session_state.proofs.Rounds.GoingOn.{copy_right, silent_round, told_right, told_round, told_stopped, untold}
 use Rattle.session_state.proofs.search_rounds.going.behind.Goals as goal
 
-pub copied-requires-clause-copy : goal.copied-requires-clause-copy
-copied-requires-clause-copy c =
+pub overflow_add-left : goal.overflow_add-left
+overflow_add-left c =
     let t = c.args.translation.now in
-    let floor = c.args.floor.now in
-    let d = subst (DescendsTo t c.args.pool.now floor c.args.shown.now (silent t floor c.args.blocked.now) c.args.start.now c.args.left) c.in-Copy.is c.requires.down in
-    d.leads.0.minimal.instance_of.scenario.cells
-
-pub copied-requires-clause-few : goal.copied-requires-clause-few
-copied-requires-clause-few c =
-    let t = c.args.translation.now in
-    let floor = c.args.floor.now in
-    let d = subst (DescendsTo t c.args.pool.now floor c.args.shown.now (silent t floor c.args.blocked.now) c.args.start.now c.args.left) c.in-Copy.is c.requires.down in
+    let d = subst (DescendsTo t c.args.pool.now c.args.floor.now c.args.shown.now (silent t c.args.floor.now c.args.blocked.now) c.args.start.now c.args.left) c.in-Copy.is c.requires.down in
     let units = d.leads.2 in
-    let few = c.requires.few in
     let room = c.requires.room in
+    let few = c.requires.budget in
+    let long = c.len.ensures in
     omega arith
-
-pub copied-requires-clause-parts : goal.copied-requires-clause-parts
-copied-requires-clause-parts c =
-    let t = c.args.translation.now in
-    let floor = c.args.floor.now in
-    let d = subst (DescendsTo t c.args.pool.now floor c.args.shown.now (silent t floor c.args.blocked.now) c.args.start.now c.args.left) c.in-Copy.is c.requires.down in
-    (d.parts, d.in_order)
 
 pub returns-in-Copy : goal.returns-in-Copy
 returns-in-Copy c =
@@ -46,25 +29,18 @@ returns-in-Copy c =
     let start = c.args.start.now in
     let left = c.args.left in
     let budget = c.args.budget in
+    let k : Kept = c.args.search.now in
     let copy : List ℕ = c.in-Copy.scenario in
     let rest = c.in-Copy.rest in
-    let old : Kept = c.args.search.now in
-    let new : Kept = c.copied.new.search in
-    let clauses : List (List Lit) = c.copied.new.local in
-    let d = subst (DescendsTo t pool floor shown (silent t floor blocked) start left) c.in-Copy.is c.requires.down in
-    let Ended : RoundEnd → Type 0 = IsRoundOf t pool floor shown blocked budget new clauses rest in
-    let Copied : RoundEnd → Type 0 = λ end. (others : List Parted) → c.in-Copy.parts.items ≡ silent t floor blocked ∷ others → IsCopied t pool floor blocked old new clauses copy others rest end in
-    let all : IfOk c.copied.result Ended =
-    IfOk-weaker c.copied.result Copied Ended
-    (λ end is. copied_round t pool floor shown blocked start c.requires.start left budget old c.requires.going c.requires.open c.requires.room copy d.parts rest d.descent d.leads.0 d.leads.1 d.leads.2 new clauses end (is d.parts d.in_order)) c.copied.ensures in
-    let over : left_in c.args.end ≡ rest = ap left_in c.in-Copy.is in
+    let over = rest + c.len.result in
+    let over_is : over ≡ rest + length k.steps = ap (λ (n : ℕ). rest + n) c.len.ensures in
+    let left_is : left_in c.args.end ≡ rest = ap left_in c.in-Copy.is in
     record {
-      parts = IfOk-weaker c.copied.result Ended _ (λ end is. is.parts) all;
-      answer = IfOk-weaker c.copied.result Ended _ (λ end is. is.answer) all;
-      stopped = IfOk-weaker c.copied.result Ended _ (λ end is. is.stopped) all;
-      going = IfOk-weaker c.copied.result Ended _ (λ end is. is.going) all;
-      local = IfOk-weaker c.copied.result Ended _ (λ end is. is.local) all;
-      left = IfOk-weaker c.copied.result Ended _ (λ end is. let less = is.left in omega arith) all;
+      parts = subst (λ (e : RoundEnd). IsRoundAt t pool floor blocked budget (parts_in e)) c.in-Copy.is (silent_round t pool floor shown blocked start c.requires.start left budget k c.requires.going c.requires.open c.requires.room c.args.end c.requires.down);
+      answer = copy_right t pool floor shown blocked start c.requires.start left budget k c.requires.going c.requires.open c.requires.room c.args.end c.requires.down copy c.in-Copy.parts rest over c.in-Copy.is over_is;
+      stopped = tt;
+      untold = untold t pool floor shown blocked start c.requires.start left budget k c.requires.going c.requires.open c.requires.room c.args.end c.requires.down copy c.in-Copy.parts rest over c.in-Copy.is over_is;
+      left = omega arith;
     }
 
 pub told-requires-clause-within : goal.told-requires-clause-within
@@ -100,8 +76,7 @@ returns-in_ok-parts-in-Spent c =
       parts = told_round t pool floor shown blocked start c.requires.start left budget k c.requires.going c.requires.open c.requires.room end told;
       answer = told_right t pool floor shown blocked start c.requires.start left budget k c.requires.going c.requires.open c.requires.room end told;
       stopped = told_stopped t pool floor shown blocked start c.requires.start left budget k c.requires.going c.requires.open c.requires.room end told;
-      going = tt;
-      local = tt;
+      untold = tt;
       left = omega arith;
     }
 
@@ -120,8 +95,7 @@ returns-in-Due c =
       parts = silent_round t pool floor shown blocked start c.requires.start left c.args.budget c.args.search.now c.requires.going c.requires.open c.requires.room end d;
       answer = d.leads;
       stopped = tt;
-      going = c.requires.going;
-      local = c.requires.local;
+      untold = tt;
       left = omega arith;
     }
 

@@ -1,99 +1,36 @@
-use Rattle.std.proofs.Common.{◌≡◌, ◌<◌, ◌≤◌, ◌+◌, ◌^◌, ◌∷◌, [], ◌++◌, inl, inr, List, All, AllPairs, length, refl, sym, ◌∙◌, ap, subst, arith}
+use Rattle.std.proofs.Common.{◌≡◌, ◌≤◌, ◌+◌, ◌^◌, ◌∷◌, [], ◌++◌, inl, inr, List, length, refl, sym, ◌∙◌, ap, subst, arith}
+use Rattle.std.specs.Prelude.{MatchBool}
 use Rattle.std.proofs.lemmas.List.{length_push}
 use Rattle.cnf_core.specs.declared.literal.Lit.{Lit}
-use Rattle.cnf_core.specs.Formula.{Formula}
-use Rattle.cnf_core.specs.Literal.{HasVarsUpTo, IsVariable}
-use Rattle.rel_formula.specs.Bounds.{cells_of}
-use Rattle.sat_trail.specs.Trailed.{IsBase}
-use Rattle.sat_core.specs.Kept.{Kept, AreWithin}
-use Rattle.translation_rules.specs.Translation.{var_of}
-use Rattle.translation_rules.specs.Locals.{absence_in, locals_of}
-use Rattle.translation_rules.proofs.Locals.Cells.{have_variables}
+use Rattle.sat_core.specs.Kept.{Kept, IsKept, AreWithin}
+use Rattle.translation_rules.specs.Locals.{locals_of}
 use Rattle.session_state.specs.Rounds.Going.{IsGoing, silent, telling}
 use Rattle.session_state.proofs.Rounds.Sizes.{few_clauses}
-use Rattle.session_state.proofs.Rounds.GoingOn.{absence_within, all_local, is_blocked, kept_over, stays}
 use Rattle.session_state.proofs.search_rounds.going.copied.Goals as goal
 
-pub absence_in-requires-clause-variables : goal.absence_in-requires-clause-variables
-absence_in-requires-clause-variables c =
-    let t = c.args.translation.now in
-    let cells : length (cells_of t.problem) ≤ 4096 = subst (λ p. length (cells_of p) ≤ 4096) c.problem-problem.ensures.value c.relations.ensures.well.few_cells in
-    subst (All (λ cell. IsVariable (var_of cell))) (sym c.numbers-2.ensures.value) (have_variables t.problem c.args.scenario cells c.requires.copy)
+pub is_blocked_too-requires-clause-few : goal.is_blocked_too-requires-clause-few
+is_blocked_too-requires-clause-few c = let kept = c.requires.kept in let few = c.requires.few in omega arith
 
-pub absence_in-requires-clause-rising : goal.absence_in-requires-clause-rising
-absence_in-requires-clause-rising c = subst (AllPairs (λ m n. m < n)) (sym c.numbers-2.ensures.value) c.numbers-2.ensures.rising
-
-pub overflow_cast-place : goal.overflow_cast-place
-overflow_cast-place c =
-    let t = c.args.translation.now in
-    let floor = c.args.floor.now in
-    let blocked = c.args.blocked.now in
-    let local : List (List Lit) = c.args.local.now in
-    let few = few_clauses t c.problem-problem.ensures.well c.problem-problem.result.now c.problem-problem.ensures.value c.relations.ensures.well.few_cells floor c.numbers.ensures.rising c.requires.floor blocked local c.requires.local in
-    let room = c.requires.few in
-    let asked = ap length c.as_slice.ensures in
-    omega arith
-
-pub block-requires-clause-kept : goal.block-requires-clause-kept
-block-requires-clause-kept c =
-    let t = c.args.translation.now in
-    kept_over t.cnf c.cnf-cnf.result.now (locals_of t c.args.floor.now c.args.blocked.now) c.as_slice-2.result.now c.args.pool.now c.args.search.now (sym c.cnf-cnf.ensures) (sym (c.as_slice-2.ensures ∙ c.requires.local)) c.requires.going
-
-pub block-requires-clause-few : goal.block-requires-clause-few
-block-requires-clause-few c =
-    let t = c.args.translation.now in
-    let floor = c.args.floor.now in
-    let blocked = c.args.blocked.now in
-    let local : List (List Lit) = c.args.local.now in
-    let few = few_clauses t c.problem-problem.ensures.well c.problem-problem.result.now c.problem-problem.ensures.value c.relations.ensures.well.few_cells floor c.numbers.ensures.rising c.requires.floor blocked local c.requires.local in
-    let cells : length (cells_of t.problem) ≤ 4096 = subst (λ p. length (cells_of p) ≤ 4096) c.problem-problem.ensures.value c.relations.ensures.well.few_cells in
-    let room = c.requires.few in
-    let terms = c.problem-problem.ensures.well.translatable.few_terms in
-    let clauses = (c.problem-problem.ensures.well.small terms.0 terms.1).clauses in
-    let most = terms.2 in
-    let given : length c.cnf-cnf.result.now.clauses ≡ length t.cnf.clauses = ap (λ (f : Formula). length f.clauses) c.cnf-cnf.ensures in
-    let asked : length c.as_slice-2.result.now ≡ length local = ap length c.as_slice-2.ensures in
-    let pool_few = c.requires.import.few in
-    omega arith
-
-pub block-requires-clause-place : goal.block-requires-clause-place
-block-requires-clause-place c = let one = ap length c.as_slice.ensures in let two = ap length c.as_slice-2.ensures in omega arith
-
-pub block-requires-clause-vars : goal.block-requires-clause-vars
-block-requires-clause-vars c =
-    let t = c.args.translation.now in
-    let clause_is : c.in_ok-clause.clause ≡ absence_in c.args.scenario = c.in_ok-clause.ensures ∙ ap absence_in c.numbers-2.ensures.value in
-    subst (λ (f : Formula). HasVarsUpTo f.vars c.in_ok-clause.clause) (sym c.cnf-cnf.ensures) (subst (HasVarsUpTo t.cnf.vars) (sym clause_is) (absence_within t c.problem-problem.ensures.well c.args.scenario c.requires.copy))
-
-pub overflow_add-left : goal.overflow_add-left
-overflow_add-left c = let long = c.len.ensures in let same = ap length c.in_ok-is_blocked.ensures.steps in let few = c.requires.few in omega arith
-
-pub returns-then-is_blocked : goal.returns-then-is_blocked
-returns-then-is_blocked c = λ rest e.
+pub returns-then-branch : goal.returns-then-branch
+returns-then-branch c = λ rest e.
     let t = c.args.translation.now in
     let pool = c.args.pool.now in
     let floor = c.args.floor.now in
-    let blocked = c.args.blocked.now in
-    let copy = c.args.scenario in
-    let local : List (List Lit) = c.args.local.now in
-    let clause : List Lit = c.in_ok-clause.clause in
-    let clause_is : clause ≡ absence_in copy = c.in_ok-clause.ensures ∙ ap absence_in c.numbers-2.ensures.value in
-    let goes : IsGoing t pool floor (blocked ++ copy ∷ []) c.block.new.self =
-    is_blocked t pool floor blocked copy c.cnf-cnf.result.now c.cnf-cnf.ensures local c.requires.local clause clause_is c.args.search.now c.block.new.self (length c.as_slice.result.now) (ap length c.as_slice.ensures) c.in_ok-is_blocked.is_blocked
-    (λ first rest e at. c.in_ok-is_blocked.ensures.blocked first rest (c.as_slice-2.ensures ∙ e) at) c.if-is_blocked.true in
-    let now = c.in_ok-push.ensures ∙ all_local t pool floor blocked copy c.cnf-cnf.result.now c.cnf-cnf.ensures local c.requires.local clause clause_is in
-    let units = c.len.ensures in
-    let long = ap length c.in_ok-is_blocked.ensures.steps in
-    (refl, goes, now, inl (e, c.in_ok-is_blocked.ensures.steps, omega arith))
+    let all = c.args.blocked.now ++ c.args.scenario ∷ [] in
+    let old : Kept = c.args.search.now in
+    let new : Kept = c.is_blocked_too.new.search in
+    let goes : IsGoing t pool floor all new = subst (λ b. MatchBool b (IsGoing t pool floor all new) (new ≡ old)) c.if-branch.true c.in_ok-is_blocked_too.ensures.blocked in
+    (refl, goes, c.in_ok-is_blocked_too.ensures.local, inl (e, c.in_ok-is_blocked_too.ensures.steps, refl))
+
+pub overflow_sub-left : goal.overflow_sub-left
+overflow_sub-left c = let long = c.len.ensures in let same = ap length c.in_ok-is_blocked_too.ensures.steps in let kept = c.requires.kept in omega arith
 
 pub told-requires-clause-within : goal.told-requires-clause-within
 told-requires-clause-within c =
     let t = c.args.translation.now in
-    let copy = c.args.scenario in
-    let clause_is : c.in_ok-clause.clause ≡ absence_in copy = c.in_ok-clause.ensures ∙ ap absence_in c.numbers-2.ensures.value in
-    let same : c.block.new.self ≡ c.args.search.now =
-    stays t c.args.pool.now c.args.floor.now c.args.blocked.now copy c.cnf-cnf.result.now c.cnf-cnf.ensures c.args.local.now c.requires.local c.in_ok-clause.clause clause_is c.args.search.now c.block.new.self (length c.as_slice.result.now) (ap length c.as_slice.ensures)
-    c.in_ok-is_blocked.is_blocked (λ first rest e at. c.in_ok-is_blocked.ensures.blocked first rest (c.as_slice-2.ensures ∙ e) at) c.if-is_blocked.false in
+    let old : Kept = c.args.search.now in
+    let new : Kept = c.is_blocked_too.new.search in
+    let same : new ≡ old = subst (λ b. MatchBool b (IsGoing t c.args.pool.now c.args.floor.now (c.args.blocked.now ++ c.args.scenario ∷ []) new) (new ≡ old)) c.if-branch.false c.in_ok-is_blocked_too.ensures.blocked in
     subst (λ (k : Kept). AreWithin (length k.numbers) k.steps) (sym same) c.requires.going.holds.within
 
 pub told-requires-clause-parts : goal.told-requires-clause-parts
@@ -101,33 +38,19 @@ told-requires-clause-parts c =
     let t = c.args.translation.now in
     let floor = c.args.floor.now in
     let blocked = c.args.blocked.now in
-    let local : List (List Lit) = c.args.local.now in
-    let few = few_clauses t c.problem-problem.ensures.well c.problem-problem.result.now c.problem-problem.ensures.value c.relations.ensures.well.few_cells floor c.numbers.ensures.rising c.requires.floor blocked local c.requires.local in
+    let few = few_clauses t c.problem-problem.ensures.well c.problem-problem.result.now c.problem-problem.ensures.value c.relations.ensures.well.few_cells floor c.numbers.ensures.rising c.requires.floor blocked (locals_of t floor blocked) refl in
     let room = c.requires.few in
-    let here = ap length c.requires.local in
-    let long = ap length c.in_ok-is_blocked.ensures.steps in
-    let fits : length (locals_of t floor blocked) + length c.block.new.self.steps ≤ 2 ^ 28 = omega arith in
+    let kept = c.requires.kept in
+    let long = ap length c.in_ok-is_blocked_too.ensures.steps in
+    let fits : length (locals_of t floor blocked) + length c.is_blocked_too.new.search.steps ≤ 2 ^ 28 = omega arith in
     (silent t floor blocked, c.requires.parts.0, c.requires.parts.1, fits)
 
-pub over-requires-clause-base : goal.over-requires-clause-base
-over-requires-clause-base c = subst (λ (f : Formula). IsBase f c.args.base.now) (sym c.cnf-cnf.ensures) c.requires.base
-
-pub over-requires-clause-few : goal.over-requires-clause-few
-over-requires-clause-few c =
-    let t = c.args.translation.now in
-    let floor = c.args.floor.now in
+pub anew-requires-clause-local : goal.anew-requires-clause-local
+anew-requires-clause-local c =
     let blocked = c.args.blocked.now in
-    let local : List (List Lit) = c.args.local.now in
-    let few = few_clauses t c.problem-problem.ensures.well c.problem-problem.result.now c.problem-problem.ensures.value c.relations.ensures.well.few_cells floor c.numbers.ensures.rising c.requires.floor blocked local c.requires.local in
-    let cells : length (cells_of t.problem) ≤ 4096 = subst (λ p. length (cells_of p) ≤ 4096) c.problem-problem.ensures.value c.relations.ensures.well.few_cells in
-    let room = c.requires.few in
-    let terms = c.problem-problem.ensures.well.translatable.few_terms in
-    let clauses = (c.problem-problem.ensures.well.small terms.0 terms.1).clauses in
-    let most = terms.2 in
-    let given : length c.cnf-cnf.result.now.clauses ≡ length t.cnf.clauses = ap (λ (f : Formula). length f.clauses) c.cnf-cnf.ensures in
-    let more : length c.as_slice-3.result.now ≡ length local + 1 = ap length (c.as_slice-3.ensures ∙ c.in_ok-push.ensures) ∙ length_push local c.in_ok-clause.clause in
-    let pool_few = c.requires.import.few in
-    omega arith
+    let long = length_push blocked c.args.scenario in
+    let few = c.requires.few in
+    (blocked ++ c.args.scenario ∷ [], c.as_slice.ensures ∙ c.in_ok-is_blocked_too.ensures.local, omega arith)
 
 pub returns : goal.returns
 returns c = λ rest e.
@@ -137,14 +60,12 @@ returns c = λ rest e.
     let blocked = c.args.blocked.now in
     let copy = c.args.scenario in
     let old : Kept = c.args.search.now in
-    let local : List (List Lit) = c.args.local.now in
-    let clause : List Lit = c.in_ok-clause.clause in
-    let clause_is : clause ≡ absence_in copy = c.in_ok-clause.ensures ∙ ap absence_in c.numbers-2.ensures.value in
-    let same : c.block.new.self ≡ old =
-    stays t pool floor blocked copy c.cnf-cnf.result.now c.cnf-cnf.ensures local c.requires.local clause clause_is old c.block.new.self (length c.as_slice.result.now) (ap length c.as_slice.ensures) c.in_ok-is_blocked.is_blocked
-    (λ first rest e at. c.in_ok-is_blocked.ensures.blocked first rest (c.as_slice-2.ensures ∙ e) at) c.if-is_blocked.false in
-    let now = c.in_ok-push.ensures ∙ all_local t pool floor blocked copy c.cnf-cnf.result.now c.cnf-cnf.ensures local c.requires.local clause clause_is in
-    let goes : IsGoing t pool floor (blocked ++ copy ∷ []) c.in_ok-search.field-0 =
-    kept_over c.cnf-cnf.result.now t.cnf c.as_slice-3.result.now (locals_of t floor (blocked ++ copy ∷ [])) pool c.in_ok-search.field-0 c.cnf-cnf.ensures (c.as_slice-3.ensures ∙ now) c.in_ok-search.ensures.kept in
+    let tried : Kept = c.is_blocked_too.new.search in
+    let same : tried ≡ old = subst (λ b. MatchBool b (IsGoing t pool floor (blocked ++ copy ∷ []) tried) (tried ≡ old)) c.if-branch.false c.in_ok-is_blocked_too.ensures.blocked in
+    let now = c.in_ok-is_blocked_too.ensures.local in
+    let goes : IsGoing t pool floor (blocked ++ copy ∷ []) c.in_ok-search.field-0 = subst (λ (ls : List (List Lit)). IsKept t.cnf ls pool c.in_ok-search.field-0) (c.as_slice.ensures ∙ now) c.in_ok-search.ensures.kept in
     let items : c.in_ok-parts.parts.items ≡ telling t floor blocked old ∷ rest = c.in_ok-parts.ensures (silent t floor blocked) rest e ∙ ap (λ (k : Kept). telling t floor blocked k ∷ rest) same in
-    (refl, goes, now, inr (items, c.in_ok-search.ensures.none, refl))
+    let long = c.len.ensures in
+    let steps = ap length c.in_ok-is_blocked_too.ensures.steps in
+    let kept = c.requires.kept in
+    (refl, goes, now, inr (items, c.in_ok-search.ensures.none, omega arith))

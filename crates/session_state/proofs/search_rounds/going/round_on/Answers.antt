@@ -1,243 +1,160 @@
-use Rattle.std.proofs.Common.{◌≡◌, ◌≤◌, ◌+◌, ◌-◌, ◌∷◌, [], inl, List, length, refl, sym, ◌∙◌, ap, subst, arith}
+use Rattle.std.proofs.Common.{◌≡◌, ◌≤◌, ◌+◌, ◌∷◌, ℕ, List, IfOk, length, subst, arith}
 use Rattle.std.proofs.lemmas.Result.{IfOk-weaker}
 use Rattle.cnf_core.specs.declared.literal.Lit.{Lit}
-use Rattle.cnf_core.specs.Formula.{Formula}
-use Rattle.cnf_core.specs.Valuation.{value_of}
-use Rattle.refutation_check.specs.declared.log.Step.{Step as LogStep}
-use Rattle.refutation_check.specs.Chain.{EndsEmpty, IsAccepted}
-use Rattle.refutation_check.specs.SearchLog.{novel_steps}
 use Rattle.refutation_check.specs.Part.{Parted}
-use Rattle.refutation_check.proofs.Novelty.{novel_all, novel_at_most}
-use Rattle.rel_formula.specs.Bounds.{cells_of}
-use Rattle.sat_trail.specs.Trailed.{IsBase}
-use Rattle.sat_core.specs.declared.search.Answer.TheVariants.{Found, Refuted as Refutes, Spent as Stops}
-use Rattle.sat_core.specs.Kept.{TellsNoFound}
-use Rattle.sat_core.specs.Search.{IsAnswerTo}
-use Rattle.translation_rules.specs.Locals.{IsLeft, locals_of}
-use Rattle.translation_rules.specs.Parts.{GoesOn, LastGoesOn, given_to, novel_in}
+use Rattle.sat_core.specs.Kept.{Kept}
 use Rattle.session_state.specs.declared.search_rounds.round.RoundEnd.{RoundEnd}
-use Rattle.session_state.specs.Rounds.Rounds.{left_in, IsRoundAt}
-use Rattle.session_state.specs.Rounds.Descended.{DescendsTo}
-use Rattle.session_state.specs.Rounds.Going.{kept_in, silent}
-use Rattle.session_state.proofs.Rounds.Sizes.{few_clauses}
-use Rattle.session_state.proofs.Rounds.SolverAnswers.{found_left}
-use Rattle.session_state.proofs.Rounds.SearchedRounds.{left_with, novel_more, novel_none, search_alone}
-use Rattle.session_state.proofs.Rounds.GoingOn.{answer_over, kept_over, no_chain}
+use Rattle.session_state.specs.Rounds.Rounds.{left_in, parts_in, IsRoundAt, IsRightRound, IsStoppedRound}
+use Rattle.session_state.specs.Rounds.Going.{IsCopied, IsUntold, TellsNoCopy, kept_in, silent}
+use Rattle.session_state.proofs.Rounds.GoingOn.{IsRoundOf, copied_round}
 use Rattle.session_state.proofs.search_rounds.going.round_on.Goals as goal
 
-pub go_on-requires-clause-kept : goal.go_on-requires-clause-kept
-go_on-requires-clause-kept c =
-    let t = c.args.translation.now in
-    kept_over t.cnf c.cnf-cnf.result.now (locals_of t c.args.floor.now c.args.blocked.now) c.as_slice.result.now c.args.pool.now c.args.search.now (sym c.cnf-cnf.ensures) (sym (c.as_slice.ensures ∙ c.requires.local)) c.requires.going
-
-pub go_on-requires-clause-base : goal.go_on-requires-clause-base
-go_on-requires-clause-base c = subst (λ (f : Formula). IsBase f c.args.base.now) (sym c.cnf-cnf.ensures) c.requires.base
-
-pub go_on-requires-clause-pool : goal.go_on-requires-clause-pool
-go_on-requires-clause-pool c = subst (λ (f : Formula). IsAccepted f.clauses c.args.pool.now) (sym c.cnf-cnf.ensures) c.requires.import.accepted
-
-pub go_on-requires-clause-few : goal.go_on-requires-clause-few
-go_on-requires-clause-few c =
-    let t = c.args.translation.now in
-    let floor = c.args.floor.now in
-    let blocked = c.args.blocked.now in
-    let local : List (List Lit) = c.args.local.now in
-    let few = few_clauses t c.problem-problem.ensures.well c.problem-problem.result.now c.problem-problem.ensures.value c.relations.ensures.well.few_cells floor c.numbers.ensures.rising c.requires.floor blocked local c.requires.local in
-    let cells : length (cells_of t.problem) ≤ 4096 = subst (λ p. length (cells_of p) ≤ 4096) c.problem-problem.ensures.value c.relations.ensures.well.few_cells in
-    let room = c.requires.few in
-    let terms = c.problem-problem.ensures.well.translatable.few_terms in
-    let clauses = (c.problem-problem.ensures.well.small terms.0 terms.1).clauses in
-    let most = terms.2 in
-    let given : length c.cnf-cnf.result.now.clauses ≡ length t.cnf.clauses = ap (λ (f : Formula). length f.clauses) c.cnf-cnf.ensures in
-    let asked : length c.as_slice.result.now ≡ length local = ap length c.as_slice.ensures in
-    let pool_few = c.requires.import.few in
-    omega arith
-
-pub overflow_sub-left : goal.overflow_sub-left
-overflow_sub-left c = let long = c.len.ensures in let most = c.in_ok-valuation.ensures.most in omega arith
-
-pub part-requires : goal.part-requires
-part-requires c =
-    let t = c.args.translation.now in
-    let floor = c.args.floor.now in
-    let blocked = c.args.blocked.now in
-    let local : List (List Lit) = c.args.local.now in
-    let few = few_clauses t c.problem-problem.ensures.well c.problem-problem.result.now c.problem-problem.ensures.value c.relations.ensures.well.few_cells floor c.numbers.ensures.rising c.requires.floor blocked local c.requires.local in
-    let room = c.requires.few in
-    let none = ap length (subst TellsNoFound c.in-Found.is c.in_ok-valuation.ensures.silent) in
-    omega arith
-
-pub part-requires-in-Refuted : goal.part-requires-in-Refuted
-part-requires-in-Refuted c =
+pub copied-requires-clause-copy : goal.copied-requires-clause-copy
+copied-requires-clause-copy c =
     let t = c.args.translation.now in
     let pool = c.args.pool.now in
     let floor = c.args.floor.now in
+    let shown = c.args.shown.now in
     let blocked = c.args.blocked.now in
-    let local : List (List Lit) = c.args.local.now in
-    let few = few_clauses t c.problem-problem.ensures.well c.problem-problem.result.now c.problem-problem.ensures.value c.relations.ensures.well.few_cells floor c.numbers.ensures.rising c.requires.floor blocked local c.requires.local in
-    let room = c.requires.few in
-    let here = subst (IsAnswerTo c.cnf-cnf.result.now c.as_slice.result.now pool c.args.budget) c.in-Refuted.is c.in_ok-valuation.ensures.answer in
-    let short = here.few in
-    omega arith
+    let budget = c.args.budget in
+    let old : Kept = c.round_by.new.search in
+    let copy : List ℕ = c.in-Copy.scenario in
+    let u : IsUntold t pool floor shown blocked budget old copy c.in-Copy.parts.items c.in-Copy.left = subst (TellsNoCopy t pool floor shown blocked budget old) c.in-Copy.is c.in_ok-end.ensures.untold in
+    u.is_copy.minimal.instance_of.scenario.cells
 
-pub part-requires-in-Spent : goal.part-requires-in-Spent
-part-requires-in-Spent c =
+pub copied-requires-clause-kept : goal.copied-requires-clause-kept
+copied-requires-clause-kept c =
     let t = c.args.translation.now in
     let pool = c.args.pool.now in
     let floor = c.args.floor.now in
+    let shown = c.args.shown.now in
     let blocked = c.args.blocked.now in
-    let local : List (List Lit) = c.args.local.now in
-    let few = few_clauses t c.problem-problem.ensures.well c.problem-problem.result.now c.problem-problem.ensures.value c.relations.ensures.well.few_cells floor c.numbers.ensures.rising c.requires.floor blocked local c.requires.local in
-    let room = c.requires.few in
-    let here = subst (IsAnswerTo c.cnf-cnf.result.now c.as_slice.result.now pool c.args.budget) c.in-Spent.is c.in_ok-valuation.ensures.answer in
-    let short = here.few in
+    let budget = c.args.budget in
+    let old : Kept = c.round_by.new.search in
+    let copy : List ℕ = c.in-Copy.scenario in
+    let u : IsUntold t pool floor shown blocked budget old copy c.in-Copy.parts.items c.in-Copy.left = subst (TellsNoCopy t pool floor shown blocked budget old) c.in-Copy.is c.in_ok-end.ensures.untold in
+    let over = u.over_is in
     omega arith
 
-pub descended-requires-clause-start : goal.descended-requires-clause-start
-descended-requires-clause-start c =
+pub copied-requires-clause-few : goal.copied-requires-clause-few
+copied-requires-clause-few c =
     let t = c.args.translation.now in
     let pool = c.args.pool.now in
     let floor = c.args.floor.now in
+    let shown = c.args.shown.now in
     let blocked = c.args.blocked.now in
-    let v = c.in-Found.valuation in
-    let start = c.in_ok-start-in-Found.start in
-    let here =
-    answer_over c.cnf-cnf.result.now t.cnf c.as_slice.result.now (locals_of t floor blocked) pool c.args.budget c.in_ok-valuation.field-0 (Found v c.in-Found.log) c.cnf-cnf.ensures (c.as_slice.ensures ∙ c.requires.local) c.in-Found.is c.in_ok-valuation.ensures.answer in
-    let found : IsLeft t.problem floor blocked start = found_left t (c.local_clauses_say_what_is_left.ensures t.problem t c.problem-problem.ensures.well.stands) floor blocked c.requires.floor c.requires.blocked c.cells.result
-    (c.cells.ensures.value ∙ ap (λ p. length (cells_of p)) c.problem-problem.ensures.value) (value_of v) start c.in_ok-start-in-Found.ensures.cells c.in_ok-start-in-Found.ensures.values c.in_ok-start-in-Found.ensures.rising here.right.0.satisfied in
-    left_with t.problem floor c.args.shown.now blocked start c.requires.shown found
-
-pub behind-requires-clause-local : goal.behind-requires-clause-local
-behind-requires-clause-local c = c.in_ok-part-in-Found.ensures.same ∙ c.requires.local
-
-pub behind-requires-clause-going : goal.behind-requires-clause-going
-behind-requires-clause-going c =
-    let t = c.args.translation.now in
-    kept_over c.cnf-cnf.result.now t.cnf c.as_slice.result.now (locals_of t c.args.floor.now c.args.blocked.now) c.args.pool.now c.go_on.new.self c.cnf-cnf.ensures (c.as_slice.ensures ∙ c.requires.local) c.in_ok-valuation.ensures.kept
-
-pub behind-requires-clause-short : goal.behind-requires-clause-short
-behind-requires-clause-short c =
-    let t = c.args.translation.now in
-    let floor = c.args.floor.now in
-    let blocked = c.args.blocked.now in
-    let few = few_clauses t c.problem-problem.ensures.well c.problem-problem.result.now c.problem-problem.ensures.value c.relations.ensures.well.few_cells floor c.numbers.ensures.rising c.requires.floor blocked (locals_of t floor blocked) refl in
-    let room = c.requires.few in
+    let budget = c.args.budget in
+    let old : Kept = c.round_by.new.search in
+    let copy : List ℕ = c.in-Copy.scenario in
+    let u : IsUntold t pool floor shown blocked budget old copy c.in-Copy.parts.items c.in-Copy.left = subst (TellsNoCopy t pool floor shown blocked budget old) c.in-Copy.is c.in_ok-end.ensures.untold in
+    let over = u.over_is in
+    let units = u.units in
+    let room = u.room in
+    let few = c.requires.few in
     omega arith
 
-pub behind-requires-clause-start : goal.behind-requires-clause-start
-behind-requires-clause-start c =
+pub copied-requires-clause-parts : goal.copied-requires-clause-parts
+copied-requires-clause-parts c =
     let t = c.args.translation.now in
     let pool = c.args.pool.now in
     let floor = c.args.floor.now in
+    let shown = c.args.shown.now in
     let blocked = c.args.blocked.now in
-    let v = c.in-Found.valuation in
-    let here =
-    answer_over c.cnf-cnf.result.now t.cnf c.as_slice.result.now (locals_of t floor blocked) pool c.args.budget c.in_ok-valuation.field-0 (Found v c.in-Found.log) c.cnf-cnf.ensures (c.as_slice.ensures ∙ c.requires.local) c.in-Found.is c.in_ok-valuation.ensures.answer in
-    found_left t (c.local_clauses_say_what_is_left.ensures t.problem t c.problem-problem.ensures.well.stands) floor blocked c.requires.floor c.requires.blocked c.cells.result (c.cells.ensures.value ∙ ap (λ p. length (cells_of p)) c.problem-problem.ensures.value)
-    (value_of v) c.in_ok-start-in-Found.start c.in_ok-start-in-Found.ensures.cells c.in_ok-start-in-Found.ensures.values c.in_ok-start-in-Found.ensures.rising here.right.0.satisfied
+    let budget = c.args.budget in
+    let old : Kept = c.round_by.new.search in
+    let copy : List ℕ = c.in-Copy.scenario in
+    let u : IsUntold t pool floor shown blocked budget old copy c.in-Copy.parts.items c.in-Copy.left = subst (TellsNoCopy t pool floor shown blocked budget old) c.in-Copy.is c.in_ok-end.ensures.untold in
+    (u.parts, u.in_order)
 
-pub behind-requires-clause-open : goal.behind-requires-clause-open
-behind-requires-clause-open c =
+pub returns-in-Copy : goal.returns-in-Copy
+returns-in-Copy c =
     let t = c.args.translation.now in
     let pool = c.args.pool.now in
     let floor = c.args.floor.now in
+    let shown = c.args.shown.now in
     let blocked = c.args.blocked.now in
-    let v = c.in-Found.valuation in
-    let here =
-    answer_over c.cnf-cnf.result.now t.cnf c.as_slice.result.now (locals_of t floor blocked) pool c.args.budget c.in_ok-valuation.field-0 (Found v c.in-Found.log) c.cnf-cnf.ensures (c.as_slice.ensures ∙ c.requires.local) c.in-Found.is c.in_ok-valuation.ensures.answer in
-    no_chain t.cnf.clauses (locals_of t floor blocked) pool (value_of v) c.requires.import.accepted here.right.0.satisfied
-
-pub behind-requires-clause-room : goal.behind-requires-clause-room
-behind-requires-clause-room c = let long = c.len.ensures in let most = c.in_ok-valuation.ensures.most in omega arith
-
-pub behind-requires-clause-down : goal.behind-requires-clause-down
-behind-requires-clause-down c =
-    let t = c.args.translation.now in
-    let floor = c.args.floor.now in
-    let blocked = c.args.blocked.now in
-    let none : c.in-Found.log ≡ [] = subst TellsNoFound c.in-Found.is c.in_ok-valuation.ensures.silent in
-    let part : c.in_ok-part-in-Found.part ≡ silent t floor blocked =
-    c.in_ok-part-in-Found.ensures.part ∙ ap (λ (ls : List (List Lit)). let p : Parted = record { local = ls; log = c.in-Found.log } in p) c.requires.local
-    ∙ ap (λ (ss : List LogStep). let p : Parted = record { local = locals_of t floor blocked; log = ss } in p) none in
-    subst (λ (p : Parted). DescendsTo t c.args.pool.now floor c.args.shown.now p c.in_ok-start-in-Found.start (c.args.budget - c.len.result) c.in_ok-end-in-Found.end) part c.in_ok-end-in-Found.ensures.answer
-
-pub returns-in_err-end-in-Found-clause-spent : goal.returns-in_err-end-in-Found-clause-spent
-returns-in_err-end-in-Found-clause-spent c =
-    let long = c.len.ensures in
-    let most = c.in_ok-valuation.ensures.most in
-    let more = c.in_ok-valuation.ensures.more in
-    let learnt = c.in_ok-valuation.ensures.count in
-    let so_far = c.in_err-end-in-Found.ensures.spent in
-    omega arith
-
-pub returns-in_ok-end-in-Found : goal.returns-in_ok-end-in-Found
-returns-in_ok-end-in-Found c =
-    let End : RoundEnd → Type 0 = λ after. left_in after ≤ left_in c.in_ok-end-in-Found.end + kept_in c.behind.new.search after in
-    let long = c.len.ensures in
-    let most = c.in_ok-valuation.ensures.most in
-    let more = c.in_ok-valuation.ensures.more in
-    let learnt = c.in_ok-valuation.ensures.count in
-    let so_far = c.in_ok-end-in-Found.ensures.spent in
-    let over = c.in_ok-end-in-Found.ensures.left in
+    let budget = c.args.budget in
+    let old : Kept = c.round_by.new.search in
+    let copy : List ℕ = c.in-Copy.scenario in
+    let u : IsUntold t pool floor shown blocked budget old copy c.in-Copy.parts.items c.in-Copy.left = subst (TellsNoCopy t pool floor shown blocked budget old) c.in-Copy.is c.in_ok-end.ensures.untold in
+    let over = c.in-Copy.left in
+    let new : Kept = c.copied.new.search in
+    let clauses : List (List Lit) = c.copied.new.local in
+    let Ended : RoundEnd → Type 0 = IsRoundOf t pool floor shown blocked budget new clauses u.rest in
+    let Copied : RoundEnd → Type 0 = λ end. (others : List Parted) → c.in-Copy.parts.items ≡ silent t floor blocked ∷ others → IsCopied t pool floor blocked old new clauses copy others over end in
+    let all : IfOk c.copied.result Ended =
+    IfOk-weaker c.copied.result Copied Ended
+    (λ end is. copied_round t pool floor shown blocked u.start u.found u.left budget old c.in_ok-end.ensures.going u.no_chain u.room copy u.parts u.rest u.descent u.is_copy u.within u.units over u.over_is new clauses end (is u.parts u.in_order)) c.copied.ensures in
+    let over_is = u.over_is in
+    let was : c.round_by.new.count + length c.args.search.now.steps + over ≤ c.args.count.now + budget + length old.steps =
+    subst (λ (e : RoundEnd). c.round_by.new.count + length c.args.search.now.steps + left_in e ≤ c.args.count.now + budget + kept_in old e) c.in-Copy.is c.in_ok-end.ensures.left in
     record {
-      trail = IfOk-weaker c.behind.result End _ (λ after less. c.in_ok-end-in-Found.ensures.trail) c.behind.ensures.left;
-      parts = c.behind.ensures.parts;
-      answer = c.behind.ensures.answer;
-      stopped = c.behind.ensures.stopped;
-      going = c.behind.ensures.going;
-      local = c.behind.ensures.local;
-      spent = omega arith;
-      left = IfOk-weaker c.behind.result End _ (λ after less. omega arith) c.behind.ensures.left;
+      trail = IfOk-weaker c.copied.result Ended _ (λ end is. c.in_ok-end.ensures.trail) all;
+      parts = IfOk-weaker c.copied.result Ended _ (λ end is. is.parts) all;
+      answer = IfOk-weaker c.copied.result Ended _ (λ end is. is.answer) all;
+      stopped = IfOk-weaker c.copied.result Ended _ (λ end is. is.stopped) all;
+      going = IfOk-weaker c.copied.result Ended _ (λ end is. is.going) all;
+      local = IfOk-weaker c.copied.result Ended _ (λ end is. is.local) all;
+      spent = c.in_ok-end.ensures.spent;
+      left = IfOk-weaker c.copied.result Ended _ (λ end is. let less = is.left in omega arith) all;
     }
 
-pub returns-in_ok-part-in-Refuted : goal.returns-in_ok-part-in-Refuted
-returns-in_ok-part-in-Refuted c =
+pub returns-in-Due : goal.returns-in-Due
+returns-in-Due c =
     let t = c.args.translation.now in
     let pool = c.args.pool.now in
     let floor = c.args.floor.now in
     let blocked = c.args.blocked.now in
     let budget = c.args.budget in
-    let local : List (List Lit) = locals_of t floor blocked in
-    let log = c.in-Refuted.log in
-    let part : Parted = record { local = local; log = log } in
-    let here = answer_over c.cnf-cnf.result.now t.cnf c.as_slice.result.now local pool budget c.in_ok-valuation.field-0 (Refutes log) c.cnf-cnf.ensures (c.as_slice.ensures ∙ c.requires.local) c.in-Refuted.is c.in_ok-valuation.ensures.answer in
-    let few : novel_steps (given_to t pool part) part.log ≤ budget = (let n = novel_at_most (given_to t pool part) log in let l = here.few in omega arith) in
-    let is : c.in_ok-part-in-Refuted.part ≡ part = c.in_ok-part-in-Refuted.ensures.part ∙ ap (λ (ls : List (List Lit)). let p : Parted = record { local = ls; log = log } in p) c.requires.local in
+    let search : Kept = c.round_by.new.search in
+    let is = c.in_ok-end.ensures in
     record {
-      trail = c.requires.trail;
-      parts = subst (λ (p : Parted). IsRoundAt t pool floor blocked budget (p ∷ [])) (sym is) (search_alone t pool floor blocked budget part refl here.log few);
-      answer = subst (λ (p : Parted). (p.local ≡ locals_of t floor blocked) × EndsEmpty p.log) (sym is) (refl, here.right.0);
-      stopped = tt;
-      going = tt;
-      local = tt;
-      spent = c.in_ok-valuation.ensures.spent;
-      left = (let s = c.in_ok-valuation.ensures.spent in omega arith);
+      trail = is.trail;
+      parts = subst (λ (e : RoundEnd). IsRoundAt t pool floor blocked budget (parts_in e)) c.in-Due.is is.parts;
+      answer = subst (IsRightRound t pool floor c.args.shown.now blocked budget) c.in-Due.is is.answer;
+      stopped = subst (IsStoppedRound t pool floor c.args.shown.now blocked) c.in-Due.is is.stopped;
+      going = is.going;
+      local = is.local;
+      spent = is.spent;
+      left = subst (λ (e : RoundEnd). c.round_by.new.count + length c.args.search.now.steps + left_in e ≤ c.args.count.now + budget + kept_in search e) c.in-Due.is is.left;
     }
 
-pub returns-in_ok-parts-in-Spent : goal.returns-in_ok-parts-in-Spent
-returns-in_ok-parts-in-Spent c =
+pub returns-in-Refuted : goal.returns-in-Refuted
+returns-in-Refuted c =
     let t = c.args.translation.now in
     let pool = c.args.pool.now in
     let floor = c.args.floor.now in
     let blocked = c.args.blocked.now in
     let budget = c.args.budget in
-    let local : List (List Lit) = locals_of t floor blocked in
-    let log = c.in-Spent.log in
-    let part : Parted = record { local = local; log = log } in
-    let here = answer_over c.cnf-cnf.result.now t.cnf c.as_slice.result.now local pool budget c.in_ok-valuation.field-0 (Stops log) c.cnf-cnf.ensures (c.as_slice.ensures ∙ c.requires.local) c.in-Spent.is c.in_ok-valuation.ensures.answer in
-    let all : novel_steps (given_to t pool part) part.log ≡ budget = novel_all (given_to t pool part) log here.right.1 ∙ here.right.0 in
-    let units : novel_in t pool (part ∷ []) ≡ budget = (let m = novel_more t pool part [] in let n = novel_none t pool in omega arith) in
-    let goes : GoesOn t pool part = record { no_empty = here.right.2; step = here.stopped.0; one_more = here.stopped.1 } in
-    let last : LastGoesOn t pool (part ∷ []) = record { before = []; last = part; in_order = refl; goes_on = goes } in
-    let is : c.in_ok-part-in-Spent.part ≡ part = c.in_ok-part-in-Spent.ensures.part ∙ ap (λ (ls : List (List Lit)). let p : Parted = record { local = ls; log = log } in p) c.requires.local in
-    let are : c.in_ok-parts-in-Spent.parts.items ≡ part ∷ [] = c.in_ok-parts-in-Spent.ensures.items ∙ ap (λ (p : Parted). p ∷ []) is in
+    let search : Kept = c.round_by.new.search in
+    let is = c.in_ok-end.ensures in
     record {
-      trail = c.requires.trail;
-      parts = subst (IsRoundAt t pool floor blocked budget) (sym are) (search_alone t pool floor blocked budget part refl here.log (omega arith));
-      answer = subst (λ (ps : List Parted). novel_in t pool ps ≡ budget) (sym are) units;
-      stopped = inl (subst (LastGoesOn t pool) (sym are) last);
+      trail = is.trail;
+      parts = subst (λ (e : RoundEnd). IsRoundAt t pool floor blocked budget (parts_in e)) c.in-Refuted.is is.parts;
+      answer = subst (IsRightRound t pool floor c.args.shown.now blocked budget) c.in-Refuted.is is.answer;
+      stopped = subst (IsStoppedRound t pool floor c.args.shown.now blocked) c.in-Refuted.is is.stopped;
       going = tt;
       local = tt;
-      spent = c.in_ok-valuation.ensures.spent;
-      left = (let s = c.in_ok-valuation.ensures.spent in omega arith);
+      spent = is.spent;
+      left = subst (λ (e : RoundEnd). c.round_by.new.count + length c.args.search.now.steps + left_in e ≤ c.args.count.now + budget + kept_in search e) c.in-Refuted.is is.left;
+    }
+
+pub returns-in-Spent : goal.returns-in-Spent
+returns-in-Spent c =
+    let t = c.args.translation.now in
+    let pool = c.args.pool.now in
+    let floor = c.args.floor.now in
+    let blocked = c.args.blocked.now in
+    let budget = c.args.budget in
+    let search : Kept = c.round_by.new.search in
+    let is = c.in_ok-end.ensures in
+    record {
+      trail = is.trail;
+      parts = subst (λ (e : RoundEnd). IsRoundAt t pool floor blocked budget (parts_in e)) c.in-Spent.is is.parts;
+      answer = subst (IsRightRound t pool floor c.args.shown.now blocked budget) c.in-Spent.is is.answer;
+      stopped = subst (IsStoppedRound t pool floor c.args.shown.now blocked) c.in-Spent.is is.stopped;
+      going = tt;
+      local = tt;
+      spent = is.spent;
+      left = subst (λ (e : RoundEnd). c.round_by.new.count + length c.args.search.now.steps + left_in e ≤ c.args.count.now + budget + kept_in search e) c.in-Spent.is is.left;
     }

@@ -43,10 +43,10 @@ pub next_from-requires-clause-going : goal.next_from-requires-clause-going
 next_from-requires-clause-going c =
     let t = c.args.translation.now in
     let local_is = c.as_slice-2.ensures.value ∙ c.in_ok-local.ensures ∙ ap (locals_of t c.args.floor.now) c.as_slice.ensures.value in
-    subst (λ (ls : List (List Lit)). IsKept t.cnf ls c.args.pool.now c.in_ok-trails.trails.search) local_is c.in_ok-trails.ensures.search
+    subst (λ (ls : List (List Lit)). IsKept t.cnf ls c.args.pool.now c.in_ok-trails.trails.search) local_is c.in_ok-trails.ensures.trails.search
 
 pub next_from-requires-clause-kept : goal.next_from-requires-clause-kept
-next_from-requires-clause-kept c = let few = c.in_ok-trails.ensures.few in omega arith
+next_from-requires-clause-kept c = let few = c.in_ok-trails.ensures.trails.few in omega arith
 
 pub rest-requires : goal.rest-requires
 rest-requires c =
@@ -57,13 +57,10 @@ rest-requires c =
     let search : Kept = c.next_from.new.search in
     let local = subst (IsBlockedAt t floor all c.next_from.new.local) c.in-Shown.is c.in_ok-next.ensures.local in
     let stays = subst (StaysAt t pool floor all search) c.in-Shown.is c.in_ok-next.ensures.going in
-    let woken = c.in_ok-trails.ensures in (
-      t.cnf,
-      pool,
+    let woken = c.in_ok-trails.ensures.trails in (
       length search.steps,
       record {
-        formula_is = woken.formula_is;
-        pool_is = woken.pool_is;
+        known = woken.known;
         base = woken.base;
         descents = c.in_ok-next.ensures.trail;
         search = subst (λ (ls : List (List Lit)). IsKept t.cnf ls pool search) (sym (c.into_clauses.ensures ∙ local)) stays;

@@ -23,4 +23,5 @@ invariant_of-result c =
       count,
       kept p c.in_ok-made.made.circuit c.in_ok-made.made.node cnf pairs c.in_ok-swaps.swaps.items c.requires.translatable c.requires.symmetric made.inputs made.instances made.nodes
           c.in_ok-cnf.ensures.form c.in_ok-cnf.ensures.small c.vars.ensures.formula.within (record { exactly = c.in_ok-pairs.ensures.exactly; rising = c.in_ok-pairs.ensures.rising }) count numbered,
+      c.in_ok-images.ensures,
     )

@@ -7,8 +7,8 @@ use Rattle.session_state.specs.Rounds.Resting.{CanGoOn}
 use Rattle.session_state.proofs.Rounds.RestingTrails.{can_keep_more, same_base, same_over, same_search}
 use Rattle.session_state.proofs.search_rounds.trails.Resting.woken.Goals as goal
 
-pub returns-then-not-are_of : goal.returns-then-not-are_of
-returns-then-not-are_of c =
+pub returns-then-not-is_of : goal.returns-then-not-is_of
+returns-then-not-is_of c =
     let f = c.args.translation.now.cnf in
     let local = c.args.local.now in
     let pool = c.args.pool.now in
@@ -16,16 +16,16 @@ returns-then-not-are_of c =
 
 pub turn-requires-clause-base : goal.turn-requires-clause-base
 turn-requires-clause-base c =
-    let trails = c.self.inside.trails in
-    let of' = c.are_of.ensures c.if-not-are_of.false in
-    same_base trails.formula c.cnf-cnf.result.now trails.base of'.0 c.self.invariant.0
+    let r = c.self.inside in
+    let of' = c.is_of.ensures c.if-not-is_of.false in
+    same_base r.known.formula c.cnf-cnf.result.now r.base of'.0 c.self.invariant.0
 
 pub turn-requires-clause-kept : goal.turn-requires-clause-kept
 turn-requires-clause-kept c =
-    let trails = c.self.inside.trails in
-    let old : List (List Lit) = c.self.inside.local.items in
-    let of' = c.are_of.ensures c.if-not-are_of.false in
-    same_search trails.formula c.cnf-cnf.result.now old old trails.pool c.args.pool.now trails.search of'.0 refl of'.1 c.self.invariant.2
+    let r = c.self.inside in
+    let old : List (List Lit) = r.local.items in
+    let of' = c.is_of.ensures c.if-not-is_of.false in
+    same_search r.known.formula c.cnf-cnf.result.now old old r.known.pool c.args.pool.now r.search of'.0 refl of'.1 c.self.invariant.2
 
 pub turn-requires-clause-few : goal.turn-requires-clause-few
 turn-requires-clause-few c = omega (arith, c.requires.few, ap (λ (f : Formula). length f.clauses) c.cnf-cnf.ensures)
@@ -33,14 +33,13 @@ turn-requires-clause-few c = omega (arith, c.requires.few, ap (λ (f : Formula).
 pub returns : goal.returns
 returns c =
     let f = c.args.translation.now.cnf in
-    let trails = c.self.inside.trails in
-    let of' = c.are_of.ensures c.if-not-are_of.false in
+    let r = c.self.inside in
+    let of' = c.is_of.ensures c.if-not-is_of.false in
     let is = of'.0 ∙ c.cnf-cnf.ensures in
     record {
-      formula_is = is;
-      pool_is = of'.1;
-      base = same_base trails.formula f trails.base is c.self.invariant.0;
-      descents = same_over trails.formula f trails.descents is c.self.invariant.1;
+      known = (is, of'.1);
+      base = same_base r.known.formula f r.base is c.self.invariant.0;
+      descents = same_over r.known.formula f r.descents is c.self.invariant.1;
       search = subst (λ (g : Formula). IsKept g c.args.local.now c.args.pool.now c.turn.new.search) c.cnf-cnf.ensures c.in_ok-turn.ensures.kept;
       few = c.in_ok-turn.ensures.few;
     }
